@@ -34,6 +34,17 @@ empty-known e p o c same is known = (
       known,
 )
 
+-- the empty clause that a search found is kept
+pub empty-found : (f : Backing) (id : ClauseId) (o : Option EmptyClause)
+    → (empty : EmptyClause) × (f.refuted ≡ Some empty) × (empty.clause ≡ id) → o ≡ f.refuted
+    → IfSome o (λ empty. kept_at f.kept empty.clause.0 ≡ Some (empty_at empty)) → IsEmptyAt f.kept id.0
+empty-found f id o h same kept = (
+  h.0.level,
+  subst (λ (c : ClauseId). kept_at f.kept c.0 ≡ Some (empty_at h.0)) h.2
+      (subst (λ (x : Option EmptyClause). IfSome x (λ empty. kept_at f.kept empty.clause.0 ≡ Some (empty_at empty)))
+      (same ∙ h.1) kept),
+)
+
 -- The empty clause is kept already: no line is put.
 pub refuted-again : (s : Stacked) (before : AllKept) (rs : List Regex) (memo : Memo) (e : Backing) (id : ClauseId)
     (told : Option (List ℕ)) → Backs rs memo e before → IsEmptyAt e.kept id.0

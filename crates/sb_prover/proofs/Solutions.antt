@@ -1,5 +1,5 @@
 -- What a check comes to that the decider left open.
-use Rattle.std.proofs.Common.{◌≡◌, ◌⊎◌, ℕ, Bool, true, false, List, [], map, length, Option, Some, IfSome, inl, inr, refl, sym, subst, ◌∙◌}
+use Rattle.std.proofs.Common.{◌≡◌, ◌⊎◌, ℕ, ◌<◌, Bool, true, false, List, [], map, length, Option, Some, IfSome, inl, inr, refl, sym, subst, Contains}
 use Rattle.sb_lang.specs.Regex.{Regex}
 use Rattle.sb_lit.specs.Kept.{kept_at}
 use Rattle.sb_lit.specs.Budgets.{Spending}
@@ -7,7 +7,8 @@ use Rattle.sb_lit.specs.declared.clause.ClauseId.{ClauseId}
 use Rattle.sb_deriv.specs.Faithful.{Memo}
 use Rattle.sb_meaning.specs.Terms.{Term}
 use Rattle.sb_script.specs.Steps.{line}
-use Rattle.sb_script.specs.State.{Satisfiable}
+use Rattle.sb_script.specs.Models.{IsGiven, is_plain}
+use Rattle.sb_script.specs.State.{Satisfiable, constants_of, fits}
 use Rattle.sb_script.specs.Fragment.{in_fragment}
 use Rattle.sb_script.specs.Verdicts.{IsVerdict, is_sat}
 use Rattle.sb_rulebook.specs.Lines.{said_sat, verdict_line, text_of}
@@ -16,7 +17,7 @@ use Rattle.sb_rulebook.specs.Kept.{AllKept}
 use Rattle.sb_rulebook.specs.Judging.{Progress}
 use Rattle.sb_rulebook.specs.Accepted.{question_in, asked_in}
 use Rattle.sb_proof.specs.Tapes.{with_bytes}
-use Rattle.sb_stack.specs.Stacked.{Stacked, state_of, live_constants, values_at}
+use Rattle.sb_stack.specs.Stacked.{Stacked, are_words, state_of, live_constants, values_at}
 use Rattle.sb_stack.specs.Steps.{verdict_in}
 use Rattle.sb_atoms.specs.Numbered.{HaveRegexesBelow}
 use Rattle.sb_trace.specs.Putting.{IsCounted}
@@ -35,10 +36,13 @@ use Rattle.sb_solve.specs.declared.check.Solved.TheVariants as solved
 use Rattle.sb_decide.specs.Knowing.{MayBeKept}
 use Rattle.sb_prover.specs.Proving.{Proving, IsAbreast, IsProved, HaveLevels, level_at}
 use Rattle.sb_prover.specs.Saying.{first_lines, Tells, said_value}
-use Rattle.sb_prover.specs.Solving.{IsFound, IsSolution, SaysTrue, verdict_of, said_by, IsNumbered}
+use Rattle.sb_prover.specs.declared.solving.Solution.{Solution}
+use Rattle.sb_prover.specs.declared.solving.Solution.TheVariants as solution
+use Rattle.sb_prover.specs.Solving.{AreFew, IsCompleted, IsFound, IsSolution, SaysTrue, verdict_of, said_by, IsNumbered}
 use Rattle.sb_prover.proofs.LinesTaken.{verdict-said}
 use Rattle.sb_prover.proofs.Proved.{said-proved, reached-format, unsat-proved, unknown-proved}
-use Rattle.sb_prover.proofs.Refutations.{says-kept, says-refuted}
+use Rattle.sb_prover.proofs.Refutations.{empty-found, says-kept, says-refuted}
+use Rattle.sb_prover.proofs.Given.{given_by}
 use Rattle.sb_prover.proofs.SatValues.{sat-said}
 
 -- clauses of assertions have the levels that they had, or those of the live assertions
@@ -53,28 +57,43 @@ levels-known live e f of h place a there = by (of place a there)
 
 -- What a search found.
 
-pub found-by : (s : Stacked) (rs : List Regex) (memo : Memo) (e f : Backing) (budget : Spending) (r : Solved)
-    (o : Option EmptyClause) → IsSolved s rs memo e f budget r → o ≡ f.refuted
-    → IfSome o (λ empty. kept_at f.kept empty.clause.0 ≡ Some (empty_at empty)) → IsFound s rs memo e f budget r
-found-by s rs memo e f budget (solved.Sat words truths) o h same kept = h
-found-by s rs memo e f budget (solved.Unsat id) o h same kept = (
-  h.0.level,
-  subst (λ (c : ClauseId). kept_at f.kept c.0 ≡ Some (empty_at h.0)) h.2
-      (subst (λ (x : Option EmptyClause). IfSome x (λ empty. kept_at f.kept empty.clause.0 ≡ Some (empty_at empty)))
-      (same ∙ h.1) kept),
-)
-found-by s rs memo e f budget solved.Spent o h same kept = h
+pub found-by : (s : Stacked) (places : List ℕ) (rs : List Regex) (memo : Memo) (e f : Backing) (budget : Spending)
+    (r : Solved) (x : Solution) (o : Option EmptyClause)
+    → ((place : ℕ) → place < length s.assertions → Contains places place) → is_plain (state_of s) ≡ false
+    → ((ws : List (List ℕ)) (truths : List Bool) → are_words ws ≡ true
+    → fits (constants_of (state_of s)) (values_at (live_constants s) ws truths) ≡ true)
+    → IsCompleted (length s.scope.sorts) r x → IsSolved s places rs memo e f budget r → o ≡ f.refuted
+    → IfSome o (λ empty. kept_at f.kept empty.clause.0 ≡ Some (empty_at empty)) → IsFound s rs memo e f budget x
+found-by s places rs memo e f budget (solved.Sat words truths) (solution.Sat full others) o all not_plain fit is h same
+    kept = record {
+      words = is.1;
+      long = is.2;
+      given = λ before backs terms.
+          subst (λ (ts : List Bool). IsGiven (state_of s) [] (values_at (live_constants s) full.items ts)) (sym is.3)
+          (given_by s places words.items truths.items full.items (fit full.items truths.items is.1) all not_plain is.1
+          is.0 (h.given before backs terms));
+    }
+found-by s places rs memo e f budget (solved.Unsat id) (solution.Unsat found) o all not_plain fit is h same kept =
+    subst (λ (c : ClauseId). IsEmptyAt f.kept c.0) (sym is) (empty-found f id o h same kept)
+found-by s places rs memo e f budget solved.Spent solution.Spent o all not_plain fit is h same kept = h
+found-by s places rs memo e f budget _ _ o all not_plain fit is h same kept = absurd is
 
-pub found-may : (s : Stacked) (rs : List Regex) (memo : Memo) (e f : Backing) (budget : Spending) (r : Solved)
+pub few-words : (s : Stacked) (places : List ℕ) (rs : List Regex) (memo : Memo) (e f : Backing) (budget : Spending)
+    (r : Solved) → IsSolved s places rs memo e f budget r → AreFew (length s.scope.sorts) r
+few-words s places rs memo e f budget (solved.Sat words truths) h = h.few
+few-words s places rs memo e f budget (solved.Unsat id) h = tt
+few-words s places rs memo e f budget solved.Spent h = tt
+
+pub found-may : (s : Stacked) (rs : List Regex) (memo : Memo) (e f : Backing) (budget : Spending) (r : Solution)
     → IsFound s rs memo e f budget r → MayBeKept (verdict_of r) s
-found-may s rs memo e f budget (solved.Sat words truths) h = (h.words, h.long)
-found-may s rs memo e f budget (solved.Unsat id) h = tt
-found-may s rs memo e f budget solved.Spent h = tt
+found-may s rs memo e f budget (solution.Sat words truths) h = (h.words, h.long)
+found-may s rs memo e f budget (solution.Unsat id) h = tt
+found-may s rs memo e f budget solution.Spent h = tt
 
 -- The empty clause is kept already: no line is put.
 pub solved-again : (s : Stacked) (before : AllKept) (rs : List Regex) (memo : Memo) (e : Backing) (id : ClauseId)
     (told : Option (List ℕ)) → Backs rs memo e before → IsEmptyAt e.kept id.0
-    → IsSolution s before rs memo e (solved.Unsat id) told told
+    → IsSolution s before rs memo e (solution.Unsat id) told told
 solved-again s before rs memo e id told backs is = record {
   after = before;
   puts = puts_none (asked_in (state_of s)) before told;
@@ -84,22 +103,22 @@ solved-again s before rs memo e id told backs is = record {
 
 -- Lines were put for it.
 pub solved-now : (s : Stacked) → AreTerms (asked_in (state_of s)) → (before : AllKept) (rs more : List Regex)
-    (memo memos : Memo) (e f : Backing) (budget : Spending) (r : Solved) (old new : Option (List ℕ))
+    (memo memos : Memo) (e f : Backing) (budget : Spending) (r : Solution) (old new : Option (List ℕ))
     → Backs rs memo e before → Evidences (asked_in (state_of s)) before more memos f budget old new
     → IsFound s rs memo e f budget r → IsSolution s before more memos f r old new
-solved-now s terms before rs more memo memos e f budget (solved.Sat words truths) old new backs h is = record {
+solved-now s terms before rs more memo memos e f budget (solution.Sat words truths) old new backs h is = record {
   after = h.after;
   puts = h.puts;
   backs = h.backs;
   says = is.given before backs terms;
 }
-solved-now s terms before rs more memo memos e f budget (solved.Unsat id) old new backs h is = record {
+solved-now s terms before rs more memo memos e f budget (solution.Unsat id) old new backs h is = record {
   after = h.after;
   puts = h.puts;
   backs = h.backs;
   says = says-kept (asked_in (state_of s)) h.after more memos f id h.backs is;
 }
-solved-now s terms before rs more memo memos e f budget solved.Spent old new backs h is = record {
+solved-now s terms before rs more memo memos e f budget solution.Spent old new backs h is = record {
   after = h.after;
   puts = h.puts;
   backs = h.backs;
@@ -124,33 +143,33 @@ solved-true rule by again s terms false rs more memo memos e f budget behind old
 
 -- What was found may be answered.
 pub says-true : (s : Stacked) → AreTerms (asked_in (state_of s)) → (rs : List Regex) (memo : Memo) (e f : Backing)
-    (budget : Spending) (r : Solved) → IsTrue (asked_in (state_of s)) rs memo e → IsFound s rs memo e f budget r
+    (budget : Spending) (r : Solution) → IsTrue (asked_in (state_of s)) rs memo e → IsFound s rs memo e f budget r
     → SaysTrue s f r
-says-true s terms rs memo e f budget (solved.Sat words truths) t is = is.given t.kept t.backs terms
-says-true s terms rs memo e f budget (solved.Unsat id) t is = is
-says-true s terms rs memo e f budget solved.Spent t is = tt
+says-true s terms rs memo e f budget (solution.Sat words truths) t is = is.given t.kept t.backs terms
+says-true s terms rs memo e f budget (solution.Unsat id) t is = is
+says-true s terms rs memo e f budget solution.Spent t is = tt
 
 -- The verdict may be given, where what the evidence knows is true.
 pub solved-verdict : EmptyClauseRefutes → (s : Stacked) → in_fragment (state_of s) ≡ true → IsFit (state_of s)
-    → (rs : List Regex) (memo : Memo) (e : Backing) (r : Solved) → IsTrue (asked_in (state_of s)) rs memo e
+    → (rs : List Regex) (memo : Memo) (e : Backing) (r : Solution) → IsTrue (asked_in (state_of s)) rs memo e
     → SaysTrue s e r → IsVerdict (state_of s) [] (verdict_in (live_constants s) (verdict_of r))
-solved-verdict refutes s inside fit rs memo e (solved.Sat words truths) t h = (inside, h)
-solved-verdict refutes s inside fit rs memo e (solved.Unsat id) t h =
+solved-verdict refutes s inside fit rs memo e (solution.Sat words truths) t h = (inside, h)
+solved-verdict refutes s inside fit rs memo e (solution.Unsat id) t h =
     let there = says-kept (asked_in (state_of s)) t.kept rs memo e id t.backs h in
     let none : Satisfiable (state_of s) [] → ⊥ =
     refutes (state_of s) t.kept id.0 there.0 fit t.sound there.1 in
     (inside, none, record { some = refl; contradicted = none })
-solved-verdict refutes s inside fit rs memo e solved.Spent t h = inside
+solved-verdict refutes s inside fit rs memo e solution.Spent t h = inside
 
 -- The lines that were put prove it.
-pub solved-proved : TextIsRead → TextIsOneLine → TextsAreLines → (s : Stacked) (r : Solved) (before : Progress)
+pub solved-proved : TextIsRead → TextIsOneLine → TextsAreLines → (s : Stacked) (r : Solution) (before : Progress)
     (rs more : List Regex) (memo memos : Memo) (p : Proving) (e : Backing) (old begun mid new : Option (List ℕ))
     → in_fragment (state_of s) ≡ true → IsNumbered r → IsAbreast rs memo p before
     → Tells (first_lines p.begun) old begun → IsSolution s before.kept more memos e r begun mid → HaveRegexesBelow (length more) e.atoms
     → new ≡ with_bytes (line (text_of (verdict_line (said_by s r)))) mid
     → IsProved (question_in (state_of s) []) (verdict_in (live_constants s) (verdict_of r)) before more memos
     (record { evidence = e; begun = true }) old new
-solved-proved law one many s (solved.Sat words truths) before rs more memo memos p e old begun mid new inside small h
+solved-proved law one many s (solution.Sat words truths) before rs more memo memos p e old begun mid new inside small h
     told r below told-last =
     let right = sat-said s words.items truths.items inside r.says.model in
     let values = values_at (live_constants s) words.items truths.items in
@@ -161,11 +180,11 @@ solved-proved law one many s (solved.Sat words truths) before rs more memo memos
     (subst (λ b. Tells (first_lines b) old begun) (sym h.begun) told) r.puts right.small (right.right r.after)
     (values, right.valued_as, refl) told-last)
     r.backs (reached-format (asked_in (state_of s)) before.kept r.after begun mid r.puts h.format) below
-solved-proved law one many s (solved.Unsat id) before rs more memo memos p e old begun mid new inside small h told r
+solved-proved law one many s (solution.Unsat id) before rs more memo memos p e old begun mid new inside small h told r
     below told-last =
     unsat-proved law one many s before rs more memo memos p e id id.0 old begun mid new refl small inside h told
     (record { after = r.after; puts = r.puts; backs = r.backs; says = r.says }) below told-last
-solved-proved law one many s solved.Spent before rs more memo memos p e old begun mid new inside small h told r below
+solved-proved law one many s solution.Spent before rs more memo memos p e old begun mid new inside small h told r below
     told-last =
     unknown-proved law one many s before rs more memo memos p e old begun mid new inside h told
     (record { after = r.after; puts = r.puts; backs = r.backs; says = r.says }) below told-last

@@ -1,5 +1,5 @@
 -- Private: what a check comes to that the decider left open, and what the lines that are put for it say.
-use Rattle.std.specs.Prelude.{◌≡◌, ℕ, ◌<◌, ◌^◌, ◌-◌, List, [], map, Option, None}
+use Rattle.std.specs.Prelude.{◌≡◌, ℕ, ◌<◌, ◌≤◌, ◌^◌, ◌-◌, Bool, true, List, [], map, length, Option, None}
 use Rattle.sb_lang.specs.Regex.{Regex}
 use Rattle.sb_lit.specs.Budgets.{Spending}
 use Rattle.sb_deriv.specs.Faithful.{Memo}
@@ -7,40 +7,67 @@ use Rattle.sb_script.specs.Models.{IsGiven}
 use Rattle.sb_rulebook.specs.Lines.{Said, said_sat, said_unsat, said_unknown}
 use Rattle.sb_rulebook.specs.Kept.{AllKept}
 use Rattle.sb_rulebook.specs.Accepted.{asked_in}
-use Rattle.sb_stack.specs.Stacked.{Stacked, state_of, live_constants, values_at}
+use Rattle.sb_sound.specs.SoundLaws.{AreTerms}
+use Rattle.sb_stack.specs.Stacked.{Stacked, are_words, state_of, live_constants, values_at}
 use Rattle.sb_stack.specs.declared.verdict.Verdict.{Verdict}
 use Rattle.sb_stack.specs.declared.verdict.Verdict.TheVariants as verdict
 use Rattle.sb_trace.specs.Putting.{Puts}
 use Rattle.sb_refute.specs.Backing.{Backing, Backs}
 use Rattle.sb_refute.specs.Refuting.{IsEmptyAt}
 use Rattle.sb_refute.specs.declared.refute.Refuted.TheVariants as refuted
-use Rattle.sb_solve.specs.Solved.{IsValued}
 use Rattle.sb_solve.specs.declared.check.Solved.{Solved}
 use Rattle.sb_solve.specs.declared.check.Solved.TheVariants as solved
+use Rattle.sb_prover.specs.declared.solving.Solution.{Solution}
+use Rattle.sb_prover.specs.declared.solving.Solution.TheVariants as solution
+use Rattle.sb_prover.specs.Filled.{IsFilled}
 use Rattle.sb_prover.specs.Saying.{said_value, SaysRefuted}
 
+-- The values are words, one for each constant that was declared, and truth values. Where a reader of the proof kept what
+-- the evidence knew before, and the live assertions fit the sorts of constants, a check may give these values.
+pub record AreValues (s : Stacked) (rs : List Regex) (memo : Memo) (e : Backing) (ws : List (List ℕ))
+    (truths : List Bool) : Type 0
+  where
+    pub words : are_words ws ≡ true
+    pub long : length ws ≡ length s.scope.sorts
+    pub given : (before : AllKept) → Backs rs memo e before → AreTerms (asked_in (state_of s))
+        → IsGiven (state_of s) [] (values_at (live_constants s) ws truths)
+
+-- the words of what a search finds are no more than so many
+abbrev pub AreFew : ℕ → Solved → Type 0
+AreFew count (solved.Sat words truths) = length words.items ≤ count
+AreFew count _ = Unit {0}
+
+-- it is what was found, with the words filled up to so many
+abbrev pub IsCompleted : ℕ → Solved → Solution → Type 0
+IsCompleted count (solved.Sat words truths) (solution.Sat full others) =
+    IsFilled words.items full.items × (are_words full.items ≡ true) × (length full.items ≡ count)
+    × (others.items ≡ truths.items)
+IsCompleted count (solved.Unsat id) (solution.Unsat found) = found ≡ id
+IsCompleted count solved.Spent solution.Spent = Unit {0}
+IsCompleted count _ _ = ⊥
+
 -- what the answer of a search says of the evidence before and behind it
-abbrev pub IsFound : Stacked → List Regex → Memo → Backing → Backing → Spending → Solved → Type 0
-IsFound s rs memo e f budget (solved.Sat words truths) = IsValued s rs memo e words.items truths.items
-IsFound s rs memo e f budget (solved.Unsat id) = IsEmptyAt f.kept id.0
-IsFound s rs memo e f budget solved.Spent = budget.spent ≡ budget.limit
+abbrev pub IsFound : Stacked → List Regex → Memo → Backing → Backing → Spending → Solution → Type 0
+IsFound s rs memo e f budget (solution.Sat words truths) = AreValues s rs memo e words.items truths.items
+IsFound s rs memo e f budget (solution.Unsat id) = IsEmptyAt f.kept id.0
+IsFound s rs memo e f budget solution.Spent = budget.spent ≡ budget.limit
 
 -- a check may give these values, or the empty clause is kept, or so many lines were counted as a check may have
-abbrev pub SaysSolved : Stacked → AllKept → Solved → Type 0
-SaysSolved s kept (solved.Sat words truths) =
+abbrev pub SaysSolved : Stacked → AllKept → Solution → Type 0
+SaysSolved s kept (solution.Sat words truths) =
     IsGiven (state_of s) [] (values_at (live_constants s) words.items truths.items)
-SaysSolved s kept (solved.Unsat id) = SaysRefuted (asked_in (state_of s)) kept (refuted.Clause id)
-SaysSolved s kept solved.Spent = SaysRefuted (asked_in (state_of s)) kept refuted.Spent
+SaysSolved s kept (solution.Unsat id) = SaysRefuted (asked_in (state_of s)) kept (refuted.Clause id)
+SaysSolved s kept solution.Spent = SaysRefuted (asked_in (state_of s)) kept refuted.Spent
 
 -- a check may give these values, or the empty clause is among what the evidence knows
-abbrev pub SaysTrue : Stacked → Backing → Solved → Type 0
-SaysTrue s e (solved.Sat words truths) =
+abbrev pub SaysTrue : Stacked → Backing → Solution → Type 0
+SaysTrue s e (solution.Sat words truths) =
     IsGiven (state_of s) [] (values_at (live_constants s) words.items truths.items)
-SaysTrue s e (solved.Unsat id) = IsEmptyAt e.kept id.0
-SaysTrue s e solved.Spent = Unit {0}
+SaysTrue s e (solution.Unsat id) = IsEmptyAt e.kept id.0
+SaysTrue s e solution.Spent = Unit {0}
 
 -- Lines were put that lead to an answer, as far as a check may have lines.
-pub record IsSolution (s : Stacked) (before : AllKept) (rs : List Regex) (memo : Memo) (e : Backing) (r : Solved)
+pub record IsSolution (s : Stacked) (before : AllKept) (rs : List Regex) (memo : Memo) (e : Backing) (r : Solution)
     (old new : Option (List ℕ)) : Type 0
   where
     pub after : AllKept
@@ -49,18 +76,18 @@ pub record IsSolution (s : Stacked) (before : AllKept) (rs : List Regex) (memo :
     pub says : SaysSolved s after r
 
 -- the verdict of an answer
-abbrev pub verdict_of : Solved → Verdict
-verdict_of (solved.Sat words truths) = verdict.Sat words truths
-verdict_of (solved.Unsat id) = verdict.Unsat
-verdict_of solved.Spent = verdict.Unknown
+abbrev pub verdict_of : Solution → Verdict
+verdict_of (solution.Sat words truths) = verdict.Sat words truths
+verdict_of (solution.Unsat id) = verdict.Unsat
+verdict_of solution.Spent = verdict.Unknown
 
 -- and what the verdict's line says
-abbrev pub said_by : Stacked → Solved → Said
-said_by s (solved.Sat words truths) = said_sat (map (said_value words.items truths.items) (live_constants s))
-said_by s (solved.Unsat id) = said_unsat id.0 None
-said_by s solved.Spent = said_unknown (2 ^ 64 - 1)
+abbrev pub said_by : Stacked → Solution → Said
+said_by s (solution.Sat words truths) = said_sat (map (said_value words.items truths.items) (live_constants s))
+said_by s (solution.Unsat id) = said_unsat id.0 None
+said_by s solution.Spent = said_unknown (2 ^ 64 - 1)
 
 -- the number of a clause has a text
-abbrev pub IsNumbered : Solved → Type 0
-IsNumbered (solved.Unsat id) = id.0 < 2 ^ 64
+abbrev pub IsNumbered : Solution → Type 0
+IsNumbered (solution.Unsat id) = id.0 < 2 ^ 64
 IsNumbered _ = Unit {0}

@@ -1,6 +1,7 @@
 //! Checks that the decider leaves open.
 
-ghost use Rattle.std.specs.Prelude.{◌≡◌, [], true, false, length, IfOk, OnOk};
+ghost use Rattle.std.specs.Prelude.{◌≡◌, ◌<◌, ℕ, [], true, false, length, IfOk, OnOk, Contains};
+ghost use Rattle.std.specs.List.{All};
 ghost use Rattle.sb_script.specs.Steps.{line};
 ghost use Rattle.sb_script.specs.Verdicts.{IsVerdict};
 ghost use Rattle.sb_rulebook.specs.Accepted.{question_in, asked_in};
@@ -18,13 +19,14 @@ ghost use Rattle.sb_sound.specs.ScriptLaws.{IsFit};
 ghost use Rattle.sb_decide.specs.Knowing.{Knows, IsLeftOpen, MayBeKept};
 ghost use Rattle.sb_prover.specs.Proving.{IsAbreast, IsProved, HaveLevels};
 ghost use Rattle.sb_solve.specs.Truth.{IsTrue};
-ghost use Rattle.sb_prover.specs.Solving.{IsFound, IsSolution, SaysTrue, verdict_of, said_by, IsNumbered};
+ghost use Rattle.sb_prover.specs.Solving.{AreFew, IsCompleted, IsFound, IsSolution, SaysTrue, verdict_of, said_by, IsNumbered};
 
+use crate::filling::{all_places, filled};
 use crate::prover::Prover;
 use crate::verdict::{number_of, say, say_values};
 use sb_decide::{Decider, left_open_grown};
 use sb_fragment::fragment_is_of_each;
-use sb_lit::Budget;
+use sb_lit::{Budget, ClauseId};
 use sb_proof::{Said, Tape, TapeFault};
 use sb_refute::Evidence;
 use sb_rulebook::laws::{text_is_one_line, text_is_read, texts_are_lines};
@@ -32,7 +34,20 @@ use sb_solve::{Solved, solve};
 use sb_sound::scripts::{empty_clause_refutes, entries_lead_on};
 use sb_sound::steps::{counted_again_stays_sound, follows_by_rule, line_stays_sound};
 use sb_stack::{Stack, Verdict};
-use std::alloc::Global;
+use sb_word::Word;
+use std::alloc::{AllocError, Global};
+
+/// What a check comes to that was left open.
+#[derive(Drop)]
+pub(crate) enum Solution {
+    /// Words and truth values of a model, the one of each constant at its serial. Each constant that was declared has a
+    /// word; truth values past the last one are false.
+    Sat { words: Vec<Word>, truths: Vec<bool> },
+    /// The number of the empty clause, which stands in the proof.
+    Unsat(ClauseId),
+    /// A check may have no more lines.
+    Spent,
+}
 
 impl Prover {
     /// Answers a check that the decider left open: `Unsat` where the empty clause stands in the proof, else what a
@@ -74,8 +89,8 @@ impl Prover {
         empty_clause_refutes();
         fragment_is_of_each();
         self.begin(tape)?;
-        let solved = self.solution(decider, stack, proves, tape)?;
-        let verdict = conclude(self.alloc, stack, solved, tape)?;
+        let solution = self.solution(decider, stack, proves, tape)?;
+        let verdict = conclude(self.alloc, stack, solution, tape)?;
         Ok(verdict)
     }
 
@@ -86,7 +101,7 @@ impl Prover {
         stack: &Stack,
         proves: bool,
         tape: &mut L,
-    ) -> Result<Solved, TapeFault>
+    ) -> Result<Solution, TapeFault>
         requires open { IsLeftOpen decider.old stack.now }
         requires terms { AreTerms (asked_in (state_of stack.now)) }
         requires regexes { HaveRegexesBelow (length decider.old.arena) self.old.evidence.atoms }
@@ -111,10 +126,10 @@ impl Prover {
         line_stays_sound();
         counted_again_stays_sound();
         if let Some(empty) = self.evidence.refuted() {
-            return Ok(Solved::Unsat(empty.clause));
+            return Ok(Solution::Unsat(empty.clause));
         }
         let mut budget = Budget::new(u64::MAX);
-        let solved = searched(
+        let solution = searched(
             self.alloc,
             &mut self.evidence,
             decider,
@@ -123,7 +138,7 @@ impl Prover {
             tape,
             &mut budget,
         )?;
-        Ok(solved)
+        Ok(solution)
     }
 }
 
@@ -136,7 +151,7 @@ fn searched<L: Tape>(
     proves: bool,
     tape: &mut L,
     budget: &mut Budget,
-) -> Result<Solved, TapeFault>
+) -> Result<Solution, TapeFault>
     requires open { IsLeftOpen decider.old stack.now }
     requires regexes { HaveRegexesBelow (length decider.old.arena) evidence.old.atoms }
     ensures puts { OnOk result (proves ≡ true → (before : AllKept)
@@ -155,7 +170,45 @@ fn searched<L: Tape>(
         → HaveLevels (asked_in (state_of stack.now)).live evidence.new) }
     ensures counts { CountsTapeFault result (L.Tape.faults tape.old) (L.Tape.faults tape.new) }
 {
+    let places = all_places(alloc, stack.assertions().len())?;
+    searched_at(
+        alloc, evidence, decider, stack, &places, proves, tape, budget,
+    )
+}
+
+/// What a search over the live assertions comes to, which are those at these places.
+fn searched_at<L: Tape>(
+    alloc: Global,
+    evidence: &mut Evidence,
+    decider: &mut Decider,
+    stack: &Stack,
+    places: &[usize],
+    proves: bool,
+    tape: &mut L,
+    budget: &mut Budget,
+) -> Result<Solution, TapeFault>
+    requires open { IsLeftOpen decider.old stack.now }
+    requires regexes { HaveRegexesBelow (length decider.old.arena) evidence.old.atoms }
+    requires below { All (λ place. place < length stack.now.assertions) places.now }
+    requires all { (place : ℕ) → place < length stack.now.assertions → Contains places.now place }
+    ensures puts { OnOk result (proves ≡ true → (before : AllKept)
+        → Backs decider.old.arena decider.old.graph.memo evidence.old before
+        → IsCounted (asked_in (state_of stack.now)) before budget.old
+        → Evidences (asked_in (state_of stack.now)) before decider.new.arena decider.new.graph.memo evidence.new
+        budget.new (L.Tape.told tape.old) (L.Tape.told tape.new)) }
+    ensures solved { IfOk result
+        (IsFound stack.now decider.old.arena decider.old.graph.memo evidence.old evidence.new budget.new) }
+    ensures sound { OnOk result (proves ≡ false → AreTerms (asked_in (state_of stack.now))
+        → IsTrue (asked_in (state_of stack.now)) decider.old.arena decider.old.graph.memo evidence.old
+        → IsTrue (asked_in (state_of stack.now)) decider.new.arena decider.new.graph.memo evidence.new) }
+    ensures open { OnOk result (IsLeftOpen decider.new stack.now) }
+    ensures regexes { OnOk result (HaveRegexesBelow (length decider.new.arena) evidence.new.atoms) }
+    ensures levels { OnOk result (HaveLevels (asked_in (state_of stack.now)).live evidence.old
+        → HaveLevels (asked_in (state_of stack.now)).live evidence.new) }
+    ensures counts { CountsTapeFault result (L.Tape.faults tape.old) (L.Tape.faults tape.new) }
+{
     left_open_grown();
+    let count = stack.declared();
     let solved = solve(
         alloc,
         evidence,
@@ -165,37 +218,57 @@ fn searched<L: Tape>(
         &mut decider.normals,
         &mut decider.measures,
         stack,
+        places,
         proves,
         tape,
         budget,
     )?;
     let _empty = evidence.refuted();
-    Ok(solved)
+    let solution = completed(alloc, solved, count)?;
+    Ok(solution)
+}
+
+/// What a search found, with the empty word for each constant, of so many, that has none.
+fn completed(alloc: Global, solved: Solved, count: usize) -> Result<Solution, AllocError>
+    requires { AreFew count solved }
+    ensures { IfOk result (IsCompleted count solved) }
+{
+    match solved {
+        Solved::Sat { words, truths } => {
+            let full = filled(alloc, words, count)?;
+            Ok(Solution::Sat {
+                words: full,
+                truths,
+            })
+        }
+        Solved::Unsat(id) => Ok(Solution::Unsat(id)),
+        Solved::Spent => Ok(Solution::Spent),
+    }
 }
 
 /// Puts the line of the verdict of what a check comes to, and answers the verdict.
 fn conclude<L: Tape>(
     alloc: Global,
     stack: &Stack,
-    solved: Solved,
+    solution: Solution,
     tape: &mut L,
 ) -> Result<Verdict, TapeFault>
-    ensures verdict { IfOk result (λ v. v ≡ verdict_of solved) }
+    ensures verdict { IfOk result (λ v. v ≡ verdict_of solution) }
     ensures told { OnOk result (L.Tape.told tape.new
-        ≡ with_bytes (line (text_of (verdict_line (said_by stack.now solved)))) (L.Tape.told tape.old)) }
-    ensures numbered { OnOk result (IsNumbered solved) }
+        ≡ with_bytes (line (text_of (verdict_line (said_by stack.now solution)))) (L.Tape.told tape.old)) }
+    ensures numbered { OnOk result (IsNumbered solution) }
     ensures counts { CountsTapeFault result (L.Tape.faults tape.old) (L.Tape.faults tape.new) }
 {
-    match solved {
-        Solved::Sat { words, truths } => {
+    match solution {
+        Solution::Sat { words, truths } => {
             say_values(alloc, stack, &words, &truths, tape)?;
             Ok(Verdict::Sat { words, truths })
         }
-        Solved::Unsat(id) => {
+        Solution::Unsat(id) => {
             say(Said::Unsat(number_of(id)), tape)?;
             Ok(Verdict::Unsat)
         }
-        Solved::Spent => {
+        Solution::Spent => {
             say(Said::Unknown(u64::MAX), tape)?;
             Ok(Verdict::Unknown)
         }

@@ -3,7 +3,7 @@ use Rattle.sb_script.specs.Steps.{line}
 use Rattle.sb_rulebook.specs.Lines.{said_sat, text_of, verdict_line}
 use Rattle.sb_proof.specs.Tapes.{with_bytes}
 use Rattle.sb_stack.specs.Stacked.{live_constants}
-use Rattle.sb_solve.specs.declared.check.Solved.{Solved}
+use Rattle.sb_prover.specs.declared.solving.Solution.{Solution}
 use Rattle.sb_prover.specs.Saying.{said_value}
 use Rattle.sb_prover.specs.Solving.{said_by}
 use Rattle.sb_prover.proofs.solving.conclude.Goals as goal
@@ -16,4 +16,4 @@ returns-in_ok-say_values-in-Sat-clause-told g c =
     ∙ ap₂ (λ (words : List (List ℕ)) (truths : List Bool). with_bytes (line (text_of (verdict_line
     (said_sat (map (said_value words truths) (live_constants s)))))) old)
     c.deref.ensures.value c.deref-in-Sat.ensures.value
-    ∙ ap (λ (solved : Solved). with_bytes (line (text_of (verdict_line (said_by s solved)))) old) (sym c.in-Sat.is)
+    ∙ ap (λ (solution : Solution). with_bytes (line (text_of (verdict_line (said_by s solution)))) old) (sym c.in-Sat.is)

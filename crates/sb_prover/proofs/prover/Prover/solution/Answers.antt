@@ -6,7 +6,7 @@ use Rattle.sb_atoms.specs.Numbered.{HaveRegexesBelow}
 use Rattle.sb_trace.proofs.CallerLemmas.{counts_on}
 use Rattle.sb_refute.specs.Backing.{Backs}
 use Rattle.sb_solve.specs.Truth.{IsTrue}
-use Rattle.sb_solve.specs.declared.check.Solved.{Solved}
+use Rattle.sb_prover.specs.declared.solving.Solution.{Solution}
 use Rattle.sb_prover.specs.Proving.{Proving, HaveLevels}
 use Rattle.sb_prover.proofs.Refutations.{empty-known, counts-none}
 use Rattle.sb_prover.proofs.Solutions.{solved-again, solved-now, solved-true, says-true, found-may}
@@ -38,8 +38,8 @@ returns-in-Some g c =
       counts = refl;
     }
 
-pub returns-in_err-solved : goal.returns-in_err-solved
-returns-in_err-solved g c =
+pub returns-in_err-solution : goal.returns-in_err-solution
+returns-in_err-solution g c =
     let x = c.from_residual in
     let p = err_from_is_err_and x.result x.ensures.1 in
     record {
@@ -51,7 +51,7 @@ returns-in_err-solved g c =
       regexes = IfOk-from_err x.result _ x.ensures.0;
       begun = ap (λ (p : Proving). p.begun) c.self.view_is;
       levels = IfOk-from_err x.result _ x.ensures.0;
-      counts = counts_on Solved x.result p.0 _ _ _ p.1 p.2 c.in_err-solved.ensures.counts;
+      counts = counts_on Solution x.result p.0 _ _ _ p.1 p.2 c.in_err-solution.ensures.counts;
     }
 
 pub returns : goal.returns
@@ -69,23 +69,23 @@ returns g c =
       sound = solved-true c.follows_by_rule.ensures c.line_stays_sound.ensures c.counted_again_stays_sound.ensures s
           c.requires.terms c.args.proves old.arena new.arena old.graph.memo new.graph.memo e f _
           c.searched.new.budget told telling t (counts-none s t.kept _ c.new-budget.ensures t.counted)
-          c.in_ok-solved.ensures.puts c.in_ok-solved.ensures.sound;
-      means = says-true s c.requires.terms old.arena old.graph.memo e f c.searched.new.budget c.in_ok-solved.solved t
-          c.in_ok-solved.ensures.solved;
+          c.in_ok-solution.ensures.puts c.in_ok-solution.ensures.sound;
+      means = says-true s c.requires.terms old.arena old.graph.memo e f c.searched.new.budget c.in_ok-solution.solution t
+          c.in_ok-solution.ensures.solved;
       solved = λ proves before backs counted.
           let kept = subst (λ (p : Proving). Backs old.arena old.graph.memo p.evidence before) (sym c.self.view_is)
           backs in
           solved-now s c.requires.terms before old.arena new.arena old.graph.memo new.graph.memo e f
-          c.searched.new.budget c.in_ok-solved.solved told telling kept
-          (c.in_ok-solved.ensures.puts proves before kept (counts-none s before _ c.new-budget.ensures counted))
-          c.in_ok-solved.ensures.solved;
-      kept = found-may s old.arena old.graph.memo e f c.searched.new.budget c.in_ok-solved.solved
-          c.in_ok-solved.ensures.solved;
-      «open» = c.in_ok-solved.ensures.open;
-      regexes = c.in_ok-solved.ensures.regexes;
+          c.searched.new.budget c.in_ok-solution.solution told telling kept
+          (c.in_ok-solution.ensures.puts proves before kept (counts-none s before _ c.new-budget.ensures counted))
+          c.in_ok-solution.ensures.solved;
+      kept = found-may s old.arena old.graph.memo e f c.searched.new.budget c.in_ok-solution.solution
+          c.in_ok-solution.ensures.solved;
+      «open» = c.in_ok-solution.ensures.open;
+      regexes = c.in_ok-solution.ensures.regexes;
       begun = ap (λ (p : Proving). p.begun) c.self.view_is;
       levels = λ h.
-          c.in_ok-solved.ensures.levels
+          c.in_ok-solution.ensures.levels
           (subst (λ (p : Proving). HaveLevels (asked_in (state_of s)).live p.evidence) (sym c.self.view_is) h);
-      counts = c.in_ok-solved.ensures.counts;
+      counts = c.in_ok-solution.ensures.counts;
     }

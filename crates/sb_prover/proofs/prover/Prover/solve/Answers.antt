@@ -11,7 +11,7 @@ use Rattle.sb_trace.proofs.CallerLemmas.{counts_on}
 use Rattle.sb_refute.specs.Backing.{Backs}
 use Rattle.sb_decide.specs.Knowing.{Knows}
 use Rattle.sb_solve.specs.Truth.{IsTrue}
-use Rattle.sb_solve.specs.declared.check.Solved.{Solved}
+use Rattle.sb_prover.specs.declared.solving.Solution.{Solution}
 use Rattle.sb_prover.specs.Proving.{Proving, IsProved, HaveLevels}
 use Rattle.sb_prover.specs.Solving.{verdict_of}
 use Rattle.sb_prover.proofs.Solutions.{solved-verdict, solved-proved}
@@ -49,9 +49,9 @@ returns-in_err-begin g c =
       counts = counts_on (Unit {0}) x.result p.0 _ _ _ p.1 p.2 c.in_err-begin.ensures.counts;
     }
 
-pub returns-in_err-solved : goal.returns-in_err-solved
-returns-in_err-solved g c =
-    let x = c.from_residual-in_err-solved in
+pub returns-in_err-solution : goal.returns-in_err-solution
+returns-in_err-solution g c =
+    let x = c.from_residual-in_err-solution in
     let p = err_from_is_err_and x.result x.ensures.1 in
     record {
       proves = IfOk-from_err x.result _ x.ensures.0;
@@ -62,7 +62,7 @@ returns-in_err-solved g c =
       sound = IfOk-from_err x.result _ x.ensures.0;
       counts = subst (λ old. CountsTapeFault x.result old (g.L.Tape.faults c.solution.new.tape))
           c.in_ok-begin.ensures.counts
-          (counts_on Solved x.result p.0 _ _ _ p.1 p.2 c.in_err-solved.ensures.counts);
+          (counts_on Solution x.result p.0 _ _ _ p.1 p.2 c.in_err-solution.ensures.counts);
     }
 
 pub returns-in_err-verdict : goal.returns-in_err-verdict
@@ -77,7 +77,7 @@ returns-in_err-verdict g c =
       levels = IfOk-from_err x.result _ x.ensures.0;
       sound = IfOk-from_err x.result _ x.ensures.0;
       counts = subst (λ old. CountsTapeFault x.result old (g.L.Tape.faults c.conclude.new.tape))
-          (c.in_ok-solved.ensures.counts ∙ c.in_ok-begin.ensures.counts)
+          (c.in_ok-solution.ensures.counts ∙ c.in_ok-begin.ensures.counts)
           (counts_on Verdict x.result p.0 _ _ _ p.1 p.2 c.in_err-verdict.ensures.counts);
     }
 
@@ -95,29 +95,29 @@ returns g c =
           (g.L.Tape.told c.conclude.new.tape))
           (sym c.in_ok-verdict.ensures.verdict)
           (subst (λ b. IsProved (question_in (state_of s) [])
-          (verdict_in (live_constants s) (verdict_of c.in_ok-solved.solved)) before new.arena new.graph.memo
+          (verdict_in (live_constants s) (verdict_of c.in_ok-solution.solution)) before new.arena new.graph.memo
           (record { evidence = c.solution.new.self.evidence; begun = b }) (g.L.Tape.told c.args.tape.now)
           (g.L.Tape.told c.conclude.new.tape))
-          (sym (c.in_ok-solved.ensures.begun ∙ ap (λ p. p.begun) first))
+          (sym (c.in_ok-solution.ensures.begun ∙ ap (λ p. p.begun) first))
           (solved-proved c.text_is_read.ensures c.text_is_one_line.ensures c.texts_are_lines.ensures s
-          c.in_ok-solved.solved before old.arena new.arena old.graph.memo new.graph.memo c.args.self.now
+          c.in_ok-solution.solution before old.arena new.arena old.graph.memo new.graph.memo c.args.self.now
           c.solution.new.self.evidence (g.L.Tape.told c.args.tape.now) (g.L.Tape.told c.begin.new.tape)
           (g.L.Tape.told c.solution.new.tape) (g.L.Tape.told c.conclude.new.tape) inside
           c.in_ok-verdict.ensures.numbered h c.in_ok-begin.ensures.told
-          (c.in_ok-solved.ensures.solved proves before.kept
+          (c.in_ok-solution.ensures.solved proves before.kept
           (subst (λ p. Backs old.arena old.graph.memo p.evidence before.kept) (sym first) h.backs) h.counted)
-          c.in_ok-solved.ensures.regexes c.in_ok-verdict.ensures.told));
+          c.in_ok-solution.ensures.regexes c.in_ok-verdict.ensures.told));
       verdict = subst (λ (v : Verdict). IsVerdict (state_of s) [] (verdict_in (live_constants s) v))
           (sym c.in_ok-verdict.ensures.verdict)
           (solved-verdict c.empty_clause_refutes.ensures s inside c.requires.fit new.arena new.graph.memo
-          c.solution.new.self.evidence c.in_ok-solved.solved c.in_ok-solved.ensures.sound
-          c.in_ok-solved.ensures.means);
-      regexes = c.in_ok-solved.ensures.regexes;
+          c.solution.new.self.evidence c.in_ok-solution.solution c.in_ok-solution.ensures.sound
+          c.in_ok-solution.ensures.means);
+      regexes = c.in_ok-solution.ensures.regexes;
       knows = subst (λ (v : Verdict). Knows new (found v s)) (sym c.in_ok-verdict.ensures.verdict)
-          (c.in_ok-solved.ensures.open.keeps (verdict_of c.in_ok-solved.solved) c.in_ok-solved.ensures.kept);
+          (c.in_ok-solution.ensures.open.keeps (verdict_of c.in_ok-solution.solution) c.in_ok-solution.ensures.kept);
       levels = λ h.
-          c.in_ok-solved.ensures.levels
+          c.in_ok-solution.ensures.levels
           (subst (λ (p : Proving). HaveLevels (asked_in (state_of s)).live p.evidence) (sym first) h);
-      sound = c.in_ok-solved.ensures.sound;
-      counts = c.in_ok-verdict.ensures.counts ∙ c.in_ok-solved.ensures.counts ∙ c.in_ok-begin.ensures.counts;
+      sound = c.in_ok-solution.ensures.sound;
+      counts = c.in_ok-verdict.ensures.counts ∙ c.in_ok-solution.ensures.counts ∙ c.in_ok-begin.ensures.counts;
     }
