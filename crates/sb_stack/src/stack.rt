@@ -593,6 +593,13 @@ impl Stack {
         self.scope.sorts()
     }
 
+    /// The words of the last `Sat` verdict, the one of each constant at its serial. Takes constant time and no memory.
+    pub fn words(&self) -> &[Word]
+        ensures { result.now ≡ self.now.words }
+    {
+        self.words.as_slice()
+    }
+
     /// Takes the words of the last `Sat` verdict out, the one of each constant at its serial: a check changes those
     /// that are new and gives them back in its verdict, so it copies none. None are left, and no model. Takes no memory.
     pub fn take_words(&mut self) -> Vec<Word>
