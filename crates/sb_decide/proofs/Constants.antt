@@ -1,12 +1,11 @@
 -- Constants by their place, with the places of their memberships.
 use Rattle.std.proofs.Common.{◌≡◌, ◌≢◌, ℕ, zero, suc, ◌-◌, ◌<◌, ◌≤◌, Bool, true, false, ◌==◌, List, [], ◌∷◌, ◌++◌, length, get_or, set, take, refl, sym, ap, ◌∙◌, arith, length-append, Option, Some}
-use Rattle.std.proofs.lemmas.Bool.{false≢true, eqb-true, eqb-false}
+use Rattle.std.proofs.lemmas.Bool.{and_parts, and_from, eqb-true, eqb-false}
 use Rattle.std.proofs.Math.Seq.{take-append_seam}
 use Rattle.sb_word.specs.Words.{are_characters}
-use Rattle.std.proofs.lemmas.Bool.{and_parts, and_from}
 use Rattle.sb_stack.specs.Stacked.{are_words}
 use Rattle.sb_decide.specs.declared.conjuncts.Member.{Member}
-use Rattle.sb_decide.specs.Conjoined.{Conjoined, without_last, conjoined_at, IsChangedAt}
+use Rattle.sb_decide.specs.Conjoined.{Conjoined, without_last, with_place, without_place, conjoined_at, IsChangedAt}
 use Rattle.sb_decide.specs.Deciding.{word_at}
 use Rattle.sb_decide.specs.Members.{places_in}
 use Rattle.sb_decide.proofs.MemberFacts.{places_here, places_other}
@@ -61,25 +60,10 @@ conjoined_set_other (x ∷ cs) zero (suc n) c h = refl
 conjoined_set_other (x ∷ cs) (suc i) zero c h = refl
 conjoined_set_other (x ∷ cs) (suc i) (suc n) c h = conjoined_set_other cs i n c (λ e. h (ap suc e))
 
-pub words_set : (words : List (List ℕ)) (i : ℕ) (w : List ℕ) → are_words words ≡ true → are_characters w ≡ true
-    → are_words (set words i w) ≡ true
-words_set [] i w h c = refl
-words_set (x ∷ words) zero w h c =
-    and_from (are_characters w) (are_words words) c (and_parts (are_characters x) (are_words words) h).1
-words_set (x ∷ words) (suc i) w h c =
-    and_from (are_characters x) (are_words (set words i w)) (and_parts (are_characters x) (are_words words) h).0
-    (words_set words i w (and_parts (are_characters x) (are_words words) h).1 c)
-
--- constants that are not changed are another one
-pub other_than : (old new : List Conjoined) (serial n : ℕ) (places : List ℕ) → IsChangedAt old new serial places
-    → (conjoined_at new n).changed ≡ false → n ≢ serial
-other_than old new serial n places p h e =
-    false≢true (sym h ∙ (ap (λ i. (conjoined_at new i).changed) e ∙ ap (λ (x : Conjoined). x.changed) p.there))
-
 -- the places of a constant's memberships, with one more
 pub places_put : (old new : List Conjoined) (ms : List (Option Member)) (m : Member) (n : ℕ)
     → ((k : ℕ) → (conjoined_at old k).places ≡ places_in 0 k ms)
-    → IsChangedAt old new m.serial.0 ((conjoined_at old m.serial.0).places ++ length ms ∷ [])
+    → IsChangedAt old new m.serial.0 (with_place (length ms) (conjoined_at old m.serial.0))
     → (conjoined_at new n).places ≡ places_in 0 n (ms ++ Some m ∷ [])
 places_put old new ms m n places p = by_test (n == m.serial.0) refl
   where
@@ -102,7 +86,7 @@ last_gone places place =
 
 pub places_back : (old new : List Conjoined) (ms : List (Option Member)) (m : Member) (n : ℕ)
     → ((k : ℕ) → (conjoined_at old k).places ≡ places_in 0 k (ms ++ Some m ∷ []))
-    → IsChangedAt old new m.serial.0 (without_last (conjoined_at old m.serial.0).places)
+    → IsChangedAt old new m.serial.0 (without_place (conjoined_at old m.serial.0))
     → (conjoined_at new n).places ≡ places_in 0 n ms
 places_back old new ms m n places p = by_test (n == m.serial.0) refl
   where

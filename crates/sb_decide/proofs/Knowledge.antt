@@ -1,6 +1,6 @@
 -- What is known of the assertions so far, as more of it becomes known.
 use Rattle.std.proofs.Common.{◌≡◌, ◌≢◌, ℕ, zero, suc, ◌<◌, ◌≤◌, Bool, true, false, ◌&&◌, ◌==◌, nat_lt, List, [], ◌∷◌, ◌++◌, length, get_or, map, take, refl, sym, ap, ◌∙◌, arith, Option, Some, None, IfSome, length-append, if◌then◌else◌, subst, vec_len}
-use Rattle.std.proofs.lemmas.Bool.{eqb-false}
+use Rattle.std.proofs.lemmas.Bool.{eqb-true, eqb-false}
 use Rattle.std.proofs.lemmas.Bool.Decides.{nat_tests}
 use Rattle.std.proofs.lemmas.List.{get_or_append_left, nil_from_length}
 use Rattle.std.proofs.lemmas.List.Elements.{All-push, All-nil}
@@ -36,16 +36,16 @@ use Rattle.sb_fragment.proofs.CallerLemmas.{measures_kept, no_measures}
 use Rattle.sb_stack.specs.Stacked.{Stacked, assertion_in, assertion_of, HasNumberBelow, IsLonger}
 use Rattle.sb_decide.specs.declared.conjuncts.Member.{Member}
 use Rattle.sb_decide.specs.declared.decide.Decider.{Decider}
-use Rattle.sb_decide.specs.Conjoined.{Conjoined, conjoined_at, without_last, OthersSettled, HasRoom, IsChangedAt}
-use Rattle.sb_decide.specs.Deciding.{in_each, word_at}
+use Rattle.sb_decide.specs.Conjoined.{Conjoined, conjoined_at, without_last, with_place, without_place, is_settled, OthersSettled, HasRoom, IsChangedAt}
+use Rattle.sb_decide.specs.Deciding.{word_at}
 use Rattle.sb_decide.specs.Demands.{demanded}
-use Rattle.sb_decide.specs.Knowing.{IsTaken, AreKept, Knows, places_of}
-use Rattle.sb_decide.specs.Members.{IsMember, IsOther, AreMembers, AreRooted, HasRegexBelow, HasSerialBelow, IsEmptyAt, ids_in, places_in, other_places, words_in}
+use Rattle.sb_decide.specs.Knowing.{IsTaken, IsLeastOf, AreKept, Knows, places_of}
+use Rattle.sb_decide.specs.Members.{IsMember, IsOther, AreMembers, AreRooted, HasRegexBelow, HasSerialBelow, IsEmptyAt, ids_in, places_in, other_places}
 use Rattle.sb_decide.specs.Taking.{StayKept, other_dead}
-use Rattle.sb_decide.proofs.Conjunctions.{same_least, least_of_all}
-use Rattle.sb_decide.proofs.Constants.{last_gone, other_than, places_put, places_back}
+use Rattle.sb_decide.proofs.Constants.{last_gone, places_put, places_back}
 use Rattle.sb_decide.proofs.DemandFacts.{demanded_below, demanded_decided}
-use Rattle.sb_decide.proofs.MemberFacts.{members_grown, members_told, members_longer, members_left, members_few, members_pushed, members_popped, ids_other, ids_passed, places_passed, others_pushed, others_passed, others_below, words_grown, words_same, empty_grown, empty_pushed, empty_same}
+use Rattle.sb_decide.proofs.KeptWords.{ids_long, known_fewer, least_fewer, least_grown, least_more, least_of_none}
+use Rattle.sb_decide.proofs.MemberFacts.{members_grown, members_told, members_longer, members_left, members_few, members_pushed, members_popped, ids_below, ids_here, ids_other, ids_passed, places_here, places_passed, others_pushed, others_passed, others_below, empty_grown, empty_pushed, empty_same}
 use Rattle.sb_decide.proofs.RootFacts.{rooted_grown, rooted_pushed, rooted_popped}
 
 -- of a constant, if there is one
@@ -116,7 +116,7 @@ taken_roomy kept constants count ts xs room l t = record {
       (omega (arith, room.long, l)) (t.within k d m);
   places = λ n. ap (λ (c : Conjoined). c.places) (room.same n) ∙ t.places n;
   others = t.others;
-  settled = λ n h. ap (λ (c : Conjoined). c.changed) (room.same n) ∙ t.settled n h;
+  settled = λ n h. ap is_settled (room.same n) ∙ t.settled n h;
   listed = λ k d m. let low = t.listed k d m in omega (arith, room.long, l, low);
   dead = t.dead;
 }
@@ -124,43 +124,84 @@ taken_roomy kept constants count ts xs room l t = record {
 pub kept_roomy : (rs : List Regex) (ms : List (Option Member)) (old new : List Conjoined) (count : ℕ)
     (words : List (List ℕ)) → HasRoom count old new → length old ≤ count → AreKept rs ms old words
     → AreKept rs ms new words
-kept_roomy rs ms old new count words room l k = record {
-  characters = k.characters;
-  few = omega (arith, k.few, room.long, l);
-  least = λ n h. k.least n (sym (ap (λ (c : Conjoined). c.changed) (room.same n)) ∙ h);
+kept_roomy rs ms old new count words room l kept = record {
+  characters = kept.characters;
+  few = omega (arith, kept.few, room.long, l);
+  least = λ n k h. kept.least n k (sym (ap (λ (c : Conjoined). c.known) (room.same n)) ∙ h);
 }
 
 pub kept_grown : (rs new : List Regex) (ms : List (Option Member)) (cs : List Conjoined) (words : List (List ℕ))
     → Extends rs new → All (HasRegexBelow (length rs)) ms → AreKept rs ms cs words → AreKept new ms cs words
-kept_grown rs new ms cs words e known k = record {
-  characters = k.characters;
-  few = k.few;
-  least = λ n h. same_least (words_in rs ms n) (words_in new ms n) (word_at words n)
-      (λ w _. words_grown rs new ms n w e known) (k.least n h);
+kept_grown rs new ms cs words e known kept = record {
+  characters = kept.characters;
+  few = kept.few;
+  least = λ n k h. least_grown rs new (ids_in ms n) k (word_at words n) e (ids_below rs ms n known) (kept.least n k h);
 }
 
--- one constant is changed
-kept_changed : (rs : List Regex) (ms ms' : List (Option Member)) (old new : List Conjoined) (serial : ℕ)
-    (places : List ℕ) (words : List (List ℕ)) → IsChangedAt old new serial places
-    → ((n : ℕ) → n ≢ serial → ids_in ms' n ≡ ids_in ms n) → AreKept rs ms old words → AreKept rs ms' new words
-kept_changed rs ms ms' old new serial places words p same k = record {
-  characters = k.characters;
-  few = omega (arith, k.few, p.same_length);
-  least = λ n h.
-      let other : n ≢ serial = other_than old new serial n places p h in
-      same_least (words_in rs ms n) (words_in rs ms' n) (word_at words n)
-      (λ w _. words_same rs ms ms' n w (same n other))
-      (k.least n (sym (ap (λ (c : Conjoined). c.changed) (p.others n other)) ∙ h));
+-- one constant has a membership more
+kept_put : (rs : List Regex) (ms : List (Option Member)) (old new : List Conjoined) (m : Member) (place : ℕ)
+    (words : List (List ℕ)) → IsChangedAt old new m.serial.0 (with_place place (conjoined_at old m.serial.0))
+    → AreKept rs ms old words → AreKept rs (ms ++ Some m ∷ []) new words
+kept_put rs ms old new m place words p kept = record {
+  characters = kept.characters;
+  few = omega (arith, kept.few, p.same_length);
+  least = λ n k h. by_test n k h (n == m.serial.0) refl;
 }
+  where
+    by_test : (n k : ℕ) → (conjoined_at new n).known ≡ Some k → (b : Bool) → (n == m.serial.0) ≡ b
+        → IsLeastOf rs (ids_in (ms ++ Some m ∷ []) n) k (word_at words n)
+    by_test n k h true t =
+        let e : n ≡ m.serial.0 = eqb-true n m.serial.0 t in
+        let same : (conjoined_at new n).known ≡ (conjoined_at old n).known =
+        ap (λ i. (conjoined_at new i).known) e
+        ∙ (ap (λ (c : Conjoined). c.known) p.there ∙ ap (λ i. (conjoined_at old i).known) (sym e)) in
+        subst (λ ids. IsLeastOf rs ids k (word_at words n)) (sym (ids_here ms m n e))
+        (least_more rs (ids_in ms n) (m.regex ∷ []) k (word_at words n) (kept.least n k (sym same ∙ h)))
+    by_test n k h false t =
+        let e : n ≢ m.serial.0 = eqb-false n m.serial.0 t in
+        subst (λ ids. IsLeastOf rs ids k (word_at words n)) (sym (ids_other ms m n e))
+        (kept.least n k (sym (ap (λ (c : Conjoined). c.known) (p.others n e)) ∙ h))
+
+-- and one less
+kept_back : (rs : List Regex) (ms : List (Option Member)) (old new : List Conjoined) (m : Member)
+    (words : List (List ℕ)) → ((n : ℕ) → (conjoined_at old n).places ≡ places_in 0 n (ms ++ Some m ∷ []))
+    → IsChangedAt old new m.serial.0 (without_place (conjoined_at old m.serial.0))
+    → AreKept rs (ms ++ Some m ∷ []) old words → AreKept rs ms new words
+kept_back rs ms old new m words places p kept = record {
+  characters = kept.characters;
+  few = omega (arith, kept.few, p.same_length);
+  least = λ n k h. by_test n k h (n == m.serial.0) refl;
+}
+  where
+    left : without_last (conjoined_at old m.serial.0).places ≡ places_in 0 m.serial.0 ms
+    left = ap without_last (places m.serial.0 ∙ places_here m.serial.0 ms m refl)
+        ∙ last_gone (places_in 0 m.serial.0 ms) (length ms)
+
+    by_test : (n k : ℕ) → (conjoined_at new n).known ≡ Some k → (b : Bool) → (n == m.serial.0) ≡ b
+        → IsLeastOf rs (ids_in ms n) k (word_at words n)
+    by_test n k h true t =
+        let e : n ≡ m.serial.0 = eqb-true n m.serial.0 t in
+        let fewer = known_fewer (length (without_last (conjoined_at old m.serial.0).places))
+        (conjoined_at old m.serial.0).known k
+        (sym (ap (λ (c : Conjoined). c.known) p.there) ∙ (ap (λ i. (conjoined_at new i).known) (sym e) ∙ h)) in
+        let within : k ≤ length (ids_in ms m.serial.0) =
+        omega (arith, fewer.1, ap length left, ids_long ms m.serial.0) in
+        subst (λ i. IsLeastOf rs (ids_in ms i) k (word_at words i)) (sym e)
+        (least_fewer rs (ids_in ms m.serial.0) (m.regex ∷ []) k (word_at words m.serial.0) within
+        (subst (λ ids. IsLeastOf rs ids k (word_at words m.serial.0)) (ids_here ms m m.serial.0 refl)
+        (kept.least m.serial.0 k fewer.0)))
+    by_test n k h false t =
+        let e : n ≢ m.serial.0 = eqb-false n m.serial.0 t in
+        subst (λ ids. IsLeastOf rs ids k (word_at words n)) (ids_other ms m n e)
+        (kept.least n k (sym (ap (λ (c : Conjoined). c.known) (p.others n e)) ∙ h))
 
 -- one more is taken in that is no membership, or one less
 kept_same : (rs : List Regex) (ms ms' : List (Option Member)) (cs : List Conjoined) (words : List (List ℕ))
     → ((n : ℕ) → ids_in ms' n ≡ ids_in ms n) → AreKept rs ms cs words → AreKept rs ms' cs words
-kept_same rs ms ms' cs words same k = record {
-  characters = k.characters;
-  few = k.few;
-  least = λ n h. same_least (words_in rs ms n) (words_in rs ms' n) (word_at words n)
-      (λ w _. words_same rs ms ms' n w (same n)) (k.least n h);
+kept_same rs ms ms' cs words same kept = record {
+  characters = kept.characters;
+  few = kept.few;
+  least = λ n k h. subst (λ ids. IsLeastOf rs ids k (word_at words n)) (sym (same n)) (kept.least n k h);
 }
 
 pub stay_other : (old new : Decider) → new.arena ≡ old.arena → new.members.items ≡ old.members.items ++ None ∷ []
@@ -177,14 +218,14 @@ stay_grown old new ts xs e members same t words k =
     rw (members, same)
     (refl, kept_grown old.arena new.arena old.members.items old.constants.items words e t.rooted.numbers k)
 
-pub stay_put : (old new : Decider) (ts : List Term) (xs : List code.Assertion) (m : Member) (places : List ℕ)
+pub stay_put : (old new : Decider) (ts : List Term) (xs : List code.Assertion) (m : Member) (place : ℕ)
     → Extends old.arena new.arena → new.members.items ≡ old.members.items ++ Some m ∷ []
-    → IsChangedAt old.constants.items new.constants.items m.serial.0 places → IsTaken old ts xs → StayKept old new
-stay_put old new ts xs m places e members p t words k = (
+    → IsChangedAt old.constants.items new.constants.items m.serial.0
+    (with_place place (conjoined_at old.constants.items m.serial.0)) → IsTaken old ts xs → StayKept old new
+stay_put old new ts xs m place e members p t words k = (
   p.same_length,
   rw members
-      (kept_changed new.arena old.members.items (old.members.items ++ Some m ∷ []) old.constants.items
-      new.constants.items m.serial.0 places words p (ids_other old.members.items m)
+      (kept_put new.arena old.members.items old.constants.items new.constants.items m place words p
       (kept_grown old.arena new.arena old.members.items old.constants.items words e t.rooted.numbers k)),
 )
 
@@ -196,7 +237,7 @@ pub taken_more : GraphStays → RightStays → (kept new : Decider) (ts : List T
     Extends kept.arena new.arena → AreNormals ts new.arena new.normals → AreMeasures ts new.measures →
     new.members.items ≡ kept.members.items ++ Some m ∷ [] → new.roots.items ≡ kept.roots.items ++ None ∷ [] →
     IsChangedAt kept.constants.items new.constants.items m.serial.0
-    (places_of kept m.serial.0 ++ length kept.members.items ∷ []) →
+    (with_place (length kept.members.items) (conjoined_at kept.constants.items m.serial.0)) →
     OthersSettled new.changed.items new.constants.items →
     All (λ other. other.0 < length kept.constants.items) new.changed.items → new.graph ≡ kept.graph →
     new.plain ≡ kept.plain → new.others ≡ kept.others → new.dead ≡ kept.dead → IsTaken new ts xs
@@ -288,7 +329,7 @@ pub knows_back : (kept new : Decider) (m : Member) (ms : List (Option Member)) (
     → new.dead ≡ other_dead kept.dead m.serial.0 → new.arena ≡ kept.arena → new.graph ≡ kept.graph
     → new.normals ≡ kept.normals → new.measures ≡ kept.measures → new.plain ≡ kept.plain
     → new.others ≡ kept.others → IsChangedAt kept.constants.items new.constants.items m.serial.0
-    (without_last (conjoined_at kept.constants.items m.serial.0).places)
+    (without_place (conjoined_at kept.constants.items m.serial.0))
     → (OthersSettled kept.changed.items kept.constants.items → OthersSettled new.changed.items new.constants.items)
     → (All (λ other. other.0 < length kept.constants.items) kept.changed.items
     → All (λ other. other.0 < length kept.constants.items) new.changed.items)
@@ -314,8 +355,8 @@ knows_back kept new m ms stack was members roots dead arena graph normals measur
         dead = rw (dead, arena, members) (dead_back kept.arena ms m kept.dead (rw was at t.dead));
       };
       words = rw (arena, members)
-          (kept_changed kept.arena (ms ++ Some m ∷ []) ms kept.constants.items new.constants.items m.serial.0 _
-          stack.words put (λ n other. sym (ids_other ms m n other)) (rw was at k.words));
+          (kept_back kept.arena ms kept.constants.items new.constants.items m stack.words places put
+          (rw was at k.words));
       declared = omega (arith, k.declared, put.same_length);
     }
   where
@@ -484,7 +525,8 @@ knows_none kept stack members roots others constants changed dead graph normals 
       words = record {
         characters = rw words refl;
         few = rw words (omega arith);
-        least = λ n h. rw (words, nothing) (least_of_all (in_each kept.arena []) (λ w. refl));
+        least = λ n k h. least_of_none kept.arena (ids_in kept.members.items n) k (word_at stack.words n)
+            (ap (λ cs. (conjoined_at cs n).known) (sym none) ∙ h) (ap (λ ws. word_at ws n) words);
       };
       declared = omega (arith, constants);
     }
@@ -537,17 +579,16 @@ pub knows_mode : (kept : Decider) (stack : Stacked) (mode : _) → Knows kept st
     → Knows kept (record stack { mode = mode })
 knows_mode kept stack mode k = record { taken = k.taken; words = k.words; declared = k.declared }
 
--- the graph and the arena grow, and intersections are known
-pub taken_searched : NormalsStay → RightStays → (kept : Decider) (rs : List Regex) (g : Findings)
-    (roots : Vec (Option ℕ) Global) (ts : List Term)
-    (xs : List code.Assertion) → Extends kept.arena rs → IsGraph rs g →
-    AreRooted rs kept.members.items roots.items → IsTaken kept ts xs →
-    IsTaken (record kept { arena = rs; graph = g; roots = roots }) ts xs
-taken_searched stays right kept rs g roots ts xs e graph rooted t = record {
+-- the graph and the arena grow, and intersections and matches are known
+pub taken_searched : NormalsStay → (kept : Decider) (rs : List Regex) (g : Findings) (p : Memory)
+    (roots : Vec (Option ℕ) Global) (ts : List Term) (xs : List code.Assertion) → Extends kept.arena rs → IsGraph rs g →
+    IsRight rs p → AreRooted rs kept.members.items roots.items → IsTaken kept ts xs →
+    IsTaken (record kept { arena = rs; graph = g; plain = p; roots = roots }) ts xs
+taken_searched stays kept rs g p roots ts xs e graph plain rooted t = record {
   graph = graph;
   normals = stays ts ts kept.arena rs kept.normals (table_facts.extends_same ts) e t.normals;
   measures = t.measures;
-  plain = right kept.arena rs kept.plain e t.plain;
+  plain = plain;
   members = members_grown kept.arena rs ts kept.members.items xs e t.members;
   rooted = rooted;
   within = t.within;
@@ -558,14 +599,14 @@ taken_searched stays right kept rs g roots ts xs e graph rooted t = record {
   dead = dead_kept kept.arena rs kept.members.items kept.dead e t.rooted.numbers t.dead;
 }
 
--- a constant has no word
-pub knows_dead : NormalsStay → RightStays → (kept : Decider) (rs : List Regex) (g : Findings) (roots : Vec (Option ℕ) Global)
-    (stack : Stacked) (serial : Serial)
-    → Extends kept.arena rs → IsGraph rs g → AreRooted rs kept.members.items roots.items →
-    IsEmptyAt rs kept.members.items serial.0 → Knows kept stack →
-    Knows (record kept { arena = rs; graph = g; roots = roots; dead = Some serial }) stack
-knows_dead stays right kept rs g roots stack serial e graph rooted empty k =
-    let t = taken_searched stays right kept rs g roots stack.table stack.assertions e graph rooted k.taken in record {
+-- and that a constant has no word
+pub knows_dead : NormalsStay → (kept : Decider) (rs : List Regex) (g : Findings) (p : Memory)
+    (roots : Vec (Option ℕ) Global) (stack : Stacked) (serial : Serial) → Extends kept.arena rs → IsGraph rs g →
+    IsRight rs p → AreRooted rs kept.members.items roots.items → IsEmptyAt rs kept.members.items serial.0 →
+    Knows kept stack →
+    Knows (record kept { arena = rs; graph = g; plain = p; roots = roots; dead = Some serial }) stack
+knows_dead stays kept rs g p roots stack serial e graph plain rooted empty k =
+    let t = taken_searched stays kept rs g p roots stack.table stack.assertions e graph plain rooted k.taken in record {
       taken = record {
         graph = t.graph;
         normals = t.normals;
@@ -587,8 +628,8 @@ knows_dead stays right kept rs g roots stack serial e graph rooted empty k =
 
 -- all of it grows
 pub taken_all : GraphStays → RightStays → (kept : Decider) (rs : List Regex) (g : Findings) (ks : List Known)
-    (ms : List Measure) (p : Memory) (ts : List Term) (xs : List code.Assertion) → Extends kept.arena rs → IsGraph rs g →
-    AreNormals ts rs ks → AreMeasures ts ms → IsRight rs p → IsTaken kept ts xs →
+    (ms : List Measure) (p : Memory) (ts : List Term) (xs : List code.Assertion) → Extends kept.arena rs →
+    IsGraph rs g → AreNormals ts rs ks → AreMeasures ts ms → IsRight rs p → IsTaken kept ts xs →
     IsTaken (record kept { arena = rs; graph = g; normals = ks; measures = ms; plain = p }) ts xs
 taken_all stays right kept rs g ks ms p ts xs e graph normals measures plain k =
     let t = taken_grown stays right kept rs ks ms ts xs e normals measures k in record {

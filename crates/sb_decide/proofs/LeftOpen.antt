@@ -1,14 +1,12 @@
--- A check that is left open: all constants are to have other words, so whatever words are found may be kept.
-use Rattle.std.proofs.Common.{◌≡◌, ℕ, zero, suc, ◌<◌, ◌≤◌, Bool, true, false, nat_lt, ◌==◌, if◌then◌else◌, List, [], ◌∷◌, length, Option, Some, None, refl, sym, ap, subst, ◌∙◌, arith}
-use Rattle.std.proofs.lemmas.Bool.{false≢true}
-use Rattle.std.proofs.lemmas.Bool.Decides.{nat_tests}
+-- A check that is left open: nothing is known of any constant's word, so whatever words are found may be kept.
+use Rattle.std.proofs.Common.{◌≡◌, ℕ, ◌<◌, ◌≤◌, Bool, true, false, nat_lt, List, [], length, Option, Some, None, refl, sym, ap, subst, ◌∙◌, arith}
+use Rattle.std.proofs.lemmas.Bool.{ltb-true, ltb-false}
+use Rattle.std.proofs.lemmas.Option.{none-some}
 use Rattle.std.specs.List.{All, list_all}
-use Rattle.std.proofs.lemmas.List.Elements.{All-head, All-tail}
 use Rattle.std.specs.declared.vec.Vec.{Vec}
 use Rattle.std.specs.Vec.{with_items}
-use Rattle.std.proofs.lemmas.List.{with_items_is}
+use Rattle.std.proofs.lemmas.List.{get_or_past, with_items_is}
 use Rattle.std.specs.declared.alloc.Global.{Global}
-use Rattle.sb_lang.specs.Least.{IsShortestLeast}
 use Rattle.sb_lang.specs.Regex.{Regex}
 use Rattle.sb_regex.specs.Numbered.{Extends}
 use Rattle.sb_graph.specs.Findings.{Findings, IsGraph}
@@ -31,31 +29,31 @@ use Rattle.sb_stack.specs.declared.verdict.Verdict.TheVariants as verdict
 use Rattle.sb_stack.proofs.CallerLemmas.{live_laid}
 use Rattle.sb_decide.specs.declared.conjuncts.Member.{Member}
 use Rattle.sb_decide.specs.declared.decide.Decider.{Decider}
-use Rattle.sb_decide.specs.Conjoined.{Conjoined, conjoined_at, OthersSettled, AreAllChanged}
-use Rattle.sb_decide.specs.Deciding.{in_each, word_at}
-use Rattle.sb_decide.specs.Knowing.{IsTaken, AreKept, Knows, MayBeKept, IsLeftOpen}
-use Rattle.sb_decide.specs.Members.{HasSerialBelow, ids_in, words_in}
+use Rattle.sb_decide.specs.Conjoined.{Conjoined, blank, conjoined_at, OthersSettled, AreAllForgotten}
+use Rattle.sb_decide.specs.Deciding.{word_at}
+use Rattle.sb_decide.specs.Knowing.{IsTaken, IsLeastOf, AreKept, Knows, MayBeKept, IsLeftOpen}
+use Rattle.sb_decide.specs.Members.{ids_in}
 use Rattle.sb_decide.specs.Taking.{HasAll}
-use Rattle.sb_decide.proofs.Conjunctions.{least_of_all}
+use Rattle.sb_decide.proofs.KeptWords.{least_of_none}
 use Rattle.sb_decide.proofs.Knowledge.{taken_all, knows_grown}
 use Rattle.sb_decide.proofs.OneMembership.{not_all_plain}
 use Rattle.sb_decide.proofs.TakingOver.{decided_live}
 
 -- Constants one by one.
 
--- the first so many are changed
-pub record AreChangedTo (count : ℕ) (old new : List Conjoined) : Type 0 where
+-- nothing is known of the words of the first so many
+pub record AreForgottenTo (count : ℕ) (old new : List Conjoined) : Type 0 where
   pub same_length : length new ≡ length old
   pub places : (n : ℕ) → (conjoined_at new n).places ≡ (conjoined_at old n).places
-  pub changed : (n : ℕ) → n < count → (conjoined_at new n).changed ≡ true
+  pub known : (n : ℕ) → n < count → (conjoined_at new n).known ≡ None
 
 -- All of them.
 
-pub taken_changed : (kept : Decider) (cs : Vec Conjoined Global) (ss : Vec Serial Global) (ts : List Term)
-    (xs : List code.Assertion) → AreAllChanged kept.constants.items cs.items → OthersSettled ss.items cs.items →
+pub taken_forgotten : (kept : Decider) (cs : Vec Conjoined Global) (ss : Vec Serial Global) (ts : List Term)
+    (xs : List code.Assertion) → AreAllForgotten kept.constants.items cs.items → OthersSettled ss.items cs.items →
     All (λ other. other.0 < length kept.constants.items) ss.items → IsTaken kept ts xs →
     IsTaken (record kept { constants = cs; changed = ss }) ts xs
-taken_changed kept cs ss ts xs all settled listed t = record {
+taken_forgotten kept cs ss ts xs all settled listed t = record {
   graph = t.graph;
   normals = t.normals;
   measures = t.measures;
@@ -70,37 +68,24 @@ taken_changed kept cs ss ts xs all settled listed t = record {
   dead = t.dead;
 }
 
-ids_none : (ms : List (Option Member)) (k n : ℕ) → All (HasSerialBelow k) ms → k ≤ n → ids_in ms n ≡ []
-ids_none [] k n h l = refl
-ids_none (None ∷ ms) k n h l = ids_none ms k n (All-tail (HasSerialBelow k) None ms h) l
-ids_none (Some m ∷ ms) k n h l =
-    let low : m.serial.0 < k = All-head (HasSerialBelow k) (Some m) ms h in
-    let other : (n == m.serial.0) ≡ false = grind (arith, nat_tests, low, l) in
-    ap (λ b. if b then m.regex ∷ ids_in ms n else ids_in ms n) other
-    ∙ ids_none ms k n (All-tail (HasSerialBelow k) (Some m) ms h) l
-
-word_past : (words : List (List ℕ)) (n : ℕ) → length words ≤ n → word_at words n ≡ []
-word_past [] n l = refl
-word_past (w ∷ words) zero l = absurd (omega (arith, l))
-word_past (w ∷ words) (suc n) l = word_past words n (omega (arith, l))
-
 -- whatever words are kept
 pub any_words : (rs : List Regex) (ms : List (Option Member)) (cs : List Conjoined) (words : List (List ℕ))
-    → ((n : ℕ) → n < length cs → (conjoined_at cs n).changed ≡ true) → All (HasSerialBelow (length cs)) ms
-    → are_words words ≡ true → length words ≤ length cs → AreKept rs ms cs words
-any_words rs ms cs words changed within characters few = record {
+    → ((n : ℕ) → n < length cs → (conjoined_at cs n).known ≡ None) → are_words words ≡ true
+    → length words ≤ length cs → AreKept rs ms cs words
+any_words rs ms cs words forgotten characters few = record {
   characters = characters;
   few = few;
-  least = λ n h. least_at n h (nat_lt n (length cs)) refl;
+  least = λ n k h. by_test n k h (nat_lt n (length cs)) refl;
 }
   where
-    least_at : (n : ℕ) → (conjoined_at cs n).changed ≡ false → (b : Bool) → nat_lt n (length cs) ≡ b
-        → IsShortestLeast (words_in rs ms n) (word_at words n)
-    least_at n h true e = absurd (false≢true (sym h ∙ changed n (grind (arith, nat_tests, e))))
-    least_at n h false e =
-        let past : length cs ≤ n = grind (arith, nat_tests, e) in
-        rw (word_past words n (omega (arith, few, past)), ids_none ms (length cs) n within past)
-        (least_of_all (in_each rs []) (λ w. refl))
+    by_test : (n k : ℕ) → (conjoined_at cs n).known ≡ Some k → (b : Bool) → nat_lt n (length cs) ≡ b
+        → IsLeastOf rs (ids_in ms n) k (word_at words n)
+    by_test n k h true t = absurd (none-some k (sym (forgotten n (ltb-true n (length cs) t)) ∙ h))
+    by_test n k h false t =
+        let past : length cs ≤ n = ltb-false n (length cs) t in
+        least_of_none rs (ids_in ms n) k (word_at words n)
+        (sym (ap (λ (c : Conjoined). c.known) (get_or_past cs n blank past)) ∙ h)
+        (get_or_past words n [] (omega (arith, few, past)))
 
 knows_any : (kept : Decider) (stack : Stacked) (v : Verdict) → IsTaken kept stack.table stack.assertions
     → ((words : List (List ℕ)) → are_words words ≡ true → length words ≤ length kept.constants.items →
@@ -133,32 +118,32 @@ not_plain_yet kept stack k more =
 pub left_open : (kept : Decider) (cs : Vec Conjoined Global) (ss : Vec Serial Global) (stack : Stacked)
     → Knows kept stack → HasAll kept stack → 0 < length kept.others.items
     → list_all (speaks_of (live_constants stack)) (live_terms (state_of stack)) ≡ true
-    → AreAllChanged kept.constants.items cs.items → OthersSettled ss.items cs.items
+    → AreAllForgotten kept.constants.items cs.items → OthersSettled ss.items cs.items
     → All (λ other. other.0 < length kept.constants.items) ss.items
     → IsLeftOpen (record kept { constants = cs; changed = ss }) stack
 left_open kept cs ss stack k has more named all settled listed =
-    let t = taken_changed kept cs ss stack.table stack.assertions all settled listed k.taken in record {
+    let t = taken_forgotten kept cs ss stack.table stack.assertions all settled listed k.taken in record {
       decided = decided_live kept stack k has;
       not_plain = not_plain_yet kept stack k more;
       all = has.0;
       named = named;
       taken = t;
       keeps = λ v may. knows_any (record kept { constants = cs; changed = ss }) stack v t
-          (λ words characters few. any_words kept.arena kept.members.items cs.items words all.changed t.within characters
-          few) (all.same_length ∙ has.1) k.words.characters (omega (arith, k.words.few, all.same_length)) may;
+          (λ words characters few. any_words kept.arena kept.members.items cs.items words all.known characters few)
+          (all.same_length ∙ has.1) k.words.characters (omega (arith, k.words.few, all.same_length)) may;
     }
 
 -- where constants were written over
 pub left_open_through : (kept : Decider) (now new : List Conjoined) (ss : Vec Serial Global) (stack : Stacked)
     → Knows kept stack → HasAll kept stack → 0 < length kept.others.items
     → list_all (speaks_of (live_constants stack)) (live_terms (state_of stack)) ≡ true → now ≡ kept.constants.items
-    → AreAllChanged now new → OthersSettled ss.items new → All (λ other. other.0 < length now) ss.items
+    → AreAllForgotten now new → OthersSettled ss.items new → All (λ other. other.0 < length now) ss.items
     → IsLeftOpen (record kept { constants = with_items kept.constants new; changed = ss }) stack
 left_open_through kept now new ss stack k has more named value all settled listed =
-    let changed : AreAllChanged kept.constants.items new = rw value at all in
-    let same = with_items_is kept.constants new (omega (arith, changed.same_length, kept.constants.ok.0)) in
+    let forgotten : AreAllForgotten kept.constants.items new = rw value at all in
+    let same = with_items_is kept.constants new (omega (arith, forgotten.same_length, kept.constants.ok.0)) in
     left_open kept (with_items kept.constants new) ss stack k has more named
-    (subst (AreAllChanged kept.constants.items) (sym same) changed)
+    (subst (AreAllForgotten kept.constants.items) (sym same) forgotten)
     (subst (OthersSettled ss.items) (sym same) settled) (rw value at listed)
 
 -- all of it grows
@@ -178,7 +163,8 @@ left_open_grown stays right kept rs g ks ms p stack e graph normals measures pla
     grown : (v : Verdict) → Knows kept (found v stack)
         → Knows (record kept { arena = rs; graph = g; normals = ks; measures = ms; plain = p }) (found v stack)
     grown (verdict.Sat words truths) k =
-        knows_grown stays right kept rs g ks ms p (found (verdict.Sat words truths) stack) e graph normals measures plain k
+        knows_grown stays right kept rs g ks ms p (found (verdict.Sat words truths) stack) e graph normals measures
+        plain k
     grown verdict.Unsat k =
         knows_grown stays right kept rs g ks ms p (found verdict.Unsat stack) e graph normals measures plain k
     grown verdict.Unknown k =

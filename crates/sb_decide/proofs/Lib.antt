@@ -8,6 +8,7 @@ pub mod RootFacts
 pub mod DefaultValues
 pub mod Verdicts
 pub mod Constants
+pub mod KeptWords
 pub mod Knowledge
 pub mod PlaceFacts
 pub mod KnownPlaces

@@ -1,8 +1,9 @@
 -- What was found of constants is taken over, and a verdict given.
-use Rattle.std.proofs.Common.{◌≡◌, ◌≢◌, ℕ, zero, suc, ◌+◌, ◌<◌, Bool, true, false, ◌||◌, ◌==◌, List, [], ◌∷◌, ◌++◌, length, get_or, set, map, take, refl, sym, ap, ap₂, ◌∙◌, arith, Option, None, Some, IfSome, is_some, vec_len, subst}
-use Rattle.std.proofs.lemmas.Bool.{or_parts, false≢true, eqb-true, eqb-false}
+use Rattle.std.proofs.Common.{◌≡◌, ◌≢◌, ℕ, zero, suc, ◌+◌, ◌<◌, Bool, true, false, ◌||◌, ◌==◌, List, [], ◌∷◌, ◌++◌, length, get_or, set, map, take, refl, sym, ap, ap₂, ◌∙◌, arith, Option, None, Some, IfSome, is_some, unwrap_or, vec_len, subst}
+use Rattle.std.proofs.lemmas.Bool.{or_parts, false≢true, eq-eqb, eqb-true, eqb-false}
 use Rattle.std.proofs.lemmas.Bool.Decides.{nat_tests}
-use Rattle.std.proofs.lemmas.List.{map-append, take_all, take_more, length-set, get_or-set_same, get_or-set_other, nil_from_length, with_items_is}
+use Rattle.std.proofs.lemmas.List.{map-append, take_all, take_more, length-set, nil_from_length, with_items_is}
+use Rattle.std.proofs.lemmas.Option.{same_Some}
 use Rattle.std.specs.Vec.{with_items}
 use Rattle.std.proofs.lemmas.List.Elements.{All-push}
 use Rattle.std.specs.List.{All, list_all}
@@ -18,7 +19,7 @@ use Rattle.sb_regex.specs.Numbered.{Extends, Names, regex_at, regexes_at}
 use Rattle.sb_regex.proofs.CallerLemmas.{names_below}
 use Rattle.sb_deriv.specs.Faithful.{KeepsEntries, entry_of}
 use Rattle.sb_graph.specs.Findings.{Findings, IsGraph}
-use Rattle.sb_plain.specs.Memory.{RightStays}
+use Rattle.sb_plain.specs.Memory.{Memory, IsRight}
 use Rattle.sb_problem.specs.Laws.{NormalsStay}
 use Rattle.sb_meaning.specs.Terms.{Term}
 use Rattle.sb_term.specs.declared.assertion.Assertion as code
@@ -33,30 +34,61 @@ use Rattle.sb_fragment.specs.Rules.{FragmentIsOfEach, is_decided}
 use Rattle.sb_decide.specs.declared.conjuncts.Member.{Member}
 use Rattle.sb_decide.specs.declared.decide.Decider.{Decider}
 use Rattle.sb_decide.specs.declared.decide.Found.{Found}
-use Rattle.sb_decide.specs.Conjoined.{Conjoined, conjoined_at, without_last, is_listed, OthersSettled, IsChangedAt}
+use Rattle.sb_decide.specs.Conjoined.{Conjoined, conjoined_at, with_place, without_place, all_known, is_settled, is_listed, OthersSettled, IsChangedAt}
 use Rattle.sb_decide.specs.Deciding.{IsSofar, AreFilled, word_at}
-use Rattle.sb_decide.specs.Knowing.{AreKept, Knows}
+use Rattle.sb_decide.specs.Knowing.{IsLeastOf, AreKept, Knows}
 use Rattle.sb_decide.specs.Members.{AreConjuncts, AreRooted, HasRegexBelow, IsEmptyAt, IsRootOf, ids_in, places_in, words_in}
 use Rattle.sb_decide.specs.Places.{is_member}
-use Rattle.sb_decide.specs.Taking.{HasAll, IsFoundOf, AreFound, IsTakingOver}
+use Rattle.sb_decide.specs.Taking.{HasAll, IsFoundAt, IsFoundOf, AreFound, IsTakingOver, with_word, word_of}
 use Rattle.sb_decide.proofs.Conjunctions.{same_least, same_no_word, in_root}
-use Rattle.sb_decide.proofs.Constants.{conjoined_within, conjoined_set, conjoined_set_other, words_set}
+use Rattle.sb_decide.proofs.Constants.{conjoined_within, conjoined_set, conjoined_set_other}
+use Rattle.sb_decide.proofs.KeptWords.{all_least, ids_long, known_all, length-with_word, settled_least, word_elsewhere, word_there, words_with}
 use Rattle.sb_decide.proofs.Knowledge.{taken_searched, kept_grown}
 use Rattle.sb_decide.proofs.MemberFacts.{words_grown}
 use Rattle.sb_decide.proofs.OneMembership.{members_alone, members_decided, sofar_of}
 use Rattle.sb_decide.proofs.Verdicts.{sat_given, unsat_given}
 
+-- what was found, over words that are the same
+found_filled : (rs : List Regex) (ms : List (Option Member)) (cs : List Conjoined) (words filled : List (List ℕ))
+    (f : Found) → ((n : ℕ) → word_at filled n ≡ word_at words n) → IsFoundOf rs ms cs words f
+    → IsFoundOf rs ms cs filled f
+found_filled rs ms cs words filled f same h = (
+  h.0,
+  subst (IsShortestLeast (words_in rs ms f.serial.0)) (ap (unwrap_or f.word) (sym (same f.serial.0))) h.1,
+)
+
+-- over words of which one is that of its constant
+found_put : (rs : List Regex) (ms : List (Option Member)) (cs : List Conjoined) (words put : List (List ℕ))
+    (place : ℕ) (f : Found) → ((n : ℕ) → n ≢ place → word_at put n ≡ word_at words n)
+    → IsShortestLeast (words_in rs ms place) (word_at put place) → IsFoundOf rs ms cs words f → IsFoundOf rs ms cs put f
+found_put rs ms cs words put place f others least h = (h.0, by_word f.word h.1)
+  where
+    by_test : (b : Bool) → (f.serial.0 == place) ≡ b
+        → IsShortestLeast (words_in rs ms f.serial.0) (word_at words f.serial.0)
+        → IsShortestLeast (words_in rs ms f.serial.0) (word_at put f.serial.0)
+    by_test true t l =
+        subst (λ n. IsShortestLeast (words_in rs ms n) (word_at put n)) (sym (eqb-true f.serial.0 place t)) least
+    by_test false t l =
+        subst (IsShortestLeast (words_in rs ms f.serial.0)) (sym (others f.serial.0 (eqb-false f.serial.0 place t))) l
+
+    by_word : (o : Option (List ℕ))
+        → IsShortestLeast (words_in rs ms f.serial.0) (unwrap_or o (word_at words f.serial.0))
+        → IsShortestLeast (words_in rs ms f.serial.0) (unwrap_or o (word_at put f.serial.0))
+    by_word None l = by_test (f.serial.0 == place) refl l
+    by_word (Some w) l = l
+
 pub starts : (rs : List Regex) (ms : List (Option Member)) (cs : List Conjoined) (changed : List Serial)
-    (fs : List Found) (words filled : List (List ℕ)) → OthersSettled changed cs → AreKept rs ms cs words →
-    AreFilled (length cs) words filled → AreFound rs ms cs changed fs → IsTakingOver rs ms cs cs filled fs
-starts rs ms cs changed fs words filled settled kept more found = record {
+    (fs : List Found) (words filled : List (List ℕ)) → OthersSettled changed cs
+    → ((n : ℕ) → (conjoined_at cs n).places ≡ places_in 0 n ms) → AreKept rs ms cs words →
+    AreFilled (length cs) words filled → AreFound rs ms cs words changed fs → IsTakingOver rs ms cs cs filled fs
+starts rs ms cs changed fs words filled settled places kept more found = record {
   same_length = refl;
   long = more.long;
   characters = more.characters kept.characters;
-  each = found.each;
+  each = λ k d l. found_filled rs ms cs words filled (get_or fs k d) more.same (found.each k d l);
   places = λ n. refl;
   settled = rw found.serials settled;
-  least = λ n h. rw (more.same n) (kept.least n h);
+  least = λ n h. rw (more.same n) (settled_least rs ms cs words n (places n) kept h);
 }
 
 last_of : (P : Found → Type 0) (fs : List Found) (one : Found) → All P (fs ++ one ∷ []) → P one
@@ -89,15 +121,17 @@ listed_more (f ∷ rest) one n h other =
     ap (λ b. b || is_listed (map (λ g. g.serial) (rest ++ one ∷ [])) n) parts.0 ∙ listed_more rest one n parts.1 other
 
 pub goes_on : (rs : List Regex) (ms : List (Option Member)) (old new new' : List Conjoined)
-    (words words' : List (List ℕ)) (fs rest : List Found) (one : Found) (c : Conjoined) → IsTakingOver rs ms old new words fs →
-    fs ≡ rest ++ one ∷ [] → c ≡ get_or new one.serial.0 c →
-    new' ≡ set new one.serial.0 (record { places = c.places; changed = false }) →
-    words' ≡ set words one.serial.0 one.word → IsTakingOver rs ms old new' words' rest
+    (words words' : List (List ℕ)) (fs rest : List Found) (one : Found) (c : Conjoined)
+    → IsTakingOver rs ms old new words fs → fs ≡ rest ++ one ∷ [] → c ≡ get_or new one.serial.0 c →
+    new' ≡ set new one.serial.0 (all_known c) → words' ≡ with_word words one.serial.0 one.word →
+    IsTakingOver rs ms old new' words' rest
 goes_on rs ms old new new' words words' fs rest one c t is there grown given = rw (grown, given) (record {
-  same_length = length-set new place settled_one ∙ t.same_length;
-  long = length-set words place one.word ∙ t.long;
-  characters = words_set words place one.word t.characters this.1.word;
-  each = front_of (IsFoundOf rs ms old) rest one (rw is at t.each);
+  same_length = length-set new place (all_known c) ∙ t.same_length;
+  long = length-with_word words place one.word ∙ t.long;
+  characters = words_with words place one.word t.characters this.1.word;
+  each = λ k d l. found_put rs ms old words (with_word words place one.word) place (get_or rest k d)
+      (λ n h. word_elsewhere words place n one.word h) least_here
+      (front_of (IsFoundOf rs ms old words) rest one (rw is at t.each) k d l);
   places = λ n. places_at n (n == place) refl;
   settled = λ n h. settled_at n h (n == place) refl;
   least = λ n h. least_at n h (n == place) refl;
@@ -106,47 +140,48 @@ goes_on rs ms old new new' words words' fs rest one c t is there grown given = r
     place : ℕ
     place = one.serial.0
 
-    settled_one : Conjoined
-    settled_one = record { places = c.places; changed = false }
+    this : IsFoundOf rs ms old words one
+    this = last_of (IsFoundOf rs ms old words) rest one (rw is at t.each)
 
-    this : IsFoundOf rs ms old one
-    this = last_of (IsFoundOf rs ms old) rest one (rw is at t.each)
+    here : conjoined_at (set new place (all_known c)) place ≡ all_known c
+    here = conjoined_set new place (all_known c) (omega (arith, this.0, t.same_length))
 
-    here : conjoined_at (set new place settled_one) place ≡ settled_one
-    here = conjoined_set new place settled_one (omega (arith, this.0, t.same_length))
+    least_here : IsShortestLeast (words_in rs ms place) (word_at (with_word words place one.word) place)
+    least_here = subst (IsShortestLeast (words_in rs ms place))
+        (sym (word_there words place one.word (omega (arith, this.0, t.long)))) this.1
 
     places_at : (n : ℕ) (b : Bool) → (n == place) ≡ b
-        → (conjoined_at (set new place settled_one) n).places ≡ (conjoined_at old n).places
+        → (conjoined_at (set new place (all_known c)) n).places ≡ (conjoined_at old n).places
     places_at n true k =
         let e : n ≡ place = eqb-true n place k in
-        ap (λ m. (conjoined_at (set new place settled_one) m).places) e
+        ap (λ m. (conjoined_at (set new place (all_known c)) m).places) e
         ∙ (ap (λ (x : Conjoined). x.places) here
         ∙ (sym (ap (λ (x : Conjoined). x.places) (conjoined_within new place c
         (omega (arith, this.0, t.same_length)) there))
         ∙ (t.places place ∙ ap (λ m. (conjoined_at old m).places) (sym e))))
     places_at n false k =
-        ap (λ (x : Conjoined). x.places) (conjoined_set_other new place n settled_one (eqb-false n place k))
+        ap (λ (x : Conjoined). x.places) (conjoined_set_other new place n (all_known c) (eqb-false n place k))
         ∙ t.places n
 
     settled_at : (n : ℕ) → is_listed (map (λ f. f.serial) rest) n ≡ false → (b : Bool) → (n == place) ≡ b
-        → (conjoined_at (set new place settled_one) n).changed ≡ false
+        → is_settled (conjoined_at (set new place (all_known c)) n) ≡ true
     settled_at n h true k =
-        ap (λ m. (conjoined_at (set new place settled_one) m).changed) (eqb-true n place k)
-        ∙ ap (λ (c : Conjoined). c.changed) here
+        ap (λ m. is_settled (conjoined_at (set new place (all_known c)) m)) (eqb-true n place k)
+        ∙ (ap is_settled here ∙ eq-eqb (length c.places) (length c.places) refl)
     settled_at n h false k =
         let e : n ≢ place = eqb-false n place k in
-        ap (λ (c : Conjoined). c.changed) (conjoined_set_other new place n settled_one e)
+        ap is_settled (conjoined_set_other new place n (all_known c) e)
         ∙ t.settled n (ap (λ xs. is_listed (map (λ f. f.serial) xs) n) is ∙ listed_more rest one n h e)
 
-    least_at : (n : ℕ) → (conjoined_at (set new place settled_one) n).changed ≡ false → (b : Bool) → (n == place) ≡ b
-        → IsShortestLeast (words_in rs ms n) (word_at (set words place one.word) n)
+    least_at : (n : ℕ) → is_settled (conjoined_at (set new place (all_known c)) n) ≡ true → (b : Bool)
+        → (n == place) ≡ b → IsShortestLeast (words_in rs ms n) (word_at (with_word words place one.word) n)
     least_at n h true k =
-        let e : n ≡ place = eqb-true n place k in
-        rw e (rw (get_or-set_same words place one.word [] (omega (arith, this.0, t.long))) this.1)
+        subst (λ m. IsShortestLeast (words_in rs ms m) (word_at (with_word words place one.word) m))
+        (sym (eqb-true n place k)) least_here
     least_at n h false k =
         let e : n ≢ place = eqb-false n place k in
-        rw (get_or-set_other words place n one.word [] e)
-        (t.least n (sym (ap (λ (c : Conjoined). c.changed) (conjoined_set_other new place n settled_one e)) ∙ h))
+        subst (IsShortestLeast (words_in rs ms n)) (sym (word_elsewhere words place n one.word e))
+        (t.least n (sym (ap is_settled (conjoined_set_other new place n (all_known c) e)) ∙ h))
 
 -- all is taken over
 least_over : (rs : List Regex) (ms : List (Option Member)) (old new : List Conjoined) (words : List (List ℕ))
@@ -210,55 +245,73 @@ dead_given law words kept stack k all dead named fit = by_cases kept.dead dead k
         (all_sofar words kept stack k all) (decided_live kept stack k all) named (fit [] [] refl) h
 
 -- the arena and the graph grow on the way
-searched : NormalsStay → RightStays → (kept : Decider) (rs : List Regex) (g : Findings) (roots : Vec (Option ℕ) Global)
-    (stack : Stacked) → Knows kept stack → Extends kept.arena rs → IsGraph rs g →
-    AreRooted rs kept.members.items roots.items →
-    Knows (record kept { arena = rs; graph = g; roots = roots }) stack
-searched stays right kept rs g roots stack k e graph rooted = record {
-  taken = taken_searched stays right kept rs g roots stack.table stack.assertions e graph rooted k.taken;
+searched : NormalsStay → (kept : Decider) (rs : List Regex) (g : Findings) (p : Memory)
+    (roots : Vec (Option ℕ) Global) (stack : Stacked) → Knows kept stack → Extends kept.arena rs → IsGraph rs g →
+    IsRight rs p → AreRooted rs kept.members.items roots.items →
+    Knows (record kept { arena = rs; graph = g; plain = p; roots = roots }) stack
+searched stays kept rs g p roots stack k e graph plain rooted = record {
+  taken = taken_searched stays kept rs g p roots stack.table stack.assertions e graph plain rooted k.taken;
   words = kept_grown kept.arena rs kept.members.items kept.constants.items stack.words e k.taken.rooted.numbers k.words;
   declared = k.declared;
 }
 
-pub unsat_found : FragmentIsOfEach → NormalHasTermsWords → NormalsStay → RightStays → (kept : Decider) (rs : List Regex)
-    (g : Findings) (roots : Vec (Option ℕ) Global) (stack : Stacked) (n : ℕ) → Knows kept stack → HasAll kept stack →
-    Extends kept.arena rs → IsGraph rs g → AreRooted rs kept.members.items roots.items →
+pub unsat_found : FragmentIsOfEach → NormalHasTermsWords → NormalsStay → (kept : Decider) (rs : List Regex)
+    (g : Findings) (p : Memory) (roots : Vec (Option ℕ) Global) (stack : Stacked) (n : ℕ) → Knows kept stack →
+    HasAll kept stack → Extends kept.arena rs → IsGraph rs g → IsRight rs p →
+    AreRooted rs kept.members.items roots.items →
     IsEmptyAt rs kept.members.items n → Named stack → Fit stack → IsVerdict (state_of stack) [] (is_unsat [])
-unsat_found law words stays right kept rs g roots stack n k all e graph rooted empty named fit =
+unsat_found law words stays kept rs g p roots stack n k all e graph plain rooted empty named fit =
     unsat_given law rs (state_of stack) (live_constants stack) (ids_in kept.members.items) n
-    (all_sofar words (record kept { arena = rs; graph = g; roots = roots }) stack
-    (searched stays right kept rs g roots stack k e graph rooted) all) (decided_live kept stack k all) named
+    (all_sofar words (record kept { arena = rs; graph = g; plain = p; roots = roots }) stack
+    (searched stays kept rs g p roots stack k e graph plain rooted) all) (decided_live kept stack k all) named
     (fit [] [] refl) empty
 
-pub sat_found : FragmentIsOfEach → NormalHasTermsWords → NormalsStay → RightStays → (kept : Decider) (rs : List Regex)
-    (g : Findings) (roots : Vec (Option ℕ) Global) (stack : Stacked) (new : List Conjoined) (words : List (List ℕ)) →
-    Knows kept stack → HasAll kept stack → kept.others.items ≡ [] → Extends kept.arena rs → IsGraph rs g →
-    AreRooted rs kept.members.items roots.items →
+pub sat_found : FragmentIsOfEach → NormalHasTermsWords → NormalsStay → (kept : Decider) (rs : List Regex)
+    (g : Findings) (p : Memory) (roots : Vec (Option ℕ) Global) (stack : Stacked) (new : List Conjoined)
+    (words : List (List ℕ)) → Knows kept stack → HasAll kept stack → kept.others.items ≡ [] → Extends kept.arena rs →
+    IsGraph rs g → IsRight rs p → AreRooted rs kept.members.items roots.items →
     IsTakingOver rs kept.members.items kept.constants.items new words [] →
     Named stack → Fit stack → IsVerdict (state_of stack) [] (is_sat (values_at (live_constants stack) words []))
-sat_found law terms stays right kept rs g roots stack new words k all alone e graph rooted over named fit =
+sat_found law terms stays kept rs g p roots stack new words k all alone e graph plain rooted over named fit =
     sat_given law rs (state_of stack) (live_constants stack) (ids_in kept.members.items) words
-    (all_sofar terms (record kept { arena = rs; graph = g; roots = roots }) stack
-    (searched stays right kept rs g roots stack k e graph rooted) all) (decided_live kept stack k all)
+    (all_sofar terms (record kept { arena = rs; graph = g; plain = p; roots = roots }) stack
+    (searched stays kept rs g p roots stack k e graph plain rooted) all) (decided_live kept stack k all)
     (members_live kept stack k all alone) named (fit words [] over.characters)
     (least_over rs kept.members.items kept.constants.items new words over)
 
-pub knows_over : NormalsStay → RightStays → (kept new : Decider) (stack : Stacked) (words : List (List ℕ))
+-- all words are known then
+kept_over : (rs : List Regex) (ms : List (Option Member)) (old new : List Conjoined) (words : List (List ℕ))
+    → ((n : ℕ) → (conjoined_at old n).places ≡ places_in 0 n ms) → IsTakingOver rs ms old new words []
+    → AreKept rs ms new words
+kept_over rs ms old new words places over = record {
+  characters = over.characters;
+  few = omega (arith, over.long, over.same_length);
+  least = λ n k h. all_least rs (ids_in ms n) k (word_at words n) (long n k h) (least_over rs ms old new words over n);
+}
+  where
+    long : (n k : ℕ) → (conjoined_at new n).known ≡ Some k → k ≡ length (ids_in ms n)
+    long n k h =
+        same_Some k (length (conjoined_at new n).places)
+        (sym h
+        ∙ known_all (length (conjoined_at new n).places) (conjoined_at new n).known (over.settled n refl))
+        ∙ (ap length (over.places n ∙ places n) ∙ ids_long ms n)
+
+pub knows_over : NormalsStay → (kept new : Decider) (stack : Stacked) (words : List (List ℕ))
     (truths : List Bool) (m : Mode) → Knows kept stack → Extends kept.arena new.arena → IsGraph new.arena new.graph →
-    AreRooted new.arena kept.members.items new.roots.items →
+    IsRight new.arena new.plain → AreRooted new.arena kept.members.items new.roots.items →
     IsTakingOver new.arena kept.members.items kept.constants.items new.constants.items words [] →
     new.members ≡ kept.members → new.normals ≡ kept.normals → new.measures ≡ kept.measures →
-    new.plain ≡ kept.plain → new.others ≡ kept.others → length new.changed.items ≡ 0 → new.dead ≡ kept.dead →
+    new.others ≡ kept.others → length new.changed.items ≡ 0 → new.dead ≡ kept.dead →
     Knows new (record stack { mode = m; words = words; truths = truths })
-knows_over stays right kept new stack words truths m k e graph rooted over members normals measures plain others changed
-    dead =
-    let t = taken_searched stays right kept new.arena new.graph new.roots stack.table stack.assertions e graph rooted k.taken
-    in record {
+knows_over stays kept new stack words truths m k e graph plain rooted over members normals measures others changed dead
+    =
+    let t = taken_searched stays kept new.arena new.graph new.plain new.roots stack.table stack.assertions e graph plain
+    rooted k.taken in record {
       taken = record {
         graph = graph;
         normals = rw normals t.normals;
         measures = rw measures t.measures;
-        plain = rw plain t.plain;
+        plain = plain;
         members = rw members t.members;
         rooted = rw members rooted;
         within = rw (members, over.same_length) t.within;
@@ -268,45 +321,54 @@ knows_over stays right kept new stack words truths m k e graph rooted over membe
         listed = λ i d l. absurd (omega (arith, l, changed));
         dead = rw (dead, members) t.dead;
       };
-      words = record {
-        characters = over.characters;
-        few = omega (arith, over.long, over.same_length);
-        least = λ n h. rw members (least_over new.arena kept.members.items kept.constants.items new.constants.items
-            words over n);
-      };
+      words = rw members
+          (kept_over new.arena kept.members.items kept.constants.items new.constants.items words k.taken.places over);
       declared = omega (arith, k.declared, over.same_length);
     }
 
 -- what was found, in an arena that grows
-found_grown : (rs new : List Regex) (ms : List (Option Member)) (cs : List Conjoined) (f : Found) → Extends rs new
-    → All (HasRegexBelow (length rs)) ms → IsFoundOf rs ms cs f → IsFoundOf new ms cs f
-found_grown rs new ms cs f e known h = (
+found_grown : (rs new : List Regex) (ms : List (Option Member)) (cs : List Conjoined) (words : List (List ℕ))
+    (f : Found) → Extends rs new → All (HasRegexBelow (length rs)) ms → IsFoundOf rs ms cs words f
+    → IsFoundOf new ms cs words f
+found_grown rs new ms cs words f e known h = (
   h.0,
-  same_least (words_in rs ms f.serial.0) (words_in new ms f.serial.0) f.word
+  same_least (words_in rs ms f.serial.0) (words_in new ms f.serial.0) (word_of words f)
       (λ w _. words_grown rs new ms f.serial.0 w e known) h.1,
 )
 
 -- what was found of the next of these constants
-pub found_next : (rs new : List Regex) (ms : List (Option Member)) (cs : List Conjoined) (changed : List Serial) (i : ℕ)
-    (d : Serial) (fs fs' : List Found) (one : Found) → AreFound rs ms cs (take i changed) fs → Extends rs new →
-    All (HasRegexBelow (length rs)) ms → i < length changed → All (λ serial. serial.0 < length cs) changed →
-    one.serial ≡ get_or changed i d → IsShortestLeast (words_in new ms one.serial.0) one.word →
-    fs' ≡ fs ++ one ∷ [] → AreFound new ms cs (take (i + 1) changed) fs'
-found_next rs new ms cs changed i d fs fs' one a e known l listed same least more = rw more (record {
-  each = All-push (IsFoundOf new ms cs) fs one
-      (λ k b m. found_grown rs new ms cs (get_or fs k b) e known (a.each k b m))
-      (rw same (listed i d l), least);
-  serials = map-append (λ found. found.serial) fs (one ∷ [])
+pub found_next : (rs new : List Regex) (ms : List (Option Member)) (cs : List Conjoined) (words : List (List ℕ))
+    (changed : List Serial) (i : ℕ) (d : Serial) (fs fs' : List Found) (one : Found)
+    → AreFound rs ms cs words (take i changed) fs → Extends rs new → All (HasRegexBelow (length rs)) ms →
+    i < length changed → All (λ serial. serial.0 < length cs) changed →
+    IsFoundAt new ms words (get_or changed i d) one → fs' ≡ fs ++ one ∷ [] →
+    AreFound new ms cs words (take (i + 1) changed) fs'
+found_next rs new ms cs words changed i d fs fs' one a e known l listed found more = rw more (record {
+  each = All-push (IsFoundOf new ms cs words) fs one
+      (λ k b m. found_grown rs new ms cs words (get_or fs k b) e known (a.each k b m))
+      (rw found.0 (listed i d l), found.1);
+  serials = map-append (λ f. f.serial) fs (one ∷ [])
       ∙ (ap (λ xs. xs ++ one.serial ∷ []) a.serials
-      ∙ (ap (λ s. take i changed ++ s ∷ []) same ∙ sym (take_more changed i d l)));
+      ∙ (ap (λ s. take i changed ++ s ∷ []) found.0 ∙ sym (take_more changed i d l)));
 })
 
--- the places of one of these constants
-pub places_here : (ms : List (Option Member)) (cs : List Conjoined) (n : ℕ) (c : Conjoined)
-    → ((m : ℕ) → (conjoined_at cs m).places ≡ places_in 0 m ms) → n < length cs → c ≡ get_or cs n c
-    → c.places ≡ places_in 0 n ms
-places_here ms cs n c places l there =
-    ap (λ (x : Conjoined). x.places) (sym (conjoined_within cs n c l there)) ∙ places n
+-- the places of one of these constants, and what is known of its word
+pub places_listed : (ms : List (Option Member)) (cs : List Conjoined) (changed : List Serial) (i : ℕ) (d : Serial)
+    (c : Conjoined) → ((n : ℕ) → (conjoined_at cs n).places ≡ places_in 0 n ms)
+    → All (λ serial. serial.0 < length cs) changed → i < length changed → c ≡ get_or cs (get_or changed i d).0 c
+    → c.places ≡ places_in 0 (get_or changed i d).0 ms
+places_listed ms cs changed i d c places listed l there =
+    ap (λ (x : Conjoined). x.places) (sym (conjoined_within cs (get_or changed i d).0 c (listed i d l) there))
+    ∙ places (get_or changed i d).0
+
+pub kept_listed : (rs new : List Regex) (ms : List (Option Member)) (cs : List Conjoined) (words : List (List ℕ))
+    (changed : List Serial) (i : ℕ) (d : Serial) (c : Conjoined) → Extends rs new → All (HasRegexBelow (length rs)) ms
+    → AreKept rs ms cs words → All (λ serial. serial.0 < length cs) changed → i < length changed
+    → c ≡ get_or cs (get_or changed i d).0 c → (k : ℕ) → c.known ≡ Some k
+    → IsLeastOf new (ids_in ms (get_or changed i d).0) k (word_at words (get_or changed i d).0)
+kept_listed rs new ms cs words changed i d c e known kept listed l there k h =
+    (kept_grown rs new ms cs words e known kept).least (get_or changed i d).0 k
+    (ap (λ (x : Conjoined). x.known) (conjoined_within cs (get_or changed i d).0 c (listed i d l) there) ∙ h)
 
 -- the intersection of the regexes that stand for a constant's memberships
 pub root_found : MkandKeepsLanguage → IntersectionIsOfEach → (old mid : List Regex) (ms : List (Option Member)) (n : ℕ)
@@ -330,8 +392,8 @@ root_made keeps each old mid ms n places roots now ids used root same given is r
 
 -- its word, and that it has none
 pub word_found : (mid new : List Regex) (ms : List (Option Member)) (n root : ℕ) (word : List ℕ)
-    → IsRootOf mid ms n root → Extends mid new → All (HasRegexBelow (length mid)) ms → IsShortestLeast (language (regex_at mid root)) word
-    → IsShortestLeast (words_in new ms n) word
+    → IsRootOf mid ms n root → Extends mid new → All (HasRegexBelow (length mid)) ms
+    → IsShortestLeast (language (regex_at mid root)) word → IsShortestLeast (words_in new ms n) word
 word_found mid new ms n root word is e known least =
     same_least (language (regex_at mid root)) (words_in new ms n) word
     (λ w _. words_grown mid new ms n w e known ∙ is.same w) least
@@ -358,39 +420,39 @@ pub over_all : (rs : List Regex) (ms : List (Option Member)) (old new : List Con
 over_all rs ms old new words fs none t = rw (nil_from_length fs none) at t
 
 -- a vector whose elements were written over
-pub put_through : (v : Vec Conjoined Global) (now new : List Conjoined) (serial : ℕ) (places : List ℕ) → now ≡ v.items
-    → IsChangedAt now new serial places → IsChangedAt v.items (with_items v new).items serial places
-put_through v now new serial places value p =
-    let q : IsChangedAt v.items new serial places = rw value at p in
-    subst (λ cs. IsChangedAt v.items cs serial places)
+put_through : (v : Vec Conjoined Global) (now new : List Conjoined) (serial : ℕ) (c : Conjoined) → now ≡ v.items
+    → IsChangedAt now new serial c → IsChangedAt v.items (with_items v new).items serial c
+put_through v now new serial c value p =
+    let q : IsChangedAt v.items new serial c = rw value at p in
+    subst (λ cs. IsChangedAt v.items cs serial c)
     (sym (with_items_is v new (omega (arith, q.same_length, v.ok.0)))) q
 
 pub put_here : (v : Vec Conjoined Global) (now new : List Conjoined) (serial i k : ℕ) → now ≡ v.items → i ≡ k
-    → IsChangedAt now new serial ((conjoined_at now serial).places ++ i ∷ [])
-    → IsChangedAt v.items (with_items v new).items serial ((conjoined_at v.items serial).places ++ k ∷ [])
+    → IsChangedAt now new serial (with_place i (conjoined_at now serial))
+    → IsChangedAt v.items (with_items v new).items serial (with_place k (conjoined_at v.items serial))
 put_here v now new serial i k value same p =
     subst (IsChangedAt v.items (with_items v new).items serial)
-    (ap₂ (λ cs j. (conjoined_at cs serial).places ++ j ∷ []) value same) (put_through v now new serial _ value p)
+    (ap₂ (λ cs j. with_place j (conjoined_at cs serial)) value same) (put_through v now new serial _ value p)
 
 pub back_here : (v : Vec Conjoined Global) (now new : List Conjoined) (serial : ℕ) → now ≡ v.items
-    → IsChangedAt now new serial (without_last (conjoined_at now serial).places)
-    → IsChangedAt v.items (with_items v new).items serial (without_last (conjoined_at v.items serial).places)
+    → IsChangedAt now new serial (without_place (conjoined_at now serial))
+    → IsChangedAt v.items (with_items v new).items serial (without_place (conjoined_at v.items serial))
 back_here v now new serial value p =
     subst (IsChangedAt v.items (with_items v new).items serial)
-    (ap (λ cs. without_last (conjoined_at cs serial).places) value) (put_through v now new serial _ value p)
+    (ap (λ cs. without_place (conjoined_at cs serial)) value) (put_through v now new serial _ value p)
 
-pub settled_through : (v : Vec Conjoined Global) (now new : List Conjoined) (serial : ℕ) (places : List ℕ)
-    (changed : List Serial) → now ≡ v.items → IsChangedAt now new serial places → OthersSettled changed new →
+pub settled_through : (v : Vec Conjoined Global) (now new : List Conjoined) (serial : ℕ) (c : Conjoined)
+    (changed : List Serial) → now ≡ v.items → IsChangedAt now new serial c → OthersSettled changed new →
     OthersSettled changed (with_items v new).items
-settled_through v now new serial places changed value p settled =
-    let q : IsChangedAt v.items new serial places = rw value at p in
+settled_through v now new serial c changed value p settled =
+    let q : IsChangedAt v.items new serial c = rw value at p in
     subst (OthersSettled changed) (sym (with_items_is v new (omega (arith, q.same_length, v.ok.0)))) settled
 
 -- what a check with a model makes of what is known
 pub over_of : (kept : Decider) (rs : List Regex) (stack : Stacked) (fs : List Found) (count : ℕ)
     (given filled : List (List ℕ)) (cs new : List Conjoined) (before after : List (List ℕ)) → Knows kept stack →
     HasAll kept stack → Extends kept.arena rs →
-    AreFound rs kept.members.items kept.constants.items kept.changed.items fs →
+    AreFound rs kept.members.items kept.constants.items stack.words kept.changed.items fs →
     given ≡ stack.words → count ≡ length stack.scope.sorts → AreFilled count given filled → cs ≡ kept.constants.items →
     before ≡ filled →
     ((ts : List Regex) (ms : List (Option Member)) → IsTakingOver ts ms cs cs before fs
@@ -401,6 +463,7 @@ over_of kept rs stack fs count given filled cs new before after k all e found sa
     let long : count ≡ length kept.constants.items = same_count ∙ sym all.1 in
     let begun : IsTakingOver rs kept.members.items kept.constants.items kept.constants.items filled fs =
     starts rs kept.members.items kept.constants.items kept.changed.items fs stack.words filled k.taken.settled
+    k.taken.places
     (kept_grown kept.arena rs kept.members.items kept.constants.items stack.words e k.taken.rooted.numbers k.words)
     (rw (same_words, long) at more) found in
     let there = over rs kept.members.items in
@@ -420,6 +483,5 @@ pub same_memo : (old new : Findings) → new ≡ old → KeepsEntries old.memo n
 same_memo old new same n pieces h = ap (λ (g : Findings). entry_of g.memo n) same ∙ h
 
 -- a constant whose word is found
-pub settles : (there c new : Conjoined) → new ≡ record there { changed = false } → c ≡ there
-    → new ≡ record { places = c.places; changed = false }
+pub settles : (there c new : Conjoined) → new ≡ all_known there → c ≡ there → new ≡ all_known c
 settles there c new is same = rw same is

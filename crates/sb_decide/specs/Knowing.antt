@@ -1,5 +1,5 @@
 -- What is known of a script's assertions so far.
-use Rattle.std.specs.Prelude.{◌≡◌, ℕ, ◌≤◌, ◌<◌, true, false, List, length, Option, IfSome, IsSome}
+use Rattle.std.specs.Prelude.{◌≡◌, ℕ, ◌≤◌, ◌<◌, true, false, List, length, take, Option, Some, IfSome, IsSome}
 use Rattle.std.specs.List.{All, list_all}
 use Rattle.sb_lang.specs.Regex.{Regex}
 use Rattle.sb_lang.specs.Least.{IsShortestLeast}
@@ -19,8 +19,8 @@ use Rattle.sb_stack.specs.declared.verdict.Verdict.{Verdict}
 use Rattle.sb_stack.specs.declared.verdict.Verdict.TheVariants as verdict
 use Rattle.sb_decide.specs.declared.decide.Decider.{Decider}
 use Rattle.sb_decide.specs.Conjoined.{Conjoined, conjoined_at, OthersSettled}
-use Rattle.sb_decide.specs.Deciding.{word_at}
-use Rattle.sb_decide.specs.Members.{AreMembers, AreRooted, HasSerialBelow, IsEmptyAt, words_in, places_in, other_places}
+use Rattle.sb_decide.specs.Deciding.{in_each, word_at}
+use Rattle.sb_decide.specs.Members.{AreMembers, AreRooted, HasSerialBelow, IsEmptyAt, ids_in, places_in, other_places}
 use Rattle.sb_decide.specs.declared.conjuncts.Member.{Member}
 
 -- the places of a constant's memberships
@@ -42,13 +42,18 @@ pub record IsTaken (kept : Decider) (ts : List Term) (assertions : List Assertio
   pub listed : All (λ serial. serial.0 < length kept.constants.items) kept.changed.items
   pub dead : IfSome kept.dead (λ serial. IsEmptyAt kept.arena kept.members.items serial.0)
 
--- The words that are kept of constants whose memberships are those of the last check.
+-- The word is the least one of so many first regexes.
+pub record IsLeastOf (rs : List Regex) (ids : List ℕ) (k : ℕ) (w : List ℕ) : Type 0 where
+  pub within : k ≤ length ids
+  pub least : IsShortestLeast (in_each rs (take k ids)) w
+
+-- The words that are kept, each the least one of the memberships that it is known of.
 pub record AreKept (rs : List Regex) (ms : List (Option Member)) (cs : List Conjoined) (words : List (List ℕ))
     : Type 0
   where
     pub characters : are_words words ≡ true
     pub few : length words ≤ length cs
-    pub least : (n : ℕ) → (conjoined_at cs n).changed ≡ false → IsShortestLeast (words_in rs ms n) (word_at words n)
+    pub least : (n k : ℕ) → (conjoined_at cs n).known ≡ Some k → IsLeastOf rs (ids_in ms n) k (word_at words n)
 
 -- All of it, of a state.
 pub record Knows (kept : Decider) (stack : Stacked) : Type 0 where

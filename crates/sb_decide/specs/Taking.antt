@@ -1,17 +1,18 @@
 -- Private: what a check does on its way.
-use Rattle.std.specs.Prelude.{◌≡◌, ℕ, ◌<◌, ◌==◌, true, false, if◌then◌else◌, List, length, map, Option, Some, None}
+use Rattle.std.specs.Prelude.{◌≡◌, ℕ, ◌<◌, ◌==◌, true, if◌then◌else◌, List, length, map, set, slice_index_or, Option, Some, None, unwrap_or}
 use Rattle.std.specs.List.{All}
 use Rattle.sb_lang.specs.Regex.{Regex}
 use Rattle.sb_lang.specs.Least.{IsShortestLeast}
+use Rattle.sb_regex.specs.Numbered.{AllNumbers}
 use Rattle.sb_term.specs.declared.term.Serial.{Serial}
 use Rattle.sb_stack.specs.Stacked.{Stacked, are_words}
 use Rattle.sb_decide.specs.declared.conjuncts.Member.{Member}
 use Rattle.sb_decide.specs.declared.decide.Decider.{Decider}
 use Rattle.sb_decide.specs.declared.decide.Found.{Found}
 use Rattle.sb_decide.specs.declared.decide.Words.{Words}
-use Rattle.sb_decide.specs.declared.decide.Words.TheVariants as words
-use Rattle.sb_decide.specs.Conjoined.{Conjoined, conjoined_at, OthersSettled}
-use Rattle.sb_decide.specs.Deciding.{word_at}
+use Rattle.sb_decide.specs.declared.decide.Words.TheVariants as searched
+use Rattle.sb_decide.specs.Conjoined.{Conjoined, conjoined_at, is_settled, OthersSettled}
+use Rattle.sb_decide.specs.Deciding.{in_each, word_at}
 use Rattle.sb_decide.specs.Members.{IsEmptyAt, words_in}
 use Rattle.sb_decide.specs.Knowing.{AreKept}
 
@@ -31,22 +32,51 @@ abbrev pub other_dead : Option Serial → ℕ → Option Serial
 other_dead None n = None
 other_dead (Some dead) n = if dead.0 == n then None else Some dead
 
+-- the words with this one at the place, or as they are
+abbrev pub with_word : List (List ℕ) → ℕ → Option (List ℕ) → List (List ℕ)
+with_word words place None = words
+with_word words place (Some w) = set words place w
+
+-- the number of a membership's regex
+abbrev pub id_of : Option Member → ℕ
+id_of None = 0
+id_of (Some m) = m.regex
+
+-- the numbers of the regexes at these places
+abbrev pub ids_at : List (Option Member) → List ℕ → List ℕ
+ids_at ms places = map (λ place. id_of (slice_index_or ms place None)) places
+
+-- The word is in the regexes of the memberships at these places.
+pub record IsInEach (rs : List Regex) (ms : List (Option Member)) (places w : List ℕ) : Type 0 where
+  pub known : AllNumbers rs (ids_at ms places)
+  pub all : in_each rs (ids_at ms places) w ≡ true
+
+-- the word that a constant has by what was found of it, where these are kept
+abbrev pub word_of : List (List ℕ) → Found → List ℕ
+word_of words found = unwrap_or found.word (word_at words found.serial.0)
+
+-- what was found is of this constant, and gives it its least word
+abbrev pub IsFoundAt : List Regex → List (Option Member) → List (List ℕ) → Serial → Found → Type 0
+IsFoundAt rs ms words serial found =
+    (found.serial ≡ serial) × IsShortestLeast (words_in rs ms found.serial.0) (word_of words found)
+
 -- what was found of a constant
-abbrev pub IsFoundOf : List Regex → List (Option Member) → List Conjoined → Found → Type 0
-IsFoundOf rs ms cs found =
-    (found.serial.0 < length cs) × IsShortestLeast (words_in rs ms found.serial.0) found.word
+abbrev pub IsFoundOf : List Regex → List (Option Member) → List Conjoined → List (List ℕ) → Found → Type 0
+IsFoundOf rs ms cs words found =
+    (found.serial.0 < length cs) × IsShortestLeast (words_in rs ms found.serial.0) (word_of words found)
 
 -- each of these constants has its word
-pub record AreFound (rs : List Regex) (ms : List (Option Member)) (cs : List Conjoined) (changed : List Serial)
-    (fs : List Found) : Type 0
+pub record AreFound (rs : List Regex) (ms : List (Option Member)) (cs : List Conjoined) (words : List (List ℕ))
+    (changed : List Serial) (fs : List Found) : Type 0
   where
-    pub each : All (IsFoundOf rs ms cs) fs
+    pub each : All (IsFoundOf rs ms cs words) fs
     pub serials : map (λ found. found.serial) fs ≡ changed
 
 -- the words of these constants, or one that has none
-abbrev pub AreWords : List Regex → List (Option Member) → List Conjoined → List Serial → Words → Type 0
-AreWords rs ms cs changed (words.Found fs) = AreFound rs ms cs changed fs.items
-AreWords rs ms cs changed (words.Dead serial) = IsEmptyAt rs ms serial.0
+abbrev pub AreWords : List Regex → List (Option Member) → List Conjoined → List (List ℕ) → List Serial → Words
+    → Type 0
+AreWords rs ms cs words changed (searched.Found fs) = AreFound rs ms cs words changed fs.items
+AreWords rs ms cs words changed (searched.Dead serial) = IsEmptyAt rs ms serial.0
 
 -- What becomes of the constants as what was found is taken over: these are still to come.
 pub record IsTakingOver (rs : List Regex) (ms : List (Option Member)) (old new : List Conjoined) (words : List (List ℕ))
@@ -55,7 +85,7 @@ pub record IsTakingOver (rs : List Regex) (ms : List (Option Member)) (old new :
     pub same_length : length new ≡ length old
     pub long : length words ≡ length old
     pub characters : are_words words ≡ true
-    pub each : All (IsFoundOf rs ms old) fs
+    pub each : All (IsFoundOf rs ms old words) fs
     pub places : (n : ℕ) → (conjoined_at new n).places ≡ (conjoined_at old n).places
     pub settled : OthersSettled (map (λ found. found.serial) fs) new
-    pub least : (n : ℕ) → (conjoined_at new n).changed ≡ false → IsShortestLeast (words_in rs ms n) (word_at words n)
+    pub least : (n : ℕ) → is_settled (conjoined_at new n) ≡ true → IsShortestLeast (words_in rs ms n) (word_at words n)

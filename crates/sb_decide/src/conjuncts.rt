@@ -1,8 +1,8 @@
 //! A constant's memberships.
 
-ghost use Rattle.std.specs.Prelude.{◌≡◌, ℕ, ◌<◌, false, [], ◌∷◌, ◌++◌, length, All, List, IfOk, OnOk};
+ghost use Rattle.std.specs.Prelude.{◌≡◌, ℕ, ◌<◌, length, All, List, IfOk, OnOk};
 ghost use Rattle.sb_lang.specs.Regex.{Regex};
-ghost use Rattle.sb_decide.specs.Conjoined.{blank, changed_with, without_last};
+ghost use Rattle.sb_decide.specs.Conjoined.{blank, with_place, without_place, known_within, is_settled, forgotten, all_known};
 ghost use Rattle.sb_decide.specs.Members.{AreConjuncts, AreRooted, places_in};
 
 use sb_regex::RegexId;
@@ -18,11 +18,12 @@ pub struct Member {
     pub regex: RegexId,
 }
 
-/// The memberships of one constant by their places among the live assertions, and whether its word is to be found anew.
+/// The memberships of one constant by their places among the live assertions, and of how many first ones of them its
+/// kept word is known to be the least.
 #[derive(Drop)]
 pub struct Conjuncts {
     places: Vec<usize>,
-    changed: bool,
+    known: Option<usize>,
 }
 
 impl Model for Conjuncts {
@@ -32,43 +33,55 @@ impl Model for Conjuncts {
 
     ghost view = { λ conjuncts. record {
       places = conjuncts.places.items;
-      changed = conjuncts.changed;
+      known = conjuncts.known;
     } };
 }
 
 impl Conjuncts {
-    /// No memberships. Takes no memory.
+    /// No memberships, and the empty word. Takes no memory.
     pub fn new(alloc: Global) -> Conjuncts
         ensures { result ≡ blank }
     {
         Conjuncts {
             places: Vec::new(alloc),
-            changed: false,
+            known: Some(0),
         }
     }
 
-    /// One more membership, by its place. `AllocError` only for want of memory.
+    /// One more membership, by its place: the kept word is still the least one of those before it. `AllocError` only
+    /// for want of memory.
     pub fn push(&mut self, place: usize) -> Result<(), AllocError>
-        ensures { OnOk result (self.new ≡ changed_with (self.old.places ++ place ∷ [])) }
+        ensures { OnOk result (self.new ≡ with_place place self.old) }
     {
-        self.changed = true;
         self.places.push(place)?;
         Ok(())
     }
 
-    /// One membership less, the last one. Takes no memory.
+    /// One membership less, the last one: where the kept word was the least one of more than are left, nothing is known
+    /// of it. Takes no memory.
     pub fn pop(&mut self)
-        ensures { self.new ≡ changed_with (without_last self.old.places) }
+        ensures { self.new ≡ without_place self.old }
     {
-        self.changed = true;
         self.places.pop();
+        self.known = known_within(self.places.len(), self.known);
     }
 
-    /// Whether its word is to be found anew: memberships came or went, or a check was left open. Constant time.
-    pub fn is_changed(&self) -> bool
-        ensures { result ≡ self.now.changed }
+    /// Whether the kept word is the least one of all memberships. Constant time.
+    pub fn is_settled(&self) -> bool
+        ensures { result ≡ is_settled self.now }
     {
-        self.changed
+        match self.known {
+            Some(known) => known == self.places.len(),
+            None => false,
+        }
+    }
+
+    /// Of how many first memberships the kept word is the least one; `None` where nothing is known of it. Constant
+    /// time.
+    pub fn known(&self) -> Option<usize>
+        ensures { result ≡ self.now.known }
+    {
+        self.known
     }
 
     /// The places, ascending. Constant time.
@@ -78,18 +91,28 @@ impl Conjuncts {
         self.places.as_slice()
     }
 
-    /// Its word is to be found anew. Takes no memory.
-    pub fn change(&mut self)
-        ensures { self.new ≡ changed_with self.old.places }
+    /// Nothing is known of the kept word. Takes no memory.
+    pub fn forget(&mut self)
+        ensures { self.new ≡ forgotten self.old }
     {
-        self.changed = true;
+        self.known = None;
     }
 
-    /// Its word is found. Takes no memory.
+    /// The kept word is the least one of all memberships. Takes no memory.
     pub fn settle(&mut self)
-        ensures { self.new ≡ record self.old { changed = false } }
+        ensures { self.new ≡ all_known self.old }
     {
-        self.changed = false;
+        self.known = Some(self.places.len());
+    }
+}
+
+/// So many first memberships, where there are so many.
+fn known_within(count: usize, known: Option<usize>) -> Option<usize>
+    ensures { result ≡ known_within count known }
+{
+    match known {
+        Some(known) if known <= count => Some(known),
+        _ => None,
     }
 }
 

@@ -4,11 +4,12 @@
 //! word that exploring the intersection finds is the one that a model gives. An equality of a constant with a literal
 //! is a membership too, in the regex that has the literal's word alone, and what is denied is one in the complement.
 //! What is known of the assertions so far is kept, so that a check takes in those that are new, and finds words of the
-//! constants that they speak of. Memberships speak of no constant of sort Bool, so each of these is false. A decided
-//! assertion that is no membership is taken in too, by its place alone, and while there are such ones a check is left
-//! open. Assertions are taken in up to the first one that is not decided.
+//! constants that they speak of: a kept word that is in the regexes of the new memberships stays, and nothing is made
+//! for it. Memberships speak of no constant of sort Bool, so each of these is false. A decided assertion that is no
+//! membership is taken in too, by its place alone, and while there are such ones a check is left open. Assertions are
+//! taken in up to the first one that is not decided.
 
-ghost use Rattle.std.specs.Prelude.{◌≡◌, ◌≢◌, ℕ, ◌+◌, ◌<◌, ◌≤◌, [], ◌∷◌, ◌++◌, List, Option, length, get_or, map, true, false};
+ghost use Rattle.std.specs.Prelude.{◌≡◌, ◌≢◌, ℕ, ◌+◌, ◌<◌, ◌≤◌, [], List, Option, Some, length, get_or, map, true, false};
 ghost use Rattle.std.specs.Prelude.{All, Contains, IfOk, OnOk, IfSome, IfNone, MatchOption};
 ghost use Rattle.std.specs.List.{list_all};
 ghost use Rattle.sb_lang.specs.Least.{IsShortestLeast};
@@ -16,6 +17,7 @@ ghost use Rattle.sb_lang.specs.Regex.{Regex};
 ghost use Rattle.sb_regex.specs.Numbered.{Extends};
 ghost use Rattle.sb_deriv.specs.Faithful.{KeepsEntries};
 ghost use Rattle.sb_graph.specs.Findings.{IsGraph};
+ghost use Rattle.sb_plain.specs.Memory.{IsRight};
 ghost use Rattle.sb_script.specs.State.{asserted, live, live_terms};
 ghost use Rattle.sb_script.specs.Verdicts.{IsVerdict, settled};
 ghost use Rattle.sb_fragment.specs.Measures.{AreMeasures};
@@ -25,16 +27,17 @@ ghost use Rattle.sb_stack.specs.Speaking.{speaks_of};
 ghost use Rattle.sb_stack.specs.Steps.{verdict_in, found};
 ghost use Rattle.sb_term.specs.Numbered.{term_at};
 ghost use Rattle.sb_term.specs.Serials.{all_below};
-ghost use Rattle.sb_decide.specs.Conjoined.{conjoined_at, OthersSettled, AreAllChanged, HasRoom, IsChangedAt, without_last};
-ghost use Rattle.sb_decide.specs.Deciding.{AreFilled};
-ghost use Rattle.sb_decide.specs.Knowing.{IsTaken, Knows, IsDecision, IsLeftOpen, places_of};
+ghost use Rattle.sb_decide.specs.Conjoined.{conjoined_at, with_place, without_place, forgotten, OthersSettled, AreAllForgotten, HasRoom, IsChangedAt};
+ghost use Rattle.sb_decide.specs.Deciding.{AreFilled, word_at};
+ghost use Rattle.sb_decide.specs.Knowing.{IsTaken, IsLeastOf, AreKept, Knows, IsDecision, IsLeftOpen, places_of};
 ghost use Rattle.sb_decide.specs.Laws.{LeavesKnown};
-ghost use Rattle.sb_decide.specs.Members.{AreRooted, IsEmptyAt, IsOther, IsRootOf, places_in, words_in};
+ghost use Rattle.sb_decide.specs.Members.{AreRooted, IsEmptyAt, IsOther, IsRootOf, ids_in, places_in, words_in};
 ghost use Rattle.sb_decide.specs.Places.{HasNoWordAt, IsPlaceOf};
-ghost use Rattle.sb_decide.specs.Taking.{StayKept, HasAll, AreWords, IsTakingOver, other_dead};
+ghost use Rattle.sb_decide.specs.Taking.{StayKept, HasAll, AreWords, IsFoundAt, IsTakingOver, other_dead, with_word};
 
 use crate::conjuncts::{Conjuncts, Member, conjuncts_at};
 use crate::demand::{demand_of, regex_of};
+use crate::standing::stands;
 use sb_fragment::{Measures, fragment_is_of_each};
 use sb_graph::{Explored, Graph, graph_stays};
 use sb_lang::constructors::{intersection_is_of_each, mkand_keeps_language};
@@ -66,18 +69,19 @@ pub struct Decider {
     pub others: Vec<usize>,
     /// By serial the memberships of each constant.
     pub constants: Vec<Conjuncts>,
-    /// The constants with memberships that came or went since the last check with a model that was decided here, and
-    /// all of them where a check was left open since.
+    /// The constants with memberships that came or went since the last check with a model that was decided here, some
+    /// of them more than once, and all of them where a check was left open since: at least those whose kept words are
+    /// not known to be the least ones of all their memberships.
     pub changed: Vec<Serial>,
     /// A constant that is known to have no word.
     pub dead: Option<Serial>,
 }
 
-/// What a check finds of a constant: the word that a model gives.
+/// What a check finds of a constant: the word that a model gives, `None` where it is the kept one.
 #[derive(Drop)]
 struct Found {
     serial: Serial,
-    word: Word,
+    word: Option<Word>,
 }
 
 /// What a check finds of the constants that it asks for.
@@ -112,12 +116,15 @@ impl Decider {
     /// What a check of the live assertions finds; `None` where it is left open, since all assertions are decided ones,
     /// but not all of them are memberships. Then whatever verdict is found may be kept.
     ///
-    /// Linear in the assertions and constants that are new since the last check with a model, the constants that the new
-    /// ones, and those that were taken back, speak of, and what is explored; a regex that was explored before is not
-    /// expanded again. A check that is left open, and the next one that is not, are linear in all constants besides; an
-    /// assertion that is no membership is looked at once, in the time of [`Measures::fits_structure`]. Where it finds
-    /// `Unsat`, [`Decider::dead`] is a constant without a word. Of the script's state it changes the mode and the kept
-    /// words alone. `AllocError` only for want of memory.
+    /// Linear in the assertions and constants that are new since the last check with a model, and in the constants that
+    /// the new ones, and those that were taken back, speak of. The kept word of such a constant is matched with the
+    /// regexes of the memberships behind those that it is known to be the least word of ([`Plain::matches`]), and stays
+    /// where it is in all of them. Else, and where one of those was taken back, the check is linear in the constant's
+    /// memberships and in what is explored; a regex that was explored before is not expanded again. A check that is
+    /// left open, and the next one that is not, are linear in all constants and memberships besides; an assertion that
+    /// is no membership is looked at once, in the time of [`Measures::fits_structure`]. Where it finds `Unsat`,
+    /// [`Decider::dead`] is a constant without a word. Of the script's state it changes the mode and the kept words
+    /// alone. `AllocError` only for want of memory.
     pub fn decide(
         &mut self,
         alloc: Global,
@@ -171,20 +178,22 @@ impl Decider {
         ensures derivatives_stay { OnOk result (KeepsEntries self.old.graph.memo self.new.graph.memo) }
     {
         normals_stay();
-        right_stays();
         normal_has_terms_words();
         fragment_is_of_each();
         let declared = stack.declared();
         if self.dead.is_some() {
             return Ok(Verdict::Unsat);
         }
+        let kept = stack.words();
         match least_words(
             alloc,
             &mut self.arena,
             &mut self.graph,
+            &mut self.plain,
             &mut self.roots,
             &self.members,
             &self.constants,
+            kept,
             &self.changed,
         )? {
             Words::Dead(serial) => {
@@ -204,7 +213,7 @@ impl Decider {
         }
     }
 
-    /// All constants are to have other words, since a check is left open. Linear in them.
+    /// Nothing is known of any constant's word, since a check is left open. Linear in them.
     fn leave_open(&mut self) -> Result<(), AllocError>
         requires settled { OthersSettled self.old.changed.items self.old.constants.items }
         requires listed { All (λ other. other.0 < length self.old.constants.items) self.old.changed.items }
@@ -215,7 +224,7 @@ impl Decider {
         ensures arena { self.new.arena ≡ self.old.arena }
         ensures graph { self.new.graph ≡ self.old.graph }
     {
-        change_all(&mut self.constants, &mut self.changed)?;
+        forget_all(&mut self.constants, &mut self.changed)?;
         Ok(())
     }
 
@@ -390,22 +399,22 @@ impl Decider {
     }
 }
 
-/// Says of each constant that its word is to be found anew.
-fn change_all(constants: &mut [Conjuncts], changed: &mut Vec<Serial>) -> Result<(), AllocError>
+/// Says of each constant that nothing is known of its word.
+fn forget_all(constants: &mut [Conjuncts], changed: &mut Vec<Serial>) -> Result<(), AllocError>
     requires settled { OthersSettled changed.old.items constants.old }
     requires listed { All (λ other. other.0 < length constants.old) changed.old.items }
-    ensures all { OnOk result (AreAllChanged constants.old constants.new) }
+    ensures all { OnOk result (AreAllForgotten constants.old constants.new) }
     ensures settled { OnOk result (OthersSettled changed.new.items constants.new) }
     ensures listed { OnOk result (All (λ other. other.0 < length constants.old) changed.new.items) }
 {
     for place in 0..constants.len() {
-        change(constants, changed, place)?;
+        forget(constants, changed, place)?;
     }
     Ok(())
 }
 
-/// Says of the constant at a place that its word is to be found anew.
-fn change(
+/// Says of the constant at a place that nothing is known of its word.
+fn forget(
     constants: &mut [Conjuncts],
     changed: &mut Vec<Serial>,
     place: usize,
@@ -414,15 +423,15 @@ fn change(
     requires settled { OthersSettled changed.old.items constants.old }
     requires listed { All (λ other. other.0 < length constants.old) changed.old.items }
     ensures put { OnOk result
-        (IsChangedAt constants.old constants.new place (conjoined_at constants.old place).places) }
+        (IsChangedAt constants.old constants.new place (forgotten (conjoined_at constants.old place))) }
     ensures settled { OnOk result (OthersSettled changed.new.items constants.new) }
     ensures listed { OnOk result (All (λ other. other.0 < length constants.old) changed.new.items) }
 {
     let conjuncts = &mut constants[place];
-    if !conjuncts.is_changed() {
+    if conjuncts.is_settled() {
         changed.push(Serial(place as u64))?;
     }
-    conjuncts.change();
+    conjuncts.forget();
     Ok(())
 }
 
@@ -458,12 +467,12 @@ fn put(
     requires settled { OthersSettled changed.old.items constants.old }
     requires listed { All (λ other. other.0 < length constants.old) changed.old.items }
     ensures put { OnOk result (IsChangedAt constants.old constants.new serial.0
-        ((conjoined_at constants.old serial.0).places ++ place ∷ [])) }
+        (with_place place (conjoined_at constants.old serial.0))) }
     ensures settled { OnOk result (OthersSettled changed.new.items constants.new) }
     ensures listed { OnOk result (All (λ other. other.0 < length constants.old) changed.new.items) }
 {
     let conjuncts = &mut constants[serial.0 as usize];
-    if !conjuncts.is_changed() {
+    if conjuncts.is_settled() {
         changed.push(serial)?;
     }
     conjuncts.push(place)
@@ -477,14 +486,14 @@ fn put_back(
 ) -> Result<(), AllocError>
     requires within { serial.0 < length constants.old }
     ensures put { OnOk result (IsChangedAt constants.old constants.new serial.0
-        (without_last (conjoined_at constants.old serial.0).places)) }
+        (without_place (conjoined_at constants.old serial.0))) }
     ensures settled { OnOk result (OthersSettled changed.old.items constants.old
         → OthersSettled changed.new.items constants.new) }
     ensures listed { OnOk result (All (λ other. other.0 < length constants.old) changed.old.items
         → All (λ other. other.0 < length constants.old) changed.new.items) }
 {
     let conjuncts = &mut constants[serial.0 as usize];
-    if !conjuncts.is_changed() {
+    if conjuncts.is_settled() {
         changed.push(serial)?;
     }
     conjuncts.pop();
@@ -496,33 +505,81 @@ fn least_words(
     alloc: Global,
     arena: &mut Arena,
     graph: &mut Graph,
+    plain: &mut Plain,
     roots: &mut Vec<Option<RegexId>>,
     members: &[Option<Member>],
     constants: &[Conjuncts],
+    words: &[Word],
     changed: &[Serial],
 ) -> Result<Words, AllocError>
     requires rooted { AreRooted arena.old members.now roots.old.items }
     requires places { (n : ℕ) → (conjoined_at constants.now n).places ≡ places_in 0 n members.now }
     requires listed { All (λ serial. serial.0 < length constants.now) changed.now }
+    requires kept { AreKept arena.old members.now constants.now words.now }
     requires graph { IsGraph arena.old graph.old }
-    ensures words { IfOk result (AreWords arena.new members.now constants.now changed.now) }
+    requires plain { IsRight arena.old plain.old }
+    ensures words { IfOk result (AreWords arena.new members.now constants.now words.now changed.now) }
     ensures rooted { OnOk result (AreRooted arena.new members.now roots.new.items) }
     ensures extends { Extends arena.old arena.new }
     ensures graph { IsGraph arena.new graph.new }
+    ensures plain { IsRight arena.new plain.new }
     ensures derivatives_stay { KeepsEntries graph.old.memo graph.new.memo }
 {
     let mut found = Vec::new(alloc);
     for serial in changed {
-        let places = constants[serial.0 as usize].places();
-        let Some(word) = least_word(alloc, arena, graph, roots, members, *serial, places)? else {
+        let place = serial.0 as usize;
+        let conjuncts = &constants[place];
+        let Some(one) = find_word(
+            alloc, arena, graph, plain, roots, members, words, *serial, conjuncts,
+        )?
+        else {
             return Ok(Words::Dead(*serial));
         };
-        found.push(Found {
-            serial: *serial,
-            word,
-        })?;
+        found.push(one)?;
     }
     Ok(Words::Found(found))
+}
+
+/// What a check finds of a constant: the kept word, where it stands, or the least one; `None` where it has none.
+fn find_word(
+    alloc: Global,
+    arena: &mut Arena,
+    graph: &mut Graph,
+    plain: &mut Plain,
+    roots: &mut Vec<Option<RegexId>>,
+    members: &[Option<Member>],
+    words: &[Word],
+    serial: Serial,
+    conjuncts: &Conjuncts,
+) -> Result<Option<Found>, AllocError>
+    requires rooted { AreRooted arena.old members.now roots.old.items }
+    requires places { conjuncts.now.places ≡ places_in 0 serial.0 members.now }
+    requires kept { (k : ℕ) → conjuncts.now.known ≡ Some k
+        → IsLeastOf arena.old (ids_in members.now serial.0) k (word_at words.now serial.0) }
+    requires graph { IsGraph arena.old graph.old }
+    requires plain { IsRight arena.old plain.old }
+    ensures found { IfOk result (λ found. MatchOption found (IsEmptyAt arena.new members.now serial.0)
+        (IsFoundAt arena.new members.now words.now serial)) }
+    ensures rooted { OnOk result (AreRooted arena.new members.now roots.new.items) }
+    ensures extends { Extends arena.old arena.new }
+    ensures graph { IsGraph arena.new graph.new }
+    ensures plain { IsRight arena.new plain.new }
+    ensures derivatives_stay { KeepsEntries graph.old.memo graph.new.memo }
+{
+    graph_stays();
+    right_stays();
+    let stays = stands(arena, plain, members, words, serial, conjuncts)?;
+    if stays {
+        return Ok(Some(Found { serial, word: None }));
+    }
+    let places = conjuncts.places();
+    let Some(word) = least_word(alloc, arena, graph, roots, members, serial, places)? else {
+        return Ok(None);
+    };
+    Ok(Some(Found {
+        serial,
+        word: Some(word),
+    }))
 }
 
 /// The shortest word of all regexes of a constant, the least by code points among the shortest; `None` where it has
@@ -601,6 +658,17 @@ fn take_over(constants: &mut [Conjuncts], words: &mut [Word], mut found: Vec<Fou
     while let Some(one) = found.pop() {
         let place = one.serial.0 as usize;
         constants[place].settle();
-        words[place] = one.word;
+        put_word(words, place, one.word);
     }
+}
+
+/// Puts a word at a place, if there is one.
+fn put_word(words: &mut [Word], place: usize, word: Option<Word>)
+    requires { place < length words.old }
+    ensures { words.new ≡ with_word words.old place word }
+{
+    let Some(word) = word else {
+        return;
+    };
+    words[place] = word;
 }

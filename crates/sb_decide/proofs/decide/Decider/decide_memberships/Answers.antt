@@ -21,19 +21,19 @@ returns-then-is_some-clause-verdict c =
 
 pub returns-in-Dead-clause-verdict : goal.returns-in-Dead-clause-verdict
 returns-in-Dead-clause-verdict c =
-    unsat_found c.fragment_is_of_each.ensures c.normal_has_terms_words.ensures c.normals_stay.ensures c.right_stays.ensures
-    c.args.self.now c.least_words.new.arena c.least_words.new.graph c.least_words.new.roots c.args.stack.now
-    c.in-Dead.serial.0 c.requires.knows
-    c.requires.all c.in_ok-serial.ensures.extends
-    c.in_ok-serial.ensures.graph (rw c.deref.ensures.value at c.in_ok-serial.ensures.rooted)
+    unsat_found c.fragment_is_of_each.ensures c.normal_has_terms_words.ensures c.normals_stay.ensures
+    c.args.self.now c.least_words.new.arena c.least_words.new.graph c.least_words.new.plain c.least_words.new.roots
+    c.args.stack.now c.in-Dead.serial.0 c.requires.knows c.requires.all c.in_ok-serial.ensures.extends
+    c.in_ok-serial.ensures.graph c.in_ok-serial.ensures.plain
+    (rw c.deref.ensures.value at c.in_ok-serial.ensures.rooted)
     (rw (c.in-Dead.is, c.deref.ensures.value) at c.in_ok-serial.ensures.words)
     c.requires.named c.declared-declared.ensures.fit
 
 pub returns-in-Dead-clause-knows : goal.returns-in-Dead-clause-knows
 returns-in-Dead-clause-knows c =
-    knows_dead c.normals_stay.ensures c.right_stays.ensures c.args.self.now c.least_words.new.arena c.least_words.new.graph
-    c.least_words.new.roots (record c.args.stack.now { mode = mode.Unsat }) c.in-Dead.serial
-    c.in_ok-serial.ensures.extends c.in_ok-serial.ensures.graph
+    knows_dead c.normals_stay.ensures c.args.self.now c.least_words.new.arena c.least_words.new.graph
+    c.least_words.new.plain c.least_words.new.roots (record c.args.stack.now { mode = mode.Unsat }) c.in-Dead.serial
+    c.in_ok-serial.ensures.extends c.in_ok-serial.ensures.graph c.in_ok-serial.ensures.plain
     (rw c.deref.ensures.value at c.in_ok-serial.ensures.rooted)
     (rw (c.in-Dead.is, c.deref.ensures.value) at c.in_ok-serial.ensures.words)
     (knows_mode c.args.self.now c.args.stack.now mode.Unsat c.requires.knows)
@@ -45,7 +45,7 @@ returns-in_ok-fill-in-Found-clause-verdict c =
     c.declared-declared.result c.take_words-words.result.items c.fill.new.words.items c.deref_mut.result.now
     c.take_over.new.constants c.deref_mut-in-Found.result.now c.take_over.new.words c.requires.knows all
     c.in_ok-serial.ensures.extends
-    (rw (c.in-Found.is, c.deref.ensures.value, c.deref-2.ensures.value, c.deref-3.ensures.value)
+    (rw (c.in-Found.is, c.deref.ensures.value, c.deref-2.ensures.value, c.words-kept.ensures, c.deref-3.ensures.value)
     at c.in_ok-serial.ensures.words)
     c.take_words-words.ensures.words c.declared-declared.ensures.value c.in_ok-fill-in-Found.ensures
     c.deref_mut.ensures.value c.deref_mut-in-Found.ensures.value c.take_over.ensures in
@@ -58,10 +58,11 @@ returns-in_ok-fill-in-Found-clause-verdict c =
     c.args.self.now.constants.items c.take_over.new.constants
     c.take_over.new.words c.fill.new.words c.declared-declared.result c.take_words-words.result.items over
     (c.declared-declared.ensures.value ∙ sym all.1) c.in_ok-fill-in-Found.ensures)))
-    (sat_found c.fragment_is_of_each.ensures c.normal_has_terms_words.ensures c.normals_stay.ensures c.right_stays.ensures
-    c.args.self.now c.least_words.new.arena c.least_words.new.graph c.least_words.new.roots c.args.stack.now
-    c.take_over.new.constants c.take_over.new.words c.requires.knows all c.requires.alone
-    c.in_ok-serial.ensures.extends c.in_ok-serial.ensures.graph (rw c.deref.ensures.value at c.in_ok-serial.ensures.rooted) over
+    (sat_found c.fragment_is_of_each.ensures c.normal_has_terms_words.ensures c.normals_stay.ensures
+    c.args.self.now c.least_words.new.arena c.least_words.new.graph c.least_words.new.plain c.least_words.new.roots
+    c.args.stack.now c.take_over.new.constants c.take_over.new.words c.requires.knows all c.requires.alone
+    c.in_ok-serial.ensures.extends c.in_ok-serial.ensures.graph c.in_ok-serial.ensures.plain
+    (rw c.deref.ensures.value at c.in_ok-serial.ensures.rooted) over
     c.requires.named c.declared-declared.ensures.fit))
 
 pub returns-in_ok-fill-in-Found-clause-knows : goal.returns-in_ok-fill-in-Found-clause-knows
@@ -71,7 +72,7 @@ returns-in_ok-fill-in-Found-clause-knows c =
     c.declared-declared.result c.take_words-words.result.items c.fill.new.words.items c.deref_mut.result.now
     c.take_over.new.constants c.deref_mut-in-Found.result.now c.take_over.new.words c.requires.knows all
     c.in_ok-serial.ensures.extends
-    (rw (c.in-Found.is, c.deref.ensures.value, c.deref-2.ensures.value, c.deref-3.ensures.value)
+    (rw (c.in-Found.is, c.deref.ensures.value, c.deref-2.ensures.value, c.words-kept.ensures, c.deref-3.ensures.value)
     at c.in_ok-serial.ensures.words)
     c.take_words-words.ensures.words c.declared-declared.ensures.value c.in_ok-fill-in-Found.ensures
     c.deref_mut.ensures.value c.deref_mut-in-Found.ensures.value c.take_over.ensures in
@@ -87,24 +88,29 @@ returns-in_ok-fill-in-Found-clause-knows c =
     let after = record c.args.self.now {
       arena = c.least_words.new.arena;
       graph = c.least_words.new.graph;
+      plain = c.least_words.new.plain;
       roots = c.least_words.new.roots;
       constants = with_items c.args.self.now.constants c.take_over.new.constants;
       changed = c.clear.new.self;
     } in
     subst
     (λ (s : Stacked). Knows after
-    (record s { mode = mode.Sat; words = (with_items c.fill.new.words c.take_over.new.words).items; truths = c.new.result.items }))
+    (record s {
+      mode = mode.Sat;
+      words = (with_items c.fill.new.words c.take_over.new.words).items;
+      truths = c.new.result.items;
+    }))
     (sym c.take_words-words.ensures.rest)
-    (knows_over c.normals_stay.ensures c.right_stays.ensures c.args.self.now after c.args.stack.now
+    (knows_over c.normals_stay.ensures c.args.self.now after c.args.stack.now
     (with_items c.fill.new.words c.take_over.new.words).items c.new.result.items mode.Sat c.requires.knows
-    c.in_ok-serial.ensures.extends c.in_ok-serial.ensures.graph
+    c.in_ok-serial.ensures.extends c.in_ok-serial.ensures.graph c.in_ok-serial.ensures.plain
     (rw c.deref.ensures.value at c.in_ok-serial.ensures.rooted)
     (subst (λ cs. IsTakingOver c.least_words.new.arena c.args.self.now.members.items
     c.args.self.now.constants.items cs (with_items c.fill.new.words c.take_over.new.words).items [])
     (sym constants)
     (subst (λ ws. IsTakingOver c.least_words.new.arena c.args.self.now.members.items
     c.args.self.now.constants.items c.take_over.new.constants ws []) (sym words) over))
-    refl refl refl refl refl (ap length c.clear.ensures.items) refl)
+    refl refl refl refl (ap length c.clear.ensures.items) refl)
 
 pub returns-then-is_some-clause-decided : goal.returns-then-is_some-clause-decided
 returns-then-is_some-clause-decided c = sym c.is_some.ensures ∙ c.if-is_some.true
@@ -144,7 +150,9 @@ least_words-requires c =
       rooted = rw c.deref.ensures.value taken.rooted;
       places = rw (c.deref.ensures.value, c.deref-2.ensures.value) taken.places;
       listed = rw (c.deref-2.ensures.value, c.deref-3.ensures.value) taken.listed;
+      kept = rw (c.deref.ensures.value, c.deref-2.ensures.value, c.words-kept.ensures) c.requires.knows.words;
       graph = taken.graph;
+      plain = taken.plain;
     }
 
 pub returns-in_err-fill-in-Found : goal.returns-in_err-fill-in-Found

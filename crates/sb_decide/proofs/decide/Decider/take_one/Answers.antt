@@ -10,7 +10,7 @@ use Rattle.sb_decide.specs.Demands.{expression_in}
 use Rattle.sb_decide.proofs.DemandFacts.{other_kind, too_large}
 use Rattle.sb_decide.proofs.Knowledge.{at_place, is_member, is_other, number_within, term_outside}
 use Rattle.sb_decide.proofs.Knowledge.{serial_within, taken_grown, taken_measured, stay_grown, stay_put, taken_more}
-use Rattle.sb_decide.proofs.TakingOver.{put_here, put_through, settled_through}
+use Rattle.sb_decide.proofs.TakingOver.{put_here, settled_through}
 use Rattle.sb_decide.proofs.decide.Decider.take_one.Goals as goal
 
 pub returns-in_default : goal.returns-in_default
@@ -236,9 +236,11 @@ returns c =
             constants = with_items c.args.self.now.constants c.put.new.constants;
             changed = c.put.new.changed;
           })
-          c.args.table.now c.args.assertions.now member _ e.extends c.in_ok-push.ensures.items
-          (put_through c.args.self.now.constants c.deref_mut.result.now c.put.new.constants demand.demand.serial.0
-          _ c.deref_mut.ensures.value c.in_ok-put.ensures.put) c.requires.taken;
+          c.args.table.now c.args.assertions.now member (length c.args.self.now.members.items) e.extends
+          c.in_ok-push.ensures.items
+          (put_here c.args.self.now.constants c.deref_mut.result.now c.put.new.constants demand.demand.serial.0
+          c.len-place.result (length c.args.self.now.members.items) c.deref_mut.ensures.value place
+          c.in_ok-put.ensures.put) c.requires.taken;
       extends = e.extends;
       graph = refl;
       further = λ _. omega (

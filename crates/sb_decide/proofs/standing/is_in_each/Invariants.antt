@@ -1,0 +1,11 @@
+use Rattle.std.proofs.Common.{take}
+use Rattle.sb_regex.specs.Numbered.{Extends}
+use Rattle.sb_plain.specs.Memory.{IsRight}
+use Rattle.sb_decide.specs.Taking.{IsInEach}
+use Rattle.sb_decide.proofs.standing.is_in_each.Given as goal
+
+abbrev pub invariant-loop-place : goal.invariant-loop-place
+invariant-loop-place l =
+    IsInEach l.arena l.fn.members (take l.place-index l.fn.places) l.fn.word
+    × Extends l.fn.arena l.arena
+    × IsRight l.arena l.plain

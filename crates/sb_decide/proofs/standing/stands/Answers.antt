@@ -1,0 +1,63 @@
+use Rattle.std.proofs.Common.{◌<◌, ◌∙◌, [], length, drop, sym, ap, subst}
+use Rattle.std.proofs.lemmas.Bool.{false≢true}
+use Rattle.std.proofs.lemmas.List.{get_or_read}
+use Rattle.std.proofs.lemmas.List.Elements.{All-drop}
+use Rattle.std.proofs.lemmas.Result.{IfOk-from_err}
+use Rattle.std.specs.List.{All}
+use Rattle.sb_regex.proofs.CallerLemmas.{extends_same}
+use Rattle.sb_decide.specs.Deciding.{word_at}
+use Rattle.sb_decide.proofs.KeptWords.{behind_within, word_stands}
+use Rattle.sb_decide.proofs.RootFacts.{places_within}
+use Rattle.sb_decide.proofs.standing.stands.Goals as goal
+
+pub returns-in_default : goal.returns-in_default
+returns-in_default c = record {
+  least = λ stands. absurd (false≢true stands);
+  extends = extends_same c.args.arena.now;
+  right = c.requires.right;
+}
+
+pub returns-in_default-get : goal.returns-in_default-get
+returns-in_default-get c = record {
+  least = λ stands. absurd (false≢true stands);
+  extends = extends_same c.args.arena.now;
+  right = c.requires.right;
+}
+
+pub places_behind-behind-requires : goal.places_behind-behind-requires
+places_behind-behind-requires c =
+    behind_within c.args.arena.now c.args.members.now c.args.serial.0 c.in-Some.known c.places-places.result.now
+    (word_at c.args.words.now c.args.serial.0) (c.places-places.ensures ∙ c.requires.places)
+    (c.requires.kept c.in-Some.known (sym c.in-Some.ensures))
+
+pub is_in_each-requires : goal.is_in_each-requires
+is_in_each-requires c =
+    let all = subst (All (λ place. place < length c.args.members.now))
+    (sym (c.places_behind-behind.ensures ∙ ap (drop c.in-Some.known) (c.places-places.ensures ∙ c.requires.places)))
+    (All-drop (λ place. place < length c.args.members.now) c.in-Some.known _
+    (places_within c.args.serial.0 c.args.members.now)) in
+    record { within = all; numbers = c.requires.numbers; right = c.requires.right }
+
+pub returns-in_err-all : goal.returns-in_err-all
+returns-in_err-all c =
+    let x = c.from_residual in
+    record {
+      least = IfOk-from_err x.result _ x.ensures.0;
+      extends = c.is_in_each.ensures.extends;
+      right = c.is_in_each.ensures.right;
+    }
+
+pub returns : goal.returns
+returns c =
+    let e = c.in_ok-all.ensures in
+    let here = c.in-Some-get.ensures.lookup in
+    record {
+      least = λ all. word_stands c.args.arena.now c.is_in_each.new.arena c.args.members.now c.args.serial.0
+          c.in-Some.known c.places-places.result.now c.places_behind-behind.result.now
+          (word_at c.args.words.now c.args.serial.0) c.in-Some-get.word.now e.extends c.requires.numbers
+          (c.places-places.ensures ∙ c.requires.places) c.places_behind-behind.ensures
+          (get_or_read c.args.words.now c.args.serial.0 c.in-Some-get.word.now here.3.0 here.1 [])
+          (c.requires.kept c.in-Some.known (sym c.in-Some.ensures)) (e.all all);
+      extends = e.extends;
+      right = e.right;
+    }
