@@ -1,11 +1,15 @@
 -- Constants by their place, with the places of their memberships.
-use Rattle.std.proofs.Common.{◌≡◌, ◌≢◌, ℕ, zero, suc, ◌-◌, ◌<◌, ◌≤◌, Bool, true, false, ◌==◌, List, [], ◌∷◌, ◌++◌, length, get_or, set, take, refl, sym, ap, ◌∙◌, arith, length-append, Option, Some}
-use Rattle.std.proofs.lemmas.Bool.{and_parts, and_from, eqb-true, eqb-false}
+use Rattle.std.proofs.Common.{◌≡◌, ◌≢◌, ℕ, zero, suc, ◌+◌, ◌-◌, ◌<◌, ◌≤◌, Bool, true, false, ◌||◌, ◌==◌, List, [], ◌∷◌, ◌++◌, length, get_or, set, slice_get, take, refl, sym, ap, ◌∙◌, arith, length-append, Option, Some}
+use Rattle.std.proofs.lemmas.Bool.{and_parts, and_from, or_parts, eqb-true, eqb-false}
+use Rattle.std.proofs.lemmas.Bool.Decides.{nat_tests}
+use Rattle.std.proofs.lemmas.List.{take_all, take_more}
+use Rattle.std.proofs.lemmas.Option.{get_or_from_slice_get, slice_get_within}
 use Rattle.std.proofs.Math.Seq.{take-append_seam}
 use Rattle.sb_word.specs.Words.{are_characters}
 use Rattle.sb_stack.specs.Stacked.{are_words}
+use Rattle.sb_term.specs.declared.term.Serial.{Serial}
 use Rattle.sb_decide.specs.declared.conjuncts.Member.{Member}
-use Rattle.sb_decide.specs.Conjoined.{Conjoined, without_last, with_place, without_place, conjoined_at, IsChangedAt}
+use Rattle.sb_decide.specs.Conjoined.{Conjoined, without_last, with_place, without_place, conjoined_at, is_settled, is_listed, OthersSettled, IsChangedAt}
 use Rattle.sb_decide.specs.Deciding.{word_at}
 use Rattle.sb_decide.specs.Members.{places_in}
 use Rattle.sb_decide.proofs.MemberFacts.{places_here, places_other}
@@ -59,6 +63,40 @@ conjoined_set_other (x ∷ cs) zero zero c h = absurd (h refl)
 conjoined_set_other (x ∷ cs) zero (suc n) c h = refl
 conjoined_set_other (x ∷ cs) (suc i) zero c h = refl
 conjoined_set_other (x ∷ cs) (suc i) (suc n) c h = conjoined_set_other cs i n c (λ e. h (ap suc e))
+
+-- constants in a list, and the last one
+pub listed_last : (rest : List Serial) (last : Serial) (n : ℕ) → is_listed rest n ≡ false → n ≢ last.0
+    → is_listed (rest ++ last ∷ []) n ≡ false
+listed_last [] last n h other = ap (λ b. b || false) (differs last.0 n (λ e. other (sym e)))
+  where
+    differs : (a b : ℕ) → a ≢ b → (a == b) ≡ false
+    differs a b h = grind (arith, nat_tests)
+listed_last (s ∷ rest) last n h other =
+    let parts = or_parts (s.0 == n) (is_listed rest n) h in
+    ap (λ b. b || is_listed (rest ++ last ∷ []) n) parts.0 ∙ listed_last rest last n parts.1 other
+
+with_last : (xs : List Serial) (last : Serial) → slice_get xs (length xs - 1) ≡ Some last
+    → xs ≡ take (length xs - 1) xs ++ last ∷ []
+with_last xs last there =
+    let within : length xs - 1 < length xs = slice_get_within xs (length xs - 1) last there in
+    let whole : (length xs - 1) + 1 ≡ length xs = omega (arith, within) in
+    sym (take_all (length xs) xs (omega arith))
+    ∙ (ap (λ k. take k xs) (sym whole)
+    ∙ (take_more xs (length xs - 1) last within
+    ∙ ap (λ s. take (length xs - 1) xs ++ s ∷ []) (get_or_from_slice_get xs (length xs - 1) last last there)))
+
+pub unlisted : (cs : List Conjoined) (xs rest : List Serial) (last serial : Serial)
+    → slice_get xs (length xs - 1) ≡ Some last → last.0 ≡ serial.0 → rest ≡ take (length xs - 1) xs
+    → is_settled (conjoined_at cs serial.0) ≡ true → OthersSettled xs cs → OthersSettled rest cs
+unlisted cs xs rest last serial there same is has settled = λ n h. by_test n h (n == serial.0) refl
+  where
+    by_test : (n : ℕ) → is_listed rest n ≡ false → (b : Bool) → (n == serial.0) ≡ b
+        → is_settled (conjoined_at cs n) ≡ true
+    by_test n h true t = ap (λ i. is_settled (conjoined_at cs i)) (eqb-true n serial.0 t) ∙ has
+    by_test n h false t =
+        settled n (ap (λ ss. is_listed ss n) (with_last xs last there)
+        ∙ listed_last (take (length xs - 1) xs) last n (ap (λ ss. is_listed ss n) (sym is) ∙ h)
+        (λ e. eqb-false n serial.0 t (e ∙ same)))
 
 -- the places of a constant's memberships, with one more
 pub places_put : (old new : List Conjoined) (ms : List (Option Member)) (m : Member) (n : ℕ)

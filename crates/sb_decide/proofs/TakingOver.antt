@@ -1,8 +1,8 @@
 -- What was found of constants is taken over, and a verdict given.
-use Rattle.std.proofs.Common.{◌≡◌, ◌≢◌, ℕ, zero, suc, ◌+◌, ◌<◌, Bool, true, false, ◌||◌, ◌==◌, List, [], ◌∷◌, ◌++◌, length, get_or, set, map, take, refl, sym, ap, ap₂, ◌∙◌, arith, Option, None, Some, IfSome, is_some, unwrap_or, vec_len, subst}
-use Rattle.std.proofs.lemmas.Bool.{or_parts, false≢true, eq-eqb, eqb-true, eqb-false}
+use Rattle.std.proofs.Common.{◌≡◌, ◌≢◌, ℕ, zero, suc, ◌+◌, ◌<◌, Bool, true, false, ◌==◌, List, [], ◌∷◌, ◌++◌, length, get_or, set, map, take, refl, sym, ap, ap₂, ◌∙◌, arith, Option, None, Some, IfSome, is_some, unwrap_or, vec_len, subst}
+use Rattle.std.proofs.lemmas.Bool.{false≢true, eq-eqb, eqb-true, eqb-false}
 use Rattle.std.proofs.lemmas.Bool.Decides.{nat_tests}
-use Rattle.std.proofs.lemmas.List.{map-append, take_all, take_more, length-set, nil_from_length, with_items_is}
+use Rattle.std.proofs.lemmas.List.{map-append, map_push, take_all, take_more, length-set, nil_from_length, with_items_is}
 use Rattle.std.proofs.lemmas.Option.{same_Some}
 use Rattle.std.specs.Vec.{with_items}
 use Rattle.std.proofs.lemmas.List.Elements.{All-push}
@@ -41,7 +41,7 @@ use Rattle.sb_decide.specs.Members.{AreConjuncts, AreRooted, HasRegexBelow, IsEm
 use Rattle.sb_decide.specs.Places.{is_member}
 use Rattle.sb_decide.specs.Taking.{HasAll, IsFoundAt, IsFoundOf, AreFound, IsTakingOver, with_word, word_of}
 use Rattle.sb_decide.proofs.Conjunctions.{same_least, same_no_word, in_root}
-use Rattle.sb_decide.proofs.Constants.{conjoined_within, conjoined_set, conjoined_set_other}
+use Rattle.sb_decide.proofs.Constants.{conjoined_within, conjoined_set, conjoined_set_other, listed_last}
 use Rattle.sb_decide.proofs.KeptWords.{all_least, ids_long, known_all, length-with_word, settled_least, word_elsewhere, word_there, words_with}
 use Rattle.sb_decide.proofs.Knowledge.{taken_searched, kept_grown}
 use Rattle.sb_decide.proofs.MemberFacts.{words_grown}
@@ -109,17 +109,6 @@ pub front_within : (n : ℕ) (fs rest : List Found) (one : Found) → All (λ f.
     → All (λ f. f.serial.0 < n) rest
 front_within n fs rest one h is = front_of (λ f. f.serial.0 < n) rest one (rw is at h)
 
-listed_more : (rest : List Found) (one : Found) (n : ℕ) → is_listed (map (λ f. f.serial) rest) n ≡ false
-    → n ≢ one.serial.0 → is_listed (map (λ f. f.serial) (rest ++ one ∷ [])) n ≡ false
-listed_more [] one n h other =
-    ap (λ b. b || false) (differs one.serial.0 n (λ e. other (sym e)))
-  where
-    differs : (a b : ℕ) → a ≢ b → (a == b) ≡ false
-    differs a b h = grind (arith, nat_tests)
-listed_more (f ∷ rest) one n h other =
-    let parts = or_parts (f.serial.0 == n) (is_listed (map (λ g. g.serial) rest) n) h in
-    ap (λ b. b || is_listed (map (λ g. g.serial) (rest ++ one ∷ [])) n) parts.0 ∙ listed_more rest one n parts.1 other
-
 pub goes_on : (rs : List Regex) (ms : List (Option Member)) (old new new' : List Conjoined)
     (words words' : List (List ℕ)) (fs rest : List Found) (one : Found) (c : Conjoined)
     → IsTakingOver rs ms old new words fs → fs ≡ rest ++ one ∷ [] → c ≡ get_or new one.serial.0 c →
@@ -171,7 +160,9 @@ goes_on rs ms old new new' words words' fs rest one c t is there grown given = r
     settled_at n h false k =
         let e : n ≢ place = eqb-false n place k in
         ap is_settled (conjoined_set_other new place n (all_known c) e)
-        ∙ t.settled n (ap (λ xs. is_listed (map (λ f. f.serial) xs) n) is ∙ listed_more rest one n h e)
+        ∙ t.settled n (ap (λ xs. is_listed (map (λ f. f.serial) xs) n) is
+        ∙ (ap (λ ss. is_listed ss n) (map_push (λ f. f.serial) rest one)
+        ∙ listed_last (map (λ f. f.serial) rest) one.serial n h e))
 
     least_at : (n : ℕ) → is_settled (conjoined_at (set new place (all_known c)) n) ≡ true → (b : Bool)
         → (n == place) ≡ b → IsShortestLeast (words_in rs ms n) (word_at (with_word words place one.word) n)

@@ -69,9 +69,9 @@ pub struct Decider {
     pub others: Vec<usize>,
     /// By serial the memberships of each constant.
     pub constants: Vec<Conjuncts>,
-    /// The constants with memberships that came or went since the last check with a model that was decided here, some
-    /// of them more than once, and all of them where a check was left open since: at least those whose kept words are
-    /// not known to be the least ones of all their memberships.
+    /// The constants with memberships that came or went since the last check with a model that was decided here, and
+    /// all of them where a check was left open since: at least those whose kept words are not known to be the least
+    /// ones of all their memberships.
     pub changed: Vec<Serial>,
     /// A constant that is known to have no word.
     pub dead: Option<Serial>,
@@ -395,6 +395,7 @@ impl Decider {
             return Ok(());
         }
         put_back(&mut self.constants, &mut self.changed, member.serial)?;
+        unlist(&self.constants, &mut self.changed, member.serial);
         Ok(())
     }
 }
@@ -498,6 +499,29 @@ fn put_back(
     }
     conjuncts.pop();
     Ok(())
+}
+
+/// Takes a constant that has its word out of the list, where it is the last one there. Takes no memory.
+fn unlist(constants: &[Conjuncts], changed: &mut Vec<Serial>, serial: Serial)
+    ensures settled { OthersSettled changed.old.items constants.now
+        → OthersSettled changed.new.items constants.now }
+    ensures listed { (n : ℕ) → All (λ other. other.0 < n) changed.old.items
+        → All (λ other. other.0 < n) changed.new.items }
+{
+    let Some(conjuncts) = constants.get(serial.0 as usize) else {
+        return;
+    };
+    if !conjuncts.is_settled() {
+        return;
+    }
+    let Some(last) = changed.last() else {
+        return;
+    };
+    let same = last.0 == serial.0;
+    if !same {
+        return;
+    }
+    changed.pop();
 }
 
 /// The least word of each of these constants, or one that has none. The intersections that are made are kept.

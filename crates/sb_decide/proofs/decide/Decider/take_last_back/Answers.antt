@@ -77,10 +77,12 @@ returns c =
           refl refl refl refl refl refl
           (back_here c.args.self.now.constants c.deref_mut.result.now c.put_back.new.constants member.serial.0
           c.deref_mut.ensures.value e.put)
-          (λ h. settled_through c.args.self.now.constants c.deref_mut.result.now c.put_back.new.constants
+          (λ h. (rw c.deref.ensures.value at c.unlist.ensures.settled)
+          (settled_through c.args.self.now.constants c.deref_mut.result.now c.put_back.new.constants
           member.serial.0 _ c.put_back.new.changed.items c.deref_mut.ensures.value e.put
-          (e.settled (rw c.deref_mut.ensures.value h)))
-          (rw c.deref_mut.ensures.value at e.listed) k;
+          (e.settled (rw c.deref_mut.ensures.value h))))
+          (λ h. c.unlist.ensures.listed (length c.args.self.now.constants.items)
+          ((rw c.deref_mut.ensures.value at e.listed) h)) k;
       fewer = λ _. omega (arith, ap length was, one);
       arena = refl;
       graph = refl;
