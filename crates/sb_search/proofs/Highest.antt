@@ -1,26 +1,25 @@
 -- The literals of the highest levels of a clause.
-use Rattle.std.proofs.Common.{◌≡◌, ℕ, ◌<◌, ◌≤◌, true, false, ◌||◌, ◌+◌, leb, length, take, get_or, List, [], ◌∷◌, ◌++◌, Option, Some, None, sym, ◌∙◌, inl, inr, arith}
+use Rattle.std.proofs.Common.{◌≡◌, ℕ, ◌<◌, ◌≤◌, true, false, ◌||◌, ◌+◌, leb, length, take, get_or, List, [], ◌∷◌, ◌++◌, Option, Some, None, ◌∙◌, inl, inr, arith}
 use Rattle.std.specs.List.{list_all}
-use Rattle.std.proofs.lemmas.Bool.{false≢true, cases_Bool, or_left, or_right, or_cases, leb-true, leb-false, le-leb}
+use Rattle.std.proofs.lemmas.Bool.{cases_Bool, or_left, or_right, or_cases, leb-true, leb-false, le-leb}
 use Rattle.std.proofs.lemmas.List.{take_more}
 use Rattle.sb_facts.proofs.CallerLemmas.{all_weaker, all_push}
 use Rattle.sb_lit.specs.declared.clause.Lit.{Lit}
 use Rattle.sb_lit.specs.Clauses.{is_same_literal, is_among}
-use Rattle.sb_lit.proofs.CallerLemmas.{among_push, among_push_same, all_among, is_same_literal-true, is_same_literal-of}
+use Rattle.sb_lit.proofs.CallerLemmas.{among_push, among_push_same, all_among}
 use Rattle.sb_trail.specs.declared.assigned.Assigned.{Assigned}
-use Rattle.sb_analyze.specs.Reasons.{level_in}
-use Rattle.sb_search.specs.Searching.{higher, is_but, IsHighest, IsHighUpTo, HasTwoAbove, IsLowest}
+use Rattle.sb_search.specs.Searching.{false_from, higher, is_but, IsHighest, IsHighUpTo, IsSecond}
 
 among_front : (ls : List Lit) (m l : Lit) → is_among ls l ≡ true → is_among (ls ++ m ∷ []) l ≡ true
 among_front ls m l h = among_push ls m l ∙ or_left (is_among ls l) (is_same_literal m l || false) h
 
 below_best : (entries : List Assigned) (but : Option Lit) (old new : ℕ) → old ≤ new → (l : Lit)
-    → (is_but but l || leb (level_in entries l) old) ≡ true → (is_but but l || leb (level_in entries l) new) ≡ true
+    → (is_but but l || leb (false_from entries l) old) ≡ true → (is_but but l || leb (false_from entries l) new) ≡ true
 below_best entries but old new le l h =
-    elim (or_cases (is_but but l) (leb (level_in entries l) old) h) [
-      | inl is ↦ or_left (is_but but l) (leb (level_in entries l) new) is
-      | inr low ↦ or_right (is_but but l) (leb (level_in entries l) new)
-          (le-leb (level_in entries l) new (omega (arith, leb-true (level_in entries l) old low, le)))
+    elim (or_cases (is_but but l) (leb (false_from entries l) old) h) [
+      | inl is ↦ or_left (is_but but l) (leb (false_from entries l) new) is
+      | inr low ↦ or_right (is_but but l) (leb (false_from entries l) new)
+          (le-leb (false_from entries l) new (omega (arith, leb-true (false_from entries l) old low, le)))
     ]
 
 -- the first one of a list
@@ -29,11 +28,11 @@ first_highest : (entries : List Assigned) (but : Option Lit) (ls : List Lit) (l 
 first_highest entries but ls l other h = (
   among_push_same ls l,
   other,
-  all_push (λ m. is_but but m || leb (level_in entries m) (level_in entries l)) ls l
-      (all_weaker (is_but but) (λ m. is_but but m || leb (level_in entries m) (level_in entries l))
-      (λ m is. or_left (is_but but m) (leb (level_in entries m) (level_in entries l)) is) ls h)
-      (or_right (is_but but l) (leb (level_in entries l) (level_in entries l))
-      (le-leb (level_in entries l) (level_in entries l) (omega arith))),
+  all_push (λ m. is_but but m || leb (false_from entries m) (false_from entries l)) ls l
+      (all_weaker (is_but but) (λ m. is_but but m || leb (false_from entries m) (false_from entries l))
+      (λ m is. or_left (is_but but m) (leb (false_from entries m) (false_from entries l)) is) ls h)
+      (or_right (is_but but l) (leb (false_from entries l) (false_from entries l))
+      (le-leb (false_from entries l) (false_from entries l) (omega arith))),
 )
 
 -- one more literal
@@ -49,26 +48,26 @@ highest_more entries but (Some m) ls l h =
       | inl is ↦ rw is (
         among_front ls l m h.0,
         h.1,
-        all_push (λ x. is_but but x || leb (level_in entries x) (level_in entries m)) ls l h.2
-            (or_left (is_but but l) (leb (level_in entries l) (level_in entries m)) is),
+        all_push (λ x. is_but but x || leb (false_from entries x) (false_from entries m)) ls l h.2
+            (or_left (is_but but l) (leb (false_from entries l) (false_from entries m)) is),
       )
-      | inr other ↦ rw other (elim (cases_Bool (leb (level_in entries l) (level_in entries m))) [
+      | inr other ↦ rw other (elim (cases_Bool (leb (false_from entries l) (false_from entries m))) [
         | inl low ↦ rw low (
           among_front ls l m h.0,
           h.1,
-          all_push (λ x. is_but but x || leb (level_in entries x) (level_in entries m)) ls l h.2
-              (or_right (is_but but l) (leb (level_in entries l) (level_in entries m)) low),
+          all_push (λ x. is_but but x || leb (false_from entries x) (false_from entries m)) ls l h.2
+              (or_right (is_but but l) (leb (false_from entries l) (false_from entries m)) low),
         )
         | inr high ↦ rw high (
           among_push_same ls l,
           other,
-          all_push (λ x. is_but but x || leb (level_in entries x) (level_in entries l)) ls l
-              (all_weaker (λ x. is_but but x || leb (level_in entries x) (level_in entries m))
-              (λ x. is_but but x || leb (level_in entries x) (level_in entries l))
-              (below_best entries but (level_in entries m) (level_in entries l)
-              (omega (arith, leb-false (level_in entries l) (level_in entries m) high))) ls h.2)
-              (or_right (is_but but l) (leb (level_in entries l) (level_in entries l))
-              (le-leb (level_in entries l) (level_in entries l) (omega arith))),
+          all_push (λ x. is_but but x || leb (false_from entries x) (false_from entries l)) ls l
+              (all_weaker (λ x. is_but but x || leb (false_from entries x) (false_from entries m))
+              (λ x. is_but but x || leb (false_from entries x) (false_from entries l))
+              (below_best entries but (false_from entries m) (false_from entries l)
+              (omega (arith, leb-false (false_from entries l) (false_from entries m) high))) ls h.2)
+              (or_right (is_but but l) (leb (false_from entries l) (false_from entries l))
+              (le-leb (false_from entries l) (false_from entries l) (omega arith))),
         )
       ])
     ]
@@ -76,7 +75,7 @@ highest_more entries but (Some m) ls l h =
 -- the level of the second one
 high_up_to : (entries : List Assigned) (clause : List Lit) (one other : Lit)
     → IsHighest entries clause None (Some one) → IsHighest entries clause (Some one) (Some other)
-    → IsHighUpTo entries clause (level_in entries other)
+    → IsHighUpTo entries clause (false_from entries other)
 high_up_to entries clause one other h k = λ n low. record {
   one = other;
   other = one;
@@ -87,54 +86,28 @@ high_up_to entries clause one other h k = λ n low. record {
   other_above = omega (
     arith,
     low,
-    leb-true (level_in entries other) (level_in entries one)
-        (all_among (λ l. false || leb (level_in entries l) (level_in entries one)) clause other h.2 k.0),
+    leb-true (false_from entries other) (false_from entries one)
+        (all_among (λ l. false || leb (false_from entries l) (false_from entries one)) clause other h.2 k.0),
   );
 }
 
--- all but one are not above
-not_two_above : (entries : List Assigned) (clause : List Lit) (top : Lit) (level : ℕ)
-    → list_all (λ l. is_same_literal l top || leb (level_in entries l) level) clause ≡ true
-    → HasTwoAbove entries clause level → ⊥
-not_two_above entries clause top level all h =
-    false≢true (sym h.differ
-    ∙ is_same_literal-of h.one h.other
-    (is_top h.one h.one_there h.one_above ∙ sym (is_top h.other h.other_there h.other_above)))
-  where
-    is_top : (l : Lit) → is_among clause l ≡ true → level < level_in entries l → l ≡ top
-    is_top l there above =
-        elim (or_cases (is_same_literal l top) (leb (level_in entries l) level)
-        (all_among (λ m. is_same_literal m top || leb (level_in entries m) level) clause l all there)) [
-          | inl same ↦ is_same_literal-true l top same
-          | inr low ↦ absurd (omega (arith, leb-true (level_in entries l) level low, above))
-        ]
-
-pub lowest_two : (entries : List Assigned) (clause : List Lit) (one other : Lit)
+-- the level from which on the others are false
+pub second_two : (entries : List Assigned) (clause : List Lit) (one other : Lit)
     → IsHighest entries clause None (Some one) → IsHighest entries clause (Some one) (Some other)
-    → IsLowest entries clause (level_in entries other)
-lowest_two entries clause one other h k = record {
-  two_below = high_up_to entries clause one other h k;
-  not_two = not_two_above entries clause one (level_in entries other) k.2;
-}
+    → IsSecond entries clause one (false_from entries other)
+second_two entries clause one other h k =
+    record { there = h.0; two_below = high_up_to entries clause one other h k; others = k.2 }
 
 -- where there is no other literal
-pub lowest_one : (entries : List Assigned) (clause : List Lit) (one : Lit)
-    → IsHighest entries clause (Some one) None → IsLowest entries clause 0
-lowest_one entries clause one h = record {
+pub second_none : (entries : List Assigned) (clause : List Lit) (one : Lit)
+    → IsHighest entries clause None (Some one) → IsHighest entries clause (Some one) None
+    → IsSecond entries clause one 0
+second_none entries clause one h k = record {
+  there = h.0;
   two_below = λ n low. absurd (omega (arith, low));
-  not_two = not_two_above entries clause one 0
-      (all_weaker (λ l. is_same_literal l one) (λ l. is_same_literal l one || leb (level_in entries l) 0)
-      (λ l is. or_left (is_same_literal l one) (leb (level_in entries l) 0) is) clause h);
+  others = all_weaker (λ l. is_same_literal l one) (λ l. is_same_literal l one || leb (false_from entries l) 0)
+      (λ l is. or_left (is_same_literal l one) (leb (false_from entries l) 0) is) clause k;
 }
-
--- or none at all
-pub lowest_none : (entries : List Assigned) (clause : List Lit) → IsHighest entries clause None None
-    → IsLowest entries clause 0
-lowest_none entries [] h = record {
-  two_below = λ n low. absurd (omega (arith, low));
-  not_two = λ two. false≢true two.one_there;
-}
-lowest_none entries (l ∷ ls) h = absurd (false≢true h)
 
 -- a turn of the loop over the clause
 pub highest_turn : (entries : List Assigned) (but best new : Option Lit) (ls : List Lit) (i : ℕ) (d : Lit)

@@ -2,8 +2,10 @@ mod Truths
 mod Places
 mod Turns
 mod Highest
+mod Due
 mod Refuting
 mod Outcomes
 mod Hints
 mod Following
+mod Known
 mod Writes

@@ -1,7 +1,6 @@
 -- Literals that stay true where a trail grows, and decisions that are assumptions.
-use Rattle.std.proofs.Common.{◌≡◌, ℕ, Bool, true, ◌||◌, leb, List, [], ◌∷◌, ◌++◌, refl, sym, ◌∙◌, inl, inr}
-use Rattle.std.specs.List.{list_all}
-use Rattle.std.proofs.lemmas.Bool.{false≢true, cases_Bool, and_parts, and_from, or_left, or_right, or_cases}
+use Rattle.std.proofs.Common.{◌≡◌, ℕ, true, ◌||◌, leb, List, [], ◌∷◌, ◌++◌, sym, ◌∙◌, inl, inr}
+use Rattle.std.proofs.lemmas.Bool.{false≢true, cases_Bool, or_left, or_right, or_cases}
 use Rattle.sb_facts.proofs.CallerLemmas.{all_weaker}
 use Rattle.sb_lit.specs.declared.clause.Lit.{Lit}
 use Rattle.sb_lit.specs.Clauses.{is_same_literal, is_among, is_true_under}

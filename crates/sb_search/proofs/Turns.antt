@@ -1,24 +1,22 @@
 -- What the moves of a search keep.
-use Rattle.std.proofs.Common.{◌≡◌, ◌⊎◌, ℕ, ◌+◌, ◌&&◌, ◌||◌, ◌<◌, ◌≤◌, true, false, leb, ltb, take, List, [], ◌∷◌, ◌++◌, Some, None, refl, sym, ◌∙◌, ap, subst, inl, inr, arith}
-use Rattle.std.specs.List.{list_all}
-use Rattle.std.proofs.lemmas.Bool.{false≢true, cases_Bool, lt-leb, leb-true, ltb-true, ltb-false, and_parts, false_from_ne_true}
+use Rattle.std.proofs.Common.{◌≡◌, ◌⊎◌, ℕ, ◌+◌, ◌<◌, ◌≤◌, true, leb, ltb, take, List, [], ◌∷◌, ◌++◌, Some, None, refl, sym, ◌∙◌, ap, subst, inl, inr, arith}
+use Rattle.std.proofs.lemmas.Bool.{cases_Bool, lt-leb, leb-true, ltb-true, ltb-false, false_from_ne_true}
 use Rattle.std.proofs.lemmas.List.{append-nil}
 use Rattle.std.proofs.lemmas.List.Elements.{filter-append}
 use Rattle.sb_lit.specs.declared.clause.Lit.{Lit}
-use Rattle.sb_lit.specs.Clauses.{is_same_literal, is_among, is_false_under, is_open_under, leaves_only, negation}
+use Rattle.sb_lit.specs.Clauses.{is_among, is_false_clause, leaves_only}
 use Rattle.sb_lit.specs.Kept.{Kept, KeptClause}
-use Rattle.sb_lit.proofs.CallerLemmas.{all_among, is_same_literal-true, is_same_literal-of}
 use Rattle.sb_trail.specs.declared.assigned.Assigned.{Assigned}
-use Rattle.sb_trail.specs.Assignments.{IsTrail, AreDistinct, held, current_level, level_behind, AreLevelled, up_to}
+use Rattle.sb_trail.specs.Assignments.{IsTrail, held, current_level, level_behind, AreLevelled, up_to}
 use Rattle.sb_trail.proofs.CallerLemmas.{level_after-push, up_to-all, up_to-up_to}
 use Rattle.sb_clauses.specs.Propagation.{State, GrowsBy, IsSettled, has_room_for, are_reserved}
-use Rattle.sb_analyze.specs.Reasons.{AreReasoned, level_in}
+use Rattle.sb_analyze.specs.Reasons.{AreReasoned}
 use Rattle.sb_analyze.specs.Learning.{IsSettledBelow}
 use Rattle.sb_analyze.specs.Cores.{AreAssumed}
-use Rattle.sb_analyze.proofs.CallerLemmas.{true_up_to_low, level_forced, level_up_to, settled_more, not_false_with, reasoned_grown, reasoned_decided, reasoned_up_to, reasoned_more, below_grown, below_decided, below_up_to}
+use Rattle.sb_analyze.proofs.CallerLemmas.{level_forced, level_up_to, settled_more, reasoned_grown, reasoned_decided, reasoned_up_to, reasoned_more, below_grown, below_decided, below_up_to}
 use Rattle.sb_search.specs.Asking.{decided}
 use Rattle.sb_search.specs.Found.{are_true}
-use Rattle.sb_search.specs.Searching.{have_places, IsSearching, IsHighUpTo}
+use Rattle.sb_search.specs.Searching.{have_places, IsSearching, IsLowest}
 use Rattle.sb_search.proofs.Truths.{true_front, all_true, assumed_append, assumed_up_to, assumed_forced}
 use Rattle.sb_search.proofs.Places.{more_places, more_reserved, more_room}
 
@@ -213,50 +211,19 @@ searching_placed wanted assumptions levels next old new kept same more h = recor
       → are_true (held es) (take next assumptions) ≡ true) (sym same) h.first;
 }
 
--- a literal above a level is not false up to it
-not_false_low : (n : ℕ) (es : List Assigned) (a : Lit) → AreDistinct es → n < level_in es a
-    → is_false_under (held (up_to n es)) a ≡ false
-not_false_low n es a distinct above =
-    false_from_ne_true (is_false_under (held (up_to n es)) a) (λ is_false.
-    absurd (omega (arith, true_up_to_low n es (negation a) a distinct is_false refl, above)))
-
--- a literal that is not false is the one that a clause leaves, so a clause with two of them leaves none
-left_is : (literals clause : List Lit) (a l : Lit) → is_among clause a ≡ true → is_false_under literals a ≡ false
-    → leaves_only literals clause l ≡ true → a ≡ l
-left_is literals clause a l among stays leaves =
-    let others = (and_parts (is_among clause l && is_open_under literals l)
-    (list_all (λ m. is_same_literal m l || is_false_under literals m) clause) leaves).1 in
-    let at : (is_same_literal a l || is_false_under literals a) ≡ true =
-    all_among (λ m. is_same_literal m l || is_false_under literals m) clause a others among in
-    elim (cases_Bool (is_same_literal a l)) [
-      | inl same ↦ is_same_literal-true a l same
-      | inr other ↦ absurd (false≢true (sym (rw (other, stays) refl) ∙ at))
-    ]
-
-leaves_none : (literals clause : List Lit) (a b l : Lit) → is_among clause a ≡ true → is_among clause b ≡ true
-    → is_same_literal a b ≡ false → is_false_under literals a ≡ false → is_false_under literals b ≡ false
-    → leaves_only literals clause l ≡ false
-leaves_none literals clause a b l here there differ a_stays b_stays =
-    false_from_ne_true (leaves_only literals clause l) (λ leaves.
-    false≢true (sym differ ∙ is_same_literal-of a b
-    (left_is literals clause a l here a_stays leaves ∙ sym (left_is literals clause b l there b_stays leaves))))
-
--- a lemma is kept where two of its literals are above each level below
-pub below_lemma : (kept : Kept) (k : KeptClause) (es : List Assigned) (level : ℕ) → AreDistinct es
-    → IsHighUpTo es k.literals level → IsSettledBelow kept (up_to level es)
-    → IsSettledBelow (kept ++ Some k ∷ []) (up_to level es)
-below_lemma kept k es level distinct high h = λ n low.
+-- a lemma is kept where it is neither false nor leaves a literal on each level below
+pub below_lemma : (kept : Kept) (k : KeptClause) (es : List Assigned) (level : ℕ) → IsLowest es k.literals level
+    → IsSettledBelow kept (up_to level es) → IsSettledBelow (kept ++ Some k ∷ []) (up_to level es)
+below_lemma kept k es level lowest h = λ n low.
     let under : n < level = omega (arith, low, level_up_to level 0 es (omega arith)) in
-    let two = high n under in
     let same : up_to n (up_to level es) ≡ up_to n es = up_to-up_to n level es (omega (arith, under)) in
-    let one_stays = not_false_low n es two.one distinct two.one_above in
-    let other_stays = not_false_low n es two.other distinct two.other_above in
     subst (λ (xs : List Assigned). IsSettled (kept ++ Some k ∷ []) (held xs)) (sym same)
     (settled_more kept k (held (up_to n es))
     (subst (λ (xs : List Assigned). IsSettled kept (held xs)) same (h n low))
-    (not_false_with (held (up_to n es)) k.literals two.one two.one_there one_stays)
-    (λ l. leaves_none (held (up_to n es)) k.literals two.one two.other l two.one_there two.other_there two.differ
-    one_stays other_stays))
+    (false_from_ne_true (is_false_clause (held (up_to n es)) k.literals)
+    (λ is_false. lowest.none_below n under (inl is_false)))
+    (λ l. false_from_ne_true (leaves_only (held (up_to n es)) k.literals l)
+    (λ leaves. lowest.none_below n under (inr (l, leaves)))))
 
 -- levels are taken back, and a clause is kept there
 pub searching_after : (wanted wanted_now : List ℕ) (assumptions : List Lit) (levels next levels_now next_now level : ℕ)

@@ -1,7 +1,5 @@
 -- Lines that are put, one after the other.
-use Rattle.std.proofs.Common.{◌≡◌, ℕ, ◌+◌, ◌<◌, true, false, List, [], ◌∷◌, ◌++◌, Option, Some, Result, Ok, Err, sym, subst, ◌∙◌, ap}
-use Rattle.std.specs.Result.{OnOk, OnErr, is_err}
-use Rattle.std.proofs.lemmas.Bool.{false≢true}
+use Rattle.std.proofs.Common.{◌≡◌, ℕ, ◌+◌, ◌<◌, true, List, [], ◌∷◌, ◌++◌, Option, Some, sym, subst, ◌∙◌, ap}
 use Rattle.sb_lit.specs.declared.clause.Lit.{Lit}
 use Rattle.sb_lit.specs.Budgets.{Spending}
 use Rattle.sb_lit.specs.Kept.{Kept}
@@ -11,8 +9,10 @@ use Rattle.sb_rulebook.specs.LineLaws.{has_text}
 use Rattle.sb_proof.specs.Tapes.{with_bytes}
 use Rattle.sb_analyze.specs.Learning.{IsLesson}
 use Rattle.sb_search.specs.declared.theory.Checked.{Checked}
-use Rattle.sb_search.specs.Writing.{Written, written, with_learned, with_gate, true_or_false, kept_behind, AreKnown}
+use Rattle.sb_search.specs.Asking.{AreKnown, HasKnownAtoms}
+use Rattle.sb_search.specs.Writing.{Written, written, with_learned, with_gate, true_or_false, kept_behind}
 use Rattle.sb_search.specs.Searching.{IsWritten, nothing, learns, divides}
+use Rattle.sb_search.proofs.Known.{lesson_known}
 
 -- the same clauses, budget and bytes are the same proof
 pub written_is : (kept more : Kept) (budget left : Spending) (told next : Option (List ℕ)) → more ≡ kept
@@ -45,37 +45,26 @@ gate_is kept more budget told next atom literals clause is_put is_kept same_kept
     budget t)
     (same_told ∙ ap (λ (ls : List Lit). with_bytes (line (text_of (rule_line gate ls))) told) is_put)
 
--- lines, and then more lines,
-pub puts_on : {T : Type 0} (knows : T → ℕ → Type 0) (puts : T → T → Written → Written → Type 0)
-    → ((x y z : T) (before between after : Written) → puts x y before between → puts y z between after
-    → puts x z before after)
-    → ((x y : T) (before after : Written) → puts x y before after → (atom : ℕ) → knows x atom → knows y atom)
-    → (assumptions : List Lit) (x y z : T) (before between after : Written)
-    → (AreKnown (knows x) assumptions → puts x y before between)
-    → (AreKnown (knows y) assumptions → puts y z between after)
-    → AreKnown (knows x) assumptions → puts x z before after
-puts_on knows puts both stays assumptions x y z before between after h k known =
-    both x y z before between after (h known)
-    (k (λ l among. stays x y before between (h known) l.atom (known l among)))
-
--- and those that the search writes
-pub puts_written : {T : Type 0} (knows : T → ℕ → Type 0) (puts : T → T → Written → Written → Type 0)
+-- those that the search writes
+pub puts_written : {T : Type 0} (passes : T → ℕ → Type 0) (puts : T → T → Written → Written → Type 0)
     → ((x : T) (proof : Written) → puts x x proof proof)
     → ((x : T) (proof : Written) (clause : List Lit) (hints : List ℕ) (level : ℕ)
-    → IsLesson proof.kept clause hints level → has_text (learned_line clause hints) ≡ true
-    → proof.budget.spent < proof.budget.limit → puts x x proof (with_learned clause hints level proof))
-    → ((x : T) (proof : Written) (atom : ℕ) → knows x atom → has_text (rule_line gate (true_or_false atom)) ≡ true
+    → IsLesson proof.kept clause hints level → AreKnown (passes x) clause
+    → has_text (learned_line clause hints) ≡ true → proof.budget.spent < proof.budget.limit
+    → puts x x proof (with_learned clause hints level proof))
+    → ((x : T) (proof : Written) (atom : ℕ) → passes x atom → has_text (rule_line gate (true_or_false atom)) ≡ true
     → puts x x proof (with_gate atom proof))
-    → (x : T) (assumptions : List Lit) (before after : Written) → IsWritten assumptions before after
-    → AreKnown (knows x) assumptions → puts x x before after
-puts_written knows puts none learned gated x assumptions before after (nothing same) known =
+    → (x : T) (assumptions : List Lit) (before after : Written) → HasKnownAtoms (passes x) before.kept assumptions
+    → IsWritten assumptions before after → puts x x before after
+puts_written passes puts none learned gated x assumptions before after known (nothing same) =
     subst (λ (proof : Written). puts x x before proof) (sym same) (none x before)
-puts_written knows puts none learned gated x assumptions before after (learns clause hints level h text room same)
-    known =
+puts_written passes puts none learned gated x assumptions before after known
+    (learns clause hints level h text room same) =
     subst (λ (proof : Written). puts x x before proof) (sym same)
-    (learned x before clause hints level h text room)
-puts_written knows puts none learned gated x assumptions before after (divides l among text same) known =
-    subst (λ (proof : Written). puts x x before proof) (sym same) (gated x before l.atom (known l among) text)
+    (learned x before clause hints level h
+    (lesson_known (passes x) before.kept clause hints level known.clauses h) text room)
+puts_written passes puts none learned gated x assumptions before after known (divides l among text same) =
+    subst (λ (proof : Written). puts x x before proof) (sym same) (gated x before l.atom (known.assumed l among) text)
 
 -- a theory was asked, and its answer is known
 pub asked : {T : Type 0} (puts : T → T → Written → Written → Type 0) (x y : T) (before : Written) (kept more : Kept)

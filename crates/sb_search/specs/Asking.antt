@@ -1,11 +1,10 @@
 -- What a search asks of a theory, and what an answer says.
-use Rattle.std.specs.Prelude.{◌≡◌, ℕ, ◌+◌, ◌<◌, ◌≤◌, Bool, true, List, [], ◌∷◌, ◌++◌, Some, None, Result, Ok, Err}
-use Rattle.std.specs.List.{list_all}
+use Rattle.std.specs.Prelude.{◌≡◌, ℕ, ◌+◌, ◌<◌, ◌≤◌, true, List, [], ◌∷◌, ◌++◌, Some, None, Result, Ok, Err}
 use Rattle.sb_lit.specs.declared.clause.Lit.{Lit}
-use Rattle.sb_lit.specs.Clauses.{is_false_clause}
-use Rattle.sb_lit.specs.Kept.{Kept}
+use Rattle.sb_lit.specs.Clauses.{is_among}
+use Rattle.sb_lit.specs.Kept.{Kept, KeptClause, kept_at}
 use Rattle.sb_trail.specs.declared.assigned.Assigned.{Assigned}
-use Rattle.sb_trail.specs.Assignments.{held, value_of, current_level, up_to}
+use Rattle.sb_trail.specs.Assignments.{value_of, current_level, up_to}
 use Rattle.sb_proof.specs.declared.tape.TapeFault.{TapeFault}
 use Rattle.sb_proof.specs.declared.tape.TapeFault.TheVariants as fault
 use Rattle.sb_proof.specs.Tapes.{Rose}
@@ -24,13 +23,25 @@ decided entries l = entries ++ record { literal = l; level = current_level entri
 abbrev pub with_lemma : Kept → List Lit → Kept
 with_lemma kept clause = kept ++ Some (record { literals = clause; level = 0 }) ∷ []
 
--- A lemma is a clause that is taught and is false on the trail, and the atom of a wish has no value; their atoms pass
--- the test.
-abbrev pub IsFair : (ℕ → Bool) → (List Lit → Type 0) → List Assigned → Checked → Type 0
+-- the atom of each literal is known
+abbrev pub AreKnown : (ℕ → Type 0) → List Lit → Type 0
+AreKnown passes literals = (l : Lit) → is_among literals l ≡ true → passes l.atom
+
+-- so it is with those of kept clauses
+abbrev pub AreAllKnown : (ℕ → Type 0) → Kept → Type 0
+AreAllKnown passes kept =
+    (id : ℕ) (clause : KeptClause) → kept_at kept id ≡ Some clause → AreKnown passes clause.literals
+
+-- the atoms of kept clauses and those of assumptions are known
+pub record HasKnownAtoms (passes : ℕ → Type 0) (kept : Kept) (assumptions : List Lit) : Type 0 where
+  pub clauses : AreAllKnown passes kept
+  pub assumed : AreKnown passes assumptions
+
+-- A lemma is a clause that is taught, and the atom of a wish has no value; their atoms are known.
+abbrev pub IsFair : (ℕ → Type 0) → (List Lit → Type 0) → List Assigned → Checked → Type 0
 IsFair passes teaches entries checked.Fine = Unit {0}
-IsFair passes teaches entries (checked.Lemma clause) = (is_false_clause (held entries) clause ≡ true)
-    × (list_all (λ l. passes l.atom) clause ≡ true) × teaches clause
-IsFair passes teaches entries (checked.Ask l) = (value_of entries l.atom ≡ None) × (passes l.atom ≡ true)
+IsFair passes teaches entries (checked.Lemma clause) = AreKnown passes clause × teaches clause
+IsFair passes teaches entries (checked.Ask l) = (value_of entries l.atom ≡ None) × passes l.atom
 IsFair passes teaches entries checked.Spent = Unit {0}
 
 -- The measure falls over a lemma with the levels that are taken back for it, however many, and over the decision of a

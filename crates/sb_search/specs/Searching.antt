@@ -3,7 +3,7 @@ use Rattle.std.specs.Prelude.{◌≡◌, ℕ, ◌<◌, ◌≤◌, ◌-◌, ◌�
 use Rattle.std.specs.List.{list_all, slice_get}
 use Rattle.sb_lit.specs.declared.clause.Lit.{Lit}
 use Rattle.sb_lit.specs.Budgets.{Spending}
-use Rattle.sb_lit.specs.Clauses.{is_among, is_same_literal, is_true_under, is_false_under}
+use Rattle.sb_lit.specs.Clauses.{is_among, is_same_literal, is_true_under, is_false_under, is_false_clause, leaves_only}
 use Rattle.sb_trail.specs.declared.assigned.Assigned.{Assigned}
 use Rattle.sb_trail.specs.Assignments.{held, value_of, current_level, up_to}
 use Rattle.sb_clauses.specs.Propagation.{State, has_room_for, are_reserved}
@@ -63,15 +63,19 @@ IsNext wanted assumptions levels search (next.Free atom) = (value_of search.trai
 IsNext wanted assumptions levels search next.Full = (list_all (has_value search.trail.literals) wanted ≡ true)
     × (are_true (held search.trail.literals) assumptions ≡ true)
 
--- two different literals of the clause are above the level
+-- the level from which on the literal is false; where it is not, the number of entries, which no level is above
+abbrev pub false_from : List Assigned → Lit → ℕ
+false_from entries l = if is_false_under (held entries) l then level_in entries l else length entries
+
+-- two different literals of the clause are not false up to the level
 pub record HasTwoAbove (entries : List Assigned) (clause : List Lit) (level : ℕ) : Type 0 where
   pub one : Lit
   pub other : Lit
   pub one_there : is_among clause one ≡ true
   pub other_there : is_among clause other ≡ true
   pub differ : is_same_literal one other ≡ false
-  pub one_above : level < level_in entries one
-  pub other_above : level < level_in entries other
+  pub one_above : level < false_from entries one
+  pub other_above : level < false_from entries other
 
 -- a budget of which as much is spent, or more, and that within its limit
 pub record IsSpentOn (old new : Spending) : Type 0 where
@@ -109,35 +113,46 @@ abbrev pub Entails : Kept → Kept → Type 0
 Entails old new = (values : ℕ → Bool) (level : ℕ) → all_hold values (kept_up_to level old) ≡ true
     → all_hold values (kept_up_to level new) ≡ true
 
--- the clause is not false, and leaves no literal, on the levels below this one
+-- below the level two different literals are not false
 abbrev pub IsHighUpTo : List Assigned → List Lit → ℕ → Type 0
 IsHighUpTo entries clause level = (n : ℕ) → n < level → HasTwoAbove entries clause n
 
--- The lowest level at which the clause, where it is false in the end, is false or leaves one literal: there at most one
--- of its literals is above.
-pub record IsLowest (entries : List Assigned) (clause : List Lit) (level : ℕ) : Type 0 where
+-- The level is the lowest one from which on all literals of the clause but this one are false.
+pub record IsSecond (entries : List Assigned) (clause : List Lit) (last : Lit) (level : ℕ) : Type 0 where
+  pub there : is_among clause last ≡ true
   pub two_below : IsHighUpTo entries clause level
-  pub not_two : HasTwoAbove entries clause level → ⊥
+  pub others : list_all (λ l. is_same_literal l last || nat_le (false_from entries l) level) clause ≡ true
+
+-- the clause is false, or leaves one literal
+abbrev pub IsDue : List Lit → List Lit → Type 0
+IsDue held clause = (is_false_clause held clause ≡ true) ⊎ ((l : Lit) × (leaves_only held clause l ≡ true))
+
+-- On no level below this one the clause is false or leaves one literal, and if this one is below the current one, it is
+-- or does so on it.
+pub record IsLowest (entries : List Assigned) (clause : List Lit) (level : ℕ) : Type 0 where
+  pub none_below : (n : ℕ) → n < level → IsDue (held (up_to n entries)) clause → ⊥
+  pub due : level < current_level entries → IsDue (held (up_to level entries)) clause
 
 -- the literal is this one
 abbrev pub is_but : Option Lit → Lit → Bool
 is_but None l = false
 is_but (Some m) l = is_same_literal l m
 
--- of the best literal so far and the next one, the one of the higher level, but for this one
+-- of the best literal so far and the next one, the one that is false from the higher level on, but for this one
 abbrev pub higher : List Assigned → Option Lit → Option Lit → Lit → Option Lit
 higher entries but best l =
     if is_but but l then best
     else elim best [
       | None ↦ Some l
-      | Some m ↦ if nat_le (level_in entries l) (level_in entries m) then Some m else Some l
+      | Some m ↦ if nat_le (false_from entries l) (false_from entries m) then Some m else Some l
     ]
 
--- a literal of the highest level among those that are not this one, none where there is no other
+-- a literal of those that are false from the highest level on, among those that are not this one; none where there is no
+-- other
 abbrev pub IsHighest : List Assigned → List Lit → Option Lit → Option Lit → Type 0
 IsHighest entries clause but None = list_all (is_but but) clause ≡ true
 IsHighest entries clause but (Some best) = (is_among clause best ≡ true) × (is_but but best ≡ false)
-    × (list_all (λ l. is_but but l || nat_le (level_in entries l) (level_in entries best)) clause ≡ true)
+    × (list_all (λ l. is_but but l || nat_le (false_from entries l) (false_from entries best)) clause ≡ true)
 
 -- what some turns make of the search: an answer, or a place from which it goes on
 abbrev pub Continues : List ℕ → List Lit → ℕ → ℕ → State → Spending → Option Found → Type 0

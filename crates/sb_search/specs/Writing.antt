@@ -1,8 +1,7 @@
 -- What stands in a proof so far, and the lines that a search writes itself.
-use Rattle.std.specs.Prelude.{◌≡◌, ℕ, ◌+◌, true, false, List, [], ◌∷◌, ◌++◌, Option, Some}
+use Rattle.std.specs.Prelude.{ℕ, ◌+◌, true, false, List, [], ◌∷◌, ◌++◌, Option, Some}
 use Rattle.sb_lit.specs.declared.clause.Lit.{Lit}
 use Rattle.sb_lit.specs.Budgets.{Spending}
-use Rattle.sb_lit.specs.Clauses.{is_among}
 use Rattle.sb_lit.specs.Kept.{Kept}
 use Rattle.sb_script.specs.Steps.{line}
 use Rattle.sb_rulebook.specs.Lines.{learned_line, rule_line, gate, text_of}
@@ -46,7 +45,3 @@ kept_behind kept checked.Fine = kept
 kept_behind kept (checked.Lemma clause) = with_lemma kept clause
 kept_behind kept (checked.Ask l) = kept
 kept_behind kept checked.Spent = kept
-
--- the atom of each literal is known
-abbrev pub AreKnown : (ℕ → Type 0) → List Lit → Type 0
-AreKnown knows literals = (l : Lit) → is_among literals l ≡ true → knows l.atom

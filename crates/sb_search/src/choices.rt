@@ -11,7 +11,7 @@ use sb_trail::{CompactLit, Entry, Trail};
 use std::alloc::{AllocError, Global};
 
 /// Which atom is decided next, and how: of the wanted atoms without a value the one that was met most in conflicts of
-/// late, as it was last. No answer rests on it.
+/// late, as a hint says, or else as it was last. No answer rests on it.
 #[derive(Drop)]
 pub(crate) struct Choices {
     /// The wanted atoms that wait: all that have no value, and some that have one.
@@ -61,13 +61,14 @@ impl Choices {
         None
     }
 
-    /// The literal of an atom that is decided: as the atom was last, and negative at first.
-    pub fn literal(&self, atom: u64) -> Lit
+    /// The literal of an atom that is decided: as the hint says, if there is one, or else as the atom was last, and
+    /// negative at first.
+    pub fn literal(&self, atom: u64, hint: Option<bool>) -> Lit
         ensures { result.atom ≡ atom }
     {
         Lit {
             atom,
-            positive: self.phases.of(atom),
+            positive: hint.unwrap_or(self.phases.of(atom)),
         }
     }
 

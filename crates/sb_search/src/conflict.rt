@@ -11,10 +11,10 @@ ghost use Rattle.sb_analyze.specs.Learning.{IsLesson, IsAsserting, IsSettledBelo
 ghost use Rattle.sb_analyze.specs.Cores.{AreAssumed, IsFinal, IsBothCore, IsNewCore};
 ghost use Rattle.sb_rulebook.specs.Lines.{rule_line, gate};
 ghost use Rattle.sb_rulebook.specs.LineLaws.{has_text};
-ghost use Rattle.sb_search.specs.Asking.{CountsFaults};
+ghost use Rattle.sb_search.specs.Asking.{HasKnownAtoms, CountsFaults};
 ghost use Rattle.sb_search.specs.Found.{GrowsTo, IsFound};
 ghost use Rattle.sb_search.specs.Searching.{IsSearching, IsTurned, IsSpentOn, IsWritten, Entails};
-ghost use Rattle.sb_search.specs.Writing.{Written, written, true_or_false, AreKnown};
+ghost use Rattle.sb_search.specs.Writing.{Written, written, true_or_false};
 ghost use Rattle.sb_search.specs.declared.found.Found.TheVariants.{Sat};
 ghost use Rattle.sb_search.specs.declared.turn.Turn.TheVariants.{Ends};
 
@@ -45,6 +45,7 @@ pub(crate) fn resolve<T: Theory, L: Tape>(
     requires searching { IsSearching (T.wanted theory.old) assumptions.now stage.old.levels stage.old.next engine.old }
     requires conflict { IsConflict engine.old.kept (held engine.old.trail.literals) conflict.0 }
     requires stands { T.stands theory.old engine.old.trail.literals }
+    requires known { HasKnownAtoms (T.passes theory.old) engine.old.kept assumptions.now }
     ensures turned { IfOk result (IsTurned (T.wanted theory.new) assumptions.now stage.new.levels stage.new.next
         engine.old engine.new budget.old budget.new
         (T.measure theory.old engine.old.kept engine.old.trail.literals)
@@ -52,11 +53,12 @@ pub(crate) fn resolve<T: Theory, L: Tape>(
     ensures follows { OnOk result (Entails engine.old.kept engine.new.kept) }
     ensures not_sat { IfOk result (λ turn. turn ≢ Ends Sat) }
     ensures stands { OnOk result (T.stands theory.new engine.new.trail.literals) }
-    ensures puts { OnOk result (AreKnown (T.knows theory.old) assumptions.now → T.puts theory.old theory.new
+    ensures known { OnOk result (HasKnownAtoms (T.passes theory.new) engine.new.kept assumptions.now) }
+    ensures puts { OnOk result (T.puts theory.old theory.new
         (written engine.old.kept budget.old (L.Tape.told tape.old))
         (written engine.new.kept budget.new (L.Tape.told tape.new))) }
     ensures wanted { T.wanted theory.new ≡ T.wanted theory.old }
-    ensures passes { T.passes theory.new ≡ T.passes theory.old }
+    ensures passes { (atom : ℕ) → T.passes theory.old atom → T.passes theory.new atom }
     ensures teaches { (clause : List TheLit) → T.teaches theory.old clause → T.teaches theory.new clause }
     ensures counts { CountsFaults result (L.Tape.faults tape.old) (L.Tape.faults tape.new) }
 {
@@ -111,7 +113,7 @@ fn take_lesson<T: Theory>(
         → T.stands theory.new engine.new.trail.literals) }
     ensures puts { (proof : Written) → T.puts theory.old theory.new proof proof }
     ensures wanted { T.wanted theory.new ≡ T.wanted theory.old }
-    ensures passes { T.passes theory.new ≡ T.passes theory.old }
+    ensures passes { (atom : ℕ) → T.passes theory.old atom → T.passes theory.new atom }
     ensures teaches { (clause : List TheLit) → T.teaches theory.old clause → T.teaches theory.new clause }
 {
     let trail = engine.trail();

@@ -1,14 +1,15 @@
 //! Lemmas of the theory, and going back.
 
-ghost use Rattle.std.specs.Prelude.{◌≡◌, ℕ, ◌<◌, ◌≤◌, ◌∷◌, ◌++◌, [], List, length, true, Some, OnOk, IfOk, MatchOption};
+ghost use Rattle.std.specs.Prelude.{◌≡◌, ℕ, ◌<◌, ◌≤◌, ◌∷◌, ◌++◌, [], List, length, true, Some, None, OnOk, IfOk};
 ghost use Rattle.sb_lit.specs.declared.clause.Lit.{Lit as TheLit};
+ghost use Rattle.sb_lit.specs.Clauses.{is_true_under};
 ghost use Rattle.sb_lit.specs.Kept.{Kept};
 ghost use Rattle.sb_trail.specs.declared.assigned.Assigned.{Assigned};
-ghost use Rattle.sb_trail.specs.Assignments.{up_to};
+ghost use Rattle.sb_trail.specs.Assignments.{held, up_to};
 ghost use Rattle.sb_clauses.specs.Propagation.{has_room_for};
 ghost use Rattle.sb_analyze.specs.Reasons.{level_in};
 ghost use Rattle.sb_search.specs.Asking.{with_lemma};
-ghost use Rattle.sb_search.specs.Searching.{IsLowest, IsHighest, IsSearching, higher, is_but};
+ghost use Rattle.sb_search.specs.Searching.{IsLowest, IsHighest, IsSecond, IsSearching, false_from, higher, is_but};
 ghost use Rattle.sb_search.specs.Writing.{Written};
 
 use crate::stage::Stage;
@@ -18,8 +19,7 @@ use sb_lit::{Clause, ClauseId, Lit};
 use sb_trail::Trail;
 use std::alloc::AllocError;
 
-/// Keeps a lemma that is false, and goes back to the lowest level at which it is false or leaves one literal: where one
-/// literal alone is of its highest level, that is the highest level of the others.
+/// Keeps a lemma, and goes back to the lowest level on which it is false or leaves one literal, if there is one.
 pub(crate) fn take_lemma<T: Theory>(
     theory: &mut T,
     engine: &mut Engine,
@@ -40,12 +40,12 @@ pub(crate) fn take_lemma<T: Theory>(
         → T.measure theory.new engine.new.kept engine.new.trail.literals < most) }
     ensures puts { (proof : Written) → T.puts theory.old theory.new proof proof }
     ensures wanted { T.wanted theory.new ≡ T.wanted theory.old }
-    ensures passes { T.passes theory.new ≡ T.passes theory.old }
+    ensures passes { (atom : ℕ) → T.passes theory.old atom → T.passes theory.new atom }
     ensures teaches { (clause : List TheLit) → T.teaches theory.old clause → T.teaches theory.new clause }
 {
     let trail = engine.trail();
     let _before = trail.literals();
-    let level = second_level(trail, clause.literals());
+    let level = lowest_level(trail, clause.literals());
     backtrack(theory, engine, stage, level);
     keep(engine, clause, 0)?;
     Ok(())
@@ -65,7 +65,7 @@ pub(crate) fn backtrack<T: Theory>(
     ensures stands { (entries : List Assigned) → T.stands theory.old entries → T.stands theory.new (up_to level entries) }
     ensures puts { (proof : Written) → T.puts theory.old theory.new proof proof }
     ensures wanted { T.wanted theory.new ≡ T.wanted theory.old }
-    ensures passes { T.passes theory.new ≡ T.passes theory.old }
+    ensures passes { (atom : ℕ) → T.passes theory.old atom → T.passes theory.new atom }
     ensures teaches { (clause : List TheLit) → T.teaches theory.old clause → T.teaches theory.new clause }
     ensures falls { (kept : Kept) (entries : List Assigned)
         → T.measure theory.new kept entries ≤ T.measure theory.old kept entries }
@@ -116,22 +116,35 @@ pub(crate) fn make_place(engine: &mut Engine, atom: u64) -> Result<(), AllocErro
     }
 }
 
-/// The highest level but that of the one literal that is of the highest level, where that one is alone: 0 where the
-/// clause has fewer than two literals.
-#[tactic(auto, using(crate::proofs::Highest::lowest_two))]
-fn second_level(trail: &Trail, clause: &[Lit]) -> usize
+/// The lowest level on which a clause is false or leaves one literal, where there is one below the current level; else a
+/// level that leaves the trail as it is.
+fn lowest_level(trail: &Trail, clause: &[Lit]) -> usize
     ensures { IsLowest trail.now.literals clause.now result }
 {
-    let Some(first) = highest_but(trail, clause, None) else {
+    let Some(last) = highest_but(trail, clause, None) else {
         return 0;
     };
-    match highest_but(trail, clause, Some(first)) {
-        Some(second) => level_of(trail, second),
+    let level = second_level(trail, clause, last);
+    let _entries = trail.literals();
+    if is_true_up_to(trail, level, last) {
+        trail.current_level()
+    } else {
+        level
+    }
+}
+
+/// The level from which on all literals but this one are false.
+fn second_level(trail: &Trail, clause: &[Lit], last: Lit) -> usize
+    requires { IsHighest trail.now.literals clause.now None (Some last) }
+    ensures { IsSecond trail.now.literals clause.now last result }
+{
+    match highest_but(trail, clause, Some(last)) {
+        Some(second) => false_from(trail, second),
         None => 0,
     }
 }
 
-/// A literal of the highest level among those that are not this one.
+/// A literal of those that are false from the highest level on, among those that are not this one.
 fn highest_but(trail: &Trail, clause: &[Lit], but: Option<Lit>) -> Option<Lit>
     ensures { IsHighest trail.now.literals clause.now but result }
 {
@@ -142,7 +155,7 @@ fn highest_but(trail: &Trail, clause: &[Lit], but: Option<Lit>) -> Option<Lit>
     best
 }
 
-/// The literal of the higher level, but for this one.
+/// The literal that is false from the higher level on, but for this one.
 fn higher(trail: &Trail, best: Option<Lit>, literal: Lit, but: Option<Lit>) -> Option<Lit>
     ensures { result ≡ higher trail.now.literals but best literal }
 {
@@ -152,7 +165,7 @@ fn higher(trail: &Trail, best: Option<Lit>, literal: Lit, but: Option<Lit>) -> O
     let Some(other) = best else {
         return Some(literal);
     };
-    if level_of(trail, literal) <= level_of(trail, other) {
+    if false_from(trail, literal) <= false_from(trail, other) {
         Some(other)
     } else {
         Some(literal)
@@ -167,6 +180,33 @@ fn is_but(but: Option<Lit>, literal: Lit) -> bool
         Some(other) => literal == other,
         None => false,
     }
+}
+
+/// The level from which on a literal is false; where it is not, the number of literals on the trail, which no level is
+/// above.
+fn false_from(trail: &Trail, literal: Lit) -> usize
+    ensures { result ≡ false_from trail.now.literals literal }
+{
+    if is_true(trail, literal.negated()) {
+        level_of(trail, literal)
+    } else {
+        trail.len()
+    }
+}
+
+/// Whether a literal is true up to a level.
+fn is_true_up_to(trail: &Trail, level: usize, literal: Lit) -> bool
+    ensures { result ≡ is_true_under (held (up_to level trail.now.literals)) literal }
+{
+    let _entries = trail.literals();
+    is_true(trail, literal) & (level_of(trail, literal) <= level)
+}
+
+/// Whether a literal is true.
+fn is_true(trail: &Trail, literal: Lit) -> bool
+    ensures { result ≡ is_true_under (held trail.now.literals) literal }
+{
+    trail.literal_value(literal).unwrap_or(false)
 }
 
 /// The level of a literal, 0 where it has no value.

@@ -1,7 +1,7 @@
 //! The search: a loop that decides, propagates, asks a theory, learns from conflicts and goes back, until a trail is
 //! full, or the assumptions are refuted, or a budget is spent.
 //!
-//! It is generic over a [`Theory`], which says which atoms are wanted, and answers lemmas about what is true so far.
+//! It is generic over a [`Theory`], which says which atoms are wanted, and answers what is true so far with lemmas.
 //! Nothing of a theory is known here but the laws that stand at the trait. What the crate gives is [`search`]; the
 //! layer above implements the trait, keeps the clauses of its assertions, and reads the trail or the clause that was
 //! found.

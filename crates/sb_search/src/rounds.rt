@@ -1,15 +1,15 @@
 //! The whole search.
 
-ghost use Rattle.std.specs.Prelude.{◌≡◌, ◌<◌, ◌≤◌, List, [], true, Some, None, IfOk, OnOk};
+ghost use Rattle.std.specs.Prelude.{◌≡◌, ℕ, ◌<◌, ◌≤◌, List, [], true, Some, None, IfOk, OnOk};
 ghost use Rattle.sb_lit.specs.declared.clause.Lit.{Lit as TheLit};
 ghost use Rattle.sb_lit.specs.declared.clause.ClauseId.{ClauseId as TheId};
 ghost use Rattle.sb_clauses.specs.Propagation.{are_reserved};
 ghost use Rattle.sb_analyze.specs.Reasons.{AreReasoned};
-ghost use Rattle.sb_search.specs.Asking.{CountsFaults};
+ghost use Rattle.sb_search.specs.Asking.{AreAllKnown, HasKnownAtoms, CountsFaults};
 ghost use Rattle.sb_search.specs.Following.{Follows, FollowsByLevel, AreRefuted};
 ghost use Rattle.sb_search.specs.Found.{GrowsTo, IsFound};
 ghost use Rattle.sb_search.specs.Searching.{have_places, IsSearching, IsBetter, IsRound};
-ghost use Rattle.sb_search.specs.Writing.{Written, written, AreKnown};
+ghost use Rattle.sb_search.specs.Writing.{Written, written};
 ghost use Rattle.sb_search.specs.declared.found.Found.TheVariants.{Sat, Unsat};
 
 use crate::choices::Choices;
@@ -28,10 +28,11 @@ use std::alloc::{AllocError, Global};
 /// with which the theory agrees; or for a kept clause of negated assumptions alone.
 ///
 /// Assumptions are decided first, in their order, and then atoms that are wanted: that which was met most in conflicts
-/// of late, as it was last, and false at first. At some conflicts the search begins again at level 0. Behind each
-/// propagation that comes to its end without a false clause the theory is asked, but where an assumption is false. A
-/// literal that it asks for is decided next, once all assumptions are. Each conflict that is learned from spends a step
-/// of the budget, before its line is put. `Spent` comes only where the budget is spent.
+/// of late, as the theory's values would have it, or else as it was last, and false at first. At some conflicts the
+/// search begins again at level 0. Behind each propagation that comes to its end without a false clause the theory is
+/// asked, but where an assumption is false. A literal that it asks for is decided next, once all assumptions are. Each
+/// conflict that is learned from spends a step of the budget, before its line is put. `Spent` comes only where the budget
+/// is spent.
 ///
 /// What stands on the trail stays there, but for what the search takes back of it at its beginning: all above level 0.
 /// What is kept behind the clauses that were there follows from them and from what the theory teaches, level by level.
@@ -48,6 +49,7 @@ pub fn search<T: Theory, L: Tape>(
 ) -> Result<Found, TapeFault>
     requires reasoned { AreReasoned engine.old.kept [] engine.old.trail.literals }
     requires stands { T.stands theory.old engine.old.trail.literals }
+    requires passes { HasKnownAtoms (T.passes theory.old) engine.old.kept assumptions.now }
     ensures found { IfOk result (IsFound (T.wanted theory.new) assumptions.now engine.new budget.new) }
     ensures agrees { IfOk result (λ found. found ≡ Sat → T.agrees theory.new engine.new.trail.literals) }
     ensures kept { OnOk result (GrowsTo engine.old.kept engine.new.kept) }
@@ -60,11 +62,12 @@ pub fn search<T: Theory, L: Tape>(
     ensures stands { OnOk result (T.stands theory.new engine.new.trail.literals) }
     ensures limit { OnOk result (budget.new.limit ≡ budget.old.limit) }
     ensures spends { OnOk result (budget.old.spent ≤ budget.new.spent) }
-    ensures puts { OnOk result (AreKnown (T.knows theory.old) assumptions.now → T.puts theory.old theory.new
+    ensures known { OnOk result (AreAllKnown (T.passes theory.new) engine.new.kept) }
+    ensures puts { OnOk result (T.puts theory.old theory.new
         (written engine.old.kept budget.old (L.Tape.told tape.old))
         (written engine.new.kept budget.new (L.Tape.told tape.new))) }
     ensures wanted { T.wanted theory.new ≡ T.wanted theory.old }
-    ensures passes { T.passes theory.new ≡ T.passes theory.old }
+    ensures passes { (atom : ℕ) → T.passes theory.old atom → T.passes theory.new atom }
     ensures teaches { (clause : List TheLit) → T.teaches theory.old clause → T.teaches theory.new clause }
     ensures counts { CountsFaults result (L.Tape.faults tape.old) (L.Tape.faults tape.new) }
 {
@@ -106,7 +109,7 @@ fn begin<T: Theory>(
         → T.stands theory.new engine.new.trail.literals) }
     ensures puts { (proof : Written) → T.puts theory.old theory.new proof proof }
     ensures wanted { T.wanted theory.new ≡ T.wanted theory.old }
-    ensures passes { T.passes theory.new ≡ T.passes theory.old }
+    ensures passes { (atom : ℕ) → T.passes theory.old atom → T.passes theory.new atom }
     ensures teaches { (clause : List TheLit) → T.teaches theory.old clause → T.teaches theory.new clause }
 {
     let trail = engine.trail();
@@ -163,17 +166,19 @@ fn spend_one<T: Theory, L: Tape>(
 ) -> Result<Option<Found>, TapeFault>
     requires searching { IsSearching (T.wanted theory.old) assumptions.now stage.old.levels stage.old.next engine.old }
     requires stands { T.stands theory.old engine.old.trail.literals }
+    requires known { HasKnownAtoms (T.passes theory.old) engine.old.kept assumptions.now }
     ensures round { IfOk result (IsRound (T.wanted theory.new) assumptions.now stage.new.levels stage.new.next
         engine.old engine.new budget.old budget.new) }
     ensures spends { IfOk result (λ found. found ≡ None → budget.old.spent < budget.new.spent) }
     ensures follows { OnOk result (FollowsByLevel (T.teaches theory.new) engine.old.kept engine.new.kept) }
     ensures agrees { IfOk result (λ found. found ≡ Some Sat → T.agrees theory.new engine.new.trail.literals) }
     ensures stands { OnOk result (T.stands theory.new engine.new.trail.literals) }
-    ensures puts { OnOk result (AreKnown (T.knows theory.old) assumptions.now → T.puts theory.old theory.new
+    ensures known { OnOk result (HasKnownAtoms (T.passes theory.new) engine.new.kept assumptions.now) }
+    ensures puts { OnOk result (T.puts theory.old theory.new
         (written engine.old.kept budget.old (L.Tape.told tape.old))
         (written engine.new.kept budget.new (L.Tape.told tape.new))) }
     ensures wanted { T.wanted theory.new ≡ T.wanted theory.old }
-    ensures passes { T.passes theory.new ≡ T.passes theory.old }
+    ensures passes { (atom : ℕ) → T.passes theory.old atom → T.passes theory.new atom }
     ensures teaches { (clause : List TheLit) → T.teaches theory.old clause → T.teaches theory.new clause }
     ensures counts { CountsFaults result (L.Tape.faults tape.old) (L.Tape.faults tape.new) }
 {
@@ -200,6 +205,7 @@ fn move_on<T: Theory, L: Tape>(
 ) -> Result<Option<Found>, TapeFault>
     requires searching { IsSearching (T.wanted theory.old) assumptions.now stage.old.levels stage.old.next engine.old }
     requires stands { T.stands theory.old engine.old.trail.literals }
+    requires known { HasKnownAtoms (T.passes theory.old) engine.old.kept assumptions.now }
     ensures round { IfOk result (IsRound (T.wanted theory.new) assumptions.now stage.new.levels stage.new.next
         engine.old engine.new budget.old budget.new) }
     ensures better { IfOk result (λ found. found ≡ None → IsBetter budget.old budget.new
@@ -208,11 +214,12 @@ fn move_on<T: Theory, L: Tape>(
     ensures follows { OnOk result (FollowsByLevel (T.teaches theory.new) engine.old.kept engine.new.kept) }
     ensures agrees { IfOk result (λ found. found ≡ Some Sat → T.agrees theory.new engine.new.trail.literals) }
     ensures stands { OnOk result (T.stands theory.new engine.new.trail.literals) }
-    ensures puts { OnOk result (AreKnown (T.knows theory.old) assumptions.now → T.puts theory.old theory.new
+    ensures known { OnOk result (HasKnownAtoms (T.passes theory.new) engine.new.kept assumptions.now) }
+    ensures puts { OnOk result (T.puts theory.old theory.new
         (written engine.old.kept budget.old (L.Tape.told tape.old))
         (written engine.new.kept budget.new (L.Tape.told tape.new))) }
     ensures wanted { T.wanted theory.new ≡ T.wanted theory.old }
-    ensures passes { T.passes theory.new ≡ T.passes theory.old }
+    ensures passes { (atom : ℕ) → T.passes theory.old atom → T.passes theory.new atom }
     ensures teaches { (clause : List TheLit) → T.teaches theory.old clause → T.teaches theory.new clause }
     ensures counts { CountsFaults result (L.Tape.faults tape.old) (L.Tape.faults tape.new) }
 {

@@ -1,6 +1,6 @@
 //! What a search asks of a theory.
 
-ghost use Rattle.std.specs.Prelude.{◌≡◌, ℕ, ◌+◌, ◌^◌, ◌<◌, ◌≤◌, Bool, true, List, [], ◌∷◌, ◌++◌, length, Some, IfOk, OnOk};
+ghost use Rattle.std.specs.Prelude.{◌≡◌, ℕ, ◌+◌, ◌^◌, ◌<◌, ◌≤◌, true, List, [], ◌∷◌, ◌++◌, length, Some, IfOk, OnOk};
 ghost use Rattle.std.specs.List.{slice_get};
 ghost use Rattle.sb_lit.specs.declared.clause.Lit.{Lit as TheLit};
 ghost use Rattle.sb_lit.specs.Kept.{Kept};
@@ -10,7 +10,7 @@ ghost use Rattle.sb_clauses.specs.Propagation.{HasNoneFalse};
 ghost use Rattle.sb_analyze.specs.Learning.{IsLesson};
 ghost use Rattle.sb_rulebook.specs.Lines.{learned_line, rule_line, gate};
 ghost use Rattle.sb_rulebook.specs.LineLaws.{has_text};
-ghost use Rattle.sb_search.specs.Asking.{IsFair, Falls, CountsFaults};
+ghost use Rattle.sb_search.specs.Asking.{AreKnown, IsFair, Falls, CountsFaults};
 ghost use Rattle.sb_search.specs.Writing.{Written, written, kept_behind, with_learned, with_gate, true_or_false};
 ghost use Rattle.sb_search.specs.declared.theory.Checked.TheVariants.{Fine, Spent};
 
@@ -24,8 +24,9 @@ use sb_trail::Trail;
 pub enum Checked {
     /// Nothing is wrong. Where the trail was the last one, the theory has values that agree with it.
     Fine,
-    /// A clause that the theory teaches and that is false on the trail. Its line has just been put, and the search
-    /// keeps it.
+    /// A clause that the theory teaches. Its line has just been put, and the search keeps it, at level 0. Where it is
+    /// false on some level, or leaves one literal there, the search goes back to the lowest such level, else nowhere;
+    /// then it propagates and asks again. So a theory may give one lemma after the other.
     Lemma(Clause),
     /// This literal is to be decided; it has no value.
     Ask(Lit),
@@ -38,8 +39,9 @@ pub trait Theory {
     /// The atoms that are to have values in the end.
     ghost wanted: { Self → List ℕ };
 
-    /// The test of atoms that those of lemmas and wishes pass.
-    ghost passes: { Self → ℕ → Bool };
+    /// The atoms that the theory knows: those of its lemmas and wishes, and those that clauses may be of. They stay, and
+    /// others may come.
+    ghost passes: { Self → ℕ → Type 0 };
 
     /// The clauses that lemmas may be: those that are true by the theory alone. What it teaches it goes on to teach.
     ghost teaches: { Self → List TheLit → Type 0 };
@@ -52,9 +54,6 @@ pub trait Theory {
 
     /// The values that the theory has agree with each literal of a wanted atom on the trail.
     ghost agrees: { Self → List Assigned → Type 0 };
-
-    /// The atoms that the reader of the lines knows.
-    ghost knows: { Self → ℕ → Type 0 };
 
     /// Lines were put that follow one after the other by the rules that the theory goes by. They take the one proof, of
     /// which the first theory knows, to the other one, of which the second theory knows.
@@ -75,12 +74,12 @@ pub trait Theory {
         requires stands { stands self.old trail.now.literals }
         ensures stands { OnOk result (stands self.new trail.now.literals) }
         ensures wanted { wanted self.new ≡ wanted self.old }
-        ensures passes { passes self.new ≡ passes self.old }
+        ensures passes { (atom : ℕ) → passes self.old atom → passes self.new atom }
         ensures teaches { (clause : List TheLit) → teaches self.old clause → teaches self.new clause }
         ensures limit { budget.new.limit ≡ budget.old.limit }
         ensures spends { budget.old.spent ≤ budget.new.spent }
         ensures within { budget.old.spent < budget.new.spent → budget.new.spent ≤ budget.new.limit }
-        ensures fair { IfOk result (IsFair (passes self.old) (teaches self.new) trail.now.literals) }
+        ensures fair { IfOk result (IsFair (passes self.new) (teaches self.new) trail.now.literals) }
         ensures agrees { IfOk result (λ answer. last ≡ true → answer ≡ Fine → agrees self.new trail.now.literals) }
         ensures spent { IfOk result (λ answer. answer ≡ Spent → budget.new.spent ≡ budget.new.limit) }
         ensures falls { IfOk result (λ answer. budget.new.spent ≡ budget.old.spent
@@ -94,7 +93,7 @@ pub trait Theory {
     fn backtrack(&mut self, level: usize)
         ensures stands { (entries : List Assigned) → stands self.old entries → stands self.new (up_to level entries) }
         ensures wanted { wanted self.new ≡ wanted self.old }
-        ensures passes { passes self.new ≡ passes self.old }
+        ensures passes { (atom : ℕ) → passes self.old atom → passes self.new atom }
         ensures teaches { (clause : List TheLit) → teaches self.old clause → teaches self.new clause }
         ensures falls { (kept : Kept) (entries : List Assigned) → measure self.new kept entries ≤ measure self.old kept entries }
         ensures puts { (proof : Written) → puts self.old self.new proof proof };
@@ -103,6 +102,9 @@ pub trait Theory {
     fn wanted_at(&self, at: u64) -> Option<u64>
         ensures atom { result ≡ slice_get (wanted self.now) at }
         ensures small { length (wanted self.now) < 2 ^ 63 };
+
+    /// Which value of a wanted atom the values that the theory has would give it, if it says so. No answer rests on it.
+    fn phase(&self, atom: u64) -> Option<bool>;
 
     /// A trail that grew leaves standing what stood,
     ghost stands_longer: { (x : Self) (entries more : List Assigned) → stands x entries → stands x (entries ++ more) };
@@ -114,20 +116,17 @@ pub trait Theory {
     /// No line takes a proof to itself,
     ghost puts_none: { (x : Self) (proof : Written) → puts x x proof proof };
 
-    /// lines may follow lines,
+    /// and lines may follow lines.
     ghost puts_both: { (x y z : Self) (before between after : Written) → puts x y before between
         → puts y z between after → puts x z before after };
 
-    /// and an atom that is known stays so.
-    ghost stays_known: { (x y : Self) (before after : Written) → puts x y before after
-        → (atom : ℕ) → knows x atom → knows y atom };
-
-    /// The search puts the line of a clause that is learned, where a step is left,
+    /// The search puts the line of a clause that is learned, of known atoms and where a step is left,
     ghost puts_learned: { (x : Self) (proof : Written) (clause : List TheLit) (hints : List ℕ) (level : ℕ)
-        → IsLesson proof.kept clause hints level → has_text (learned_line clause hints) ≡ true
-        → proof.budget.spent < proof.budget.limit → puts x x proof (with_learned clause hints level proof) };
+        → IsLesson proof.kept clause hints level → AreKnown (passes x) clause
+        → has_text (learned_line clause hints) ≡ true → proof.budget.spent < proof.budget.limit
+        → puts x x proof (with_learned clause hints level proof) };
 
     /// and the line of the clause that a known atom is true or false.
-    ghost puts_gate: { (x : Self) (proof : Written) (atom : ℕ) → knows x atom
+    ghost puts_gate: { (x : Self) (proof : Written) (atom : ℕ) → passes x atom
         → has_text (rule_line gate (true_or_false atom)) ≡ true → puts x x proof (with_gate atom proof) };
 }

@@ -8,11 +8,11 @@ ghost use Rattle.sb_trail.specs.Assignments.{held, value_of, current_level};
 ghost use Rattle.sb_clauses.specs.Propagation.{IsSettled, IsConflict, has_room_for};
 ghost use Rattle.sb_analyze.specs.Reasons.{AreReasoned};
 ghost use Rattle.sb_analyze.specs.Cores.{AreAssumed};
-ghost use Rattle.sb_search.specs.Asking.{CountsFaults, IsFair, Falls, decided};
+ghost use Rattle.sb_search.specs.Asking.{HasKnownAtoms, CountsFaults, IsFair, Falls, decided};
 ghost use Rattle.sb_search.specs.Following.{FollowsByLevel};
 ghost use Rattle.sb_search.specs.Found.{are_true};
 ghost use Rattle.sb_search.specs.Searching.{IsSearching, IsTurned, IsSpentOn, IsNext, IsWritten, Entails};
-ghost use Rattle.sb_search.specs.Writing.{written, kept_behind, AreKnown};
+ghost use Rattle.sb_search.specs.Writing.{written, kept_behind};
 ghost use Rattle.sb_search.specs.declared.stage.Next.TheVariants as next;
 ghost use Rattle.sb_search.specs.declared.theory.Checked.TheVariants.{Fine, Spent};
 ghost use Rattle.sb_search.specs.declared.found.Found.TheVariants.{Sat};
@@ -51,6 +51,7 @@ pub(crate) fn take_turn<T: Theory, L: Tape>(
 ) -> Result<Turn, TapeFault>
     requires searching { IsSearching (T.wanted theory.old) assumptions.now stage.old.levels stage.old.next engine.old }
     requires stands { T.stands theory.old engine.old.trail.literals }
+    requires known { HasKnownAtoms (T.passes theory.old) engine.old.kept assumptions.now }
     ensures turned { IfOk result (IsTurned (T.wanted theory.new) assumptions.now stage.new.levels stage.new.next
         engine.old engine.new budget.old budget.new
         (T.measure theory.old engine.old.kept engine.old.trail.literals)
@@ -58,11 +59,12 @@ pub(crate) fn take_turn<T: Theory, L: Tape>(
     ensures agrees { IfOk result (λ turn. turn ≡ Ends Sat → T.agrees theory.new engine.new.trail.literals) }
     ensures follows { OnOk result (FollowsByLevel (T.teaches theory.new) engine.old.kept engine.new.kept) }
     ensures stands { OnOk result (T.stands theory.new engine.new.trail.literals) }
-    ensures puts { OnOk result (AreKnown (T.knows theory.old) assumptions.now → T.puts theory.old theory.new
+    ensures known { OnOk result (HasKnownAtoms (T.passes theory.new) engine.new.kept assumptions.now) }
+    ensures puts { OnOk result (T.puts theory.old theory.new
         (written engine.old.kept budget.old (L.Tape.told tape.old))
         (written engine.new.kept budget.new (L.Tape.told tape.new))) }
     ensures wanted { T.wanted theory.new ≡ T.wanted theory.old }
-    ensures passes { T.passes theory.new ≡ T.passes theory.old }
+    ensures passes { (atom : ℕ) → T.passes theory.old atom → T.passes theory.new atom }
     ensures teaches { (clause : List TheLit) → T.teaches theory.old clause → T.teaches theory.new clause }
     ensures counts { CountsFaults result (L.Tape.faults tape.old) (L.Tape.faults tape.new) }
 {
@@ -115,6 +117,7 @@ fn examine<T: Theory, L: Tape>(
     requires searching { IsSearching (T.wanted theory.old) assumptions.now stage.old.levels stage.old.next engine.old }
     requires settled { IsSettled engine.old.kept (held engine.old.trail.literals) }
     requires stands { T.stands theory.old engine.old.trail.literals }
+    requires known { HasKnownAtoms (T.passes theory.old) engine.old.kept assumptions.now }
     ensures turned { IfOk result (IsTurned (T.wanted theory.new) assumptions.now stage.new.levels stage.new.next
         engine.old engine.new budget.old budget.new
         (T.measure theory.old engine.old.kept engine.old.trail.literals)
@@ -122,11 +125,12 @@ fn examine<T: Theory, L: Tape>(
     ensures agrees { IfOk result (λ turn. turn ≡ Ends Sat → T.agrees theory.new engine.new.trail.literals) }
     ensures follows { OnOk result (FollowsByLevel (T.teaches theory.new) engine.old.kept engine.new.kept) }
     ensures stands { OnOk result (T.stands theory.new engine.new.trail.literals) }
-    ensures puts { OnOk result (AreKnown (T.knows theory.old) assumptions.now → T.puts theory.old theory.new
+    ensures known { OnOk result (HasKnownAtoms (T.passes theory.new) engine.new.kept assumptions.now) }
+    ensures puts { OnOk result (T.puts theory.old theory.new
         (written engine.old.kept budget.old (L.Tape.told tape.old))
         (written engine.new.kept budget.new (L.Tape.told tape.new))) }
     ensures wanted { T.wanted theory.new ≡ T.wanted theory.old }
-    ensures passes { T.passes theory.new ≡ T.passes theory.old }
+    ensures passes { (atom : ℕ) → T.passes theory.old atom → T.passes theory.new atom }
     ensures teaches { (clause : List TheLit) → T.teaches theory.old clause → T.teaches theory.new clause }
     ensures counts { CountsFaults result (L.Tape.faults tape.old) (L.Tape.faults tape.new) }
 {
@@ -184,6 +188,7 @@ fn assume<T: Theory, L: Tape>(
     requires settled { IsSettled engine.old.kept (held engine.old.trail.literals) }
     requires stands { T.stands theory.old engine.old.trail.literals }
     requires next { IsNext (T.wanted theory.old) assumptions.now stage.old.levels engine.old (next.Assume literal) }
+    requires known { HasKnownAtoms (T.passes theory.old) engine.old.kept assumptions.now }
     ensures turned { IfOk result (IsTurned (T.wanted theory.new) assumptions.now stage.new.levels stage.new.next
         engine.old engine.new budget.old budget.new
         (T.measure theory.old engine.old.kept engine.old.trail.literals)
@@ -191,11 +196,12 @@ fn assume<T: Theory, L: Tape>(
     ensures not_sat { IfOk result (λ turn. turn ≢ Ends Sat) }
     ensures follows { OnOk result (FollowsByLevel (T.teaches theory.new) engine.old.kept engine.new.kept) }
     ensures stands { OnOk result (T.stands theory.new engine.new.trail.literals) }
+    ensures known { OnOk result (HasKnownAtoms (T.passes theory.new) engine.new.kept assumptions.now) }
     ensures puts { OnOk result (T.puts theory.old theory.new
         (written engine.old.kept budget.old (L.Tape.told tape.old))
         (written engine.new.kept budget.new (L.Tape.told tape.new))) }
     ensures wanted { T.wanted theory.new ≡ T.wanted theory.old }
-    ensures passes { T.passes theory.new ≡ T.passes theory.old }
+    ensures passes { (atom : ℕ) → T.passes theory.old atom → T.passes theory.new atom }
     ensures teaches { (clause : List TheLit) → T.teaches theory.old clause → T.teaches theory.new clause }
     ensures counts { CountsFaults result (L.Tape.faults tape.old) (L.Tape.faults tape.new) }
 {
@@ -230,6 +236,7 @@ fn choose<T: Theory, L: Tape>(
     requires settled { IsSettled engine.old.kept (held engine.old.trail.literals) }
     requires stands { T.stands theory.old engine.old.trail.literals }
     requires next { IsNext (T.wanted theory.old) assumptions.now stage.old.levels engine.old (next.Free atom) }
+    requires known { HasKnownAtoms (T.passes theory.old) engine.old.kept assumptions.now }
     ensures turned { IfOk result (IsTurned (T.wanted theory.new) assumptions.now stage.new.levels stage.new.next
         engine.old engine.new budget.old budget.new
         (T.measure theory.old engine.old.kept engine.old.trail.literals)
@@ -237,11 +244,12 @@ fn choose<T: Theory, L: Tape>(
     ensures not_sat { IfOk result (λ turn. turn ≢ Ends Sat) }
     ensures follows { OnOk result (FollowsByLevel (T.teaches theory.new) engine.old.kept engine.new.kept) }
     ensures stands { OnOk result (T.stands theory.new engine.new.trail.literals) }
+    ensures known { OnOk result (HasKnownAtoms (T.passes theory.new) engine.new.kept assumptions.now) }
     ensures puts { OnOk result (T.puts theory.old theory.new
         (written engine.old.kept budget.old (L.Tape.told tape.old))
         (written engine.new.kept budget.new (L.Tape.told tape.new))) }
     ensures wanted { T.wanted theory.new ≡ T.wanted theory.old }
-    ensures passes { T.passes theory.new ≡ T.passes theory.old }
+    ensures passes { (atom : ℕ) → T.passes theory.old atom → T.passes theory.new atom }
     ensures teaches { (clause : List TheLit) → T.teaches theory.old clause → T.teaches theory.new clause }
     ensures counts { CountsFaults result (L.Tape.faults tape.old) (L.Tape.faults tape.new) }
 {
@@ -256,7 +264,7 @@ fn choose<T: Theory, L: Tape>(
             Ok(Turn::Moves)
         }
         Checked::Fine => {
-            let literal = stage.choices.literal(atom);
+            let literal = stage.choices.literal(atom, theory.phase(atom));
             decide_free(engine, stage, literal);
             Ok(Turn::Decides)
         }
@@ -276,6 +284,7 @@ fn finish<T: Theory, L: Tape>(
     requires settled { IsSettled engine.old.kept (held engine.old.trail.literals) }
     requires stands { T.stands theory.old engine.old.trail.literals }
     requires next { IsNext (T.wanted theory.old) assumptions.now stage.old.levels engine.old next.Full }
+    requires known { HasKnownAtoms (T.passes theory.old) engine.old.kept assumptions.now }
     ensures turned { IfOk result (IsTurned (T.wanted theory.new) assumptions.now stage.new.levels stage.new.next
         engine.old engine.new budget.old budget.new
         (T.measure theory.old engine.old.kept engine.old.trail.literals)
@@ -283,11 +292,12 @@ fn finish<T: Theory, L: Tape>(
     ensures agrees { IfOk result (λ turn. turn ≡ Ends Sat → T.agrees theory.new engine.new.trail.literals) }
     ensures follows { OnOk result (FollowsByLevel (T.teaches theory.new) engine.old.kept engine.new.kept) }
     ensures stands { OnOk result (T.stands theory.new engine.new.trail.literals) }
+    ensures known { OnOk result (HasKnownAtoms (T.passes theory.new) engine.new.kept assumptions.now) }
     ensures puts { OnOk result (T.puts theory.old theory.new
         (written engine.old.kept budget.old (L.Tape.told tape.old))
         (written engine.new.kept budget.new (L.Tape.told tape.new))) }
     ensures wanted { T.wanted theory.new ≡ T.wanted theory.old }
-    ensures passes { T.passes theory.new ≡ T.passes theory.old }
+    ensures passes { (atom : ℕ) → T.passes theory.old atom → T.passes theory.new atom }
     ensures teaches { (clause : List TheLit) → T.teaches theory.old clause → T.teaches theory.new clause }
     ensures counts { CountsFaults result (L.Tape.faults tape.old) (L.Tape.faults tape.new) }
 {
@@ -317,10 +327,10 @@ fn ask<T: Theory, L: Tape>(
     requires stands { T.stands theory.old engine.now.trail.literals }
     ensures stands { OnOk result (T.stands theory.new engine.now.trail.literals) }
     ensures wanted { T.wanted theory.new ≡ T.wanted theory.old }
-    ensures passes { T.passes theory.new ≡ T.passes theory.old }
+    ensures passes { (atom : ℕ) → T.passes theory.old atom → T.passes theory.new atom }
     ensures teaches { (clause : List TheLit) → T.teaches theory.old clause → T.teaches theory.new clause }
     ensures spends { IsSpentOn budget.old budget.new }
-    ensures fair { IfOk result (IsFair (T.passes theory.old) (T.teaches theory.new) engine.now.trail.literals) }
+    ensures fair { IfOk result (IsFair (T.passes theory.new) (T.teaches theory.new) engine.now.trail.literals) }
     ensures agrees { IfOk result
         (λ answer. last ≡ true → answer ≡ Fine → T.agrees theory.new engine.now.trail.literals) }
     ensures spent { IfOk result (λ answer. answer ≡ Spent → budget.new.spent ≡ budget.new.limit) }

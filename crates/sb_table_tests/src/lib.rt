@@ -20,6 +20,8 @@ mod sets;
 #[cfg(test)]
 mod stacks;
 #[cfg(test)]
+mod taught;
+#[cfg(test)]
 mod terms;
 #[cfg(test)]
 mod traces;

@@ -14,7 +14,7 @@ use sb_proof::{MemTape, TapeFault};
 use sb_regex::{Arena, RegexId};
 use sb_search::{Found, search};
 use sb_term::Serial;
-use sb_theory::Strings;
+use sb_theory::{Strings, WantedAtoms};
 use sb_trace::Trace;
 use smallvec::SmallVec;
 use std::alloc::{AllocError, Global};
@@ -38,8 +38,10 @@ enum End {
 
 /// A search, and what it comes to.
 struct Case {
-    /// The atoms, all of which are wanted.
+    /// The atoms.
     said: &'static [Says],
+    /// How many first ones are wanted.
+    wanted: u64,
     clauses: &'static [&'static [Lit]],
     /// Whether lines are put.
     proves: bool,
@@ -54,12 +56,12 @@ struct Case {
 }
 
 /// The literals of the first atoms, and negations of them.
-const ONE: Lit = Lit {
+pub(crate) const ONE: Lit = Lit {
     atom: 0,
     positive: true,
 };
 
-const TWO: Lit = Lit {
+pub(crate) const TWO: Lit = Lit {
     atom: 1,
     positive: true,
 };
@@ -74,12 +76,12 @@ const FOUR: Lit = Lit {
     positive: true,
 };
 
-const NOT_ONE: Lit = Lit {
+pub(crate) const NOT_ONE: Lit = Lit {
     atom: 0,
     positive: false,
 };
 
-const NOT_TWO: Lit = Lit {
+pub(crate) const NOT_TWO: Lit = Lit {
     atom: 1,
     positive: false,
 };
@@ -91,9 +93,10 @@ const SOME: &[Says] = &[
     Says::In(0, b"cc*."),
 ];
 
-static CASES: [Case; 10] = [
+static CASES: [Case; 11] = [
     Case {
         said: SOME,
+        wanted: 3,
         clauses: &[&[ONE], &[TWO]],
         proves: false,
         limit: 9,
@@ -105,6 +108,7 @@ static CASES: [Case; 10] = [
     },
     Case {
         said: SOME,
+        wanted: 3,
         clauses: &[&[ONE, TWO], &[TWO, THREE], &[ONE, THREE]],
         proves: false,
         limit: 2,
@@ -121,6 +125,7 @@ static CASES: [Case; 10] = [
             Says::In(0, b"E*b."),
             Says::In(0, b"bE*."),
         ],
+        wanted: 3,
         clauses: &[&[ONE], &[TWO], &[THREE]],
         proves: false,
         limit: 9,
@@ -138,6 +143,7 @@ static CASES: [Case; 10] = [
             Says::In(0, b"E*b."),
             Says::In(0, b"bE*."),
         ],
+        wanted: 4,
         clauses: &[&[ONE, TWO], &[ONE, THREE], &[ONE, FOUR]],
         proves: false,
         limit: 9,
@@ -150,6 +156,7 @@ static CASES: [Case; 10] = [
     // Not the empty word, and not a longer one.
     Case {
         said: &[Says::In(0, b"Z"), Says::In(0, b"EE*.")],
+        wanted: 2,
         clauses: &[&[NOT_ONE], &[NOT_TWO]],
         proves: false,
         limit: 9,
@@ -167,6 +174,7 @@ static CASES: [Case; 10] = [
             Says::In(1, b"bE*."),
             Says::In(0, b"E*b."),
         ],
+        wanted: 4,
         clauses: &[&[ONE], &[TWO], &[FOUR], &[THREE]],
         proves: false,
         limit: 9,
@@ -183,12 +191,26 @@ static CASES: [Case; 10] = [
             Says::In(0, b"bE*."),
             Says::In(0, b"aE*.cE*.|"),
         ],
+        wanted: 3,
         clauses: &[&[THREE], &[ONE, TWO]],
         proves: false,
         limit: 9,
         end: End::Sat,
         steps: 1,
         truths: &[ONE, NOT_TWO, THREE],
+        words: &[&[97]],
+        lines: b"",
+    },
+    // Of an atom that is not wanted nothing is asked, though it clashes on the trail.
+    Case {
+        said: &[Says::In(0, b"aE*."), Says::In(0, b"bE*.")],
+        wanted: 1,
+        clauses: &[&[ONE], &[TWO]],
+        proves: false,
+        limit: 9,
+        end: End::Sat,
+        steps: 0,
+        truths: &[ONE, TWO],
         words: &[&[97]],
         lines: b"",
     },
@@ -199,6 +221,7 @@ static CASES: [Case; 10] = [
             Says::In(0, b"bE*."),
             Says::And(ONE, TWO),
         ],
+        wanted: 3,
         clauses: &[&[THREE]],
         proves: false,
         limit: 9,
@@ -210,6 +233,7 @@ static CASES: [Case; 10] = [
     },
     Case {
         said: SOME,
+        wanted: 3,
         clauses: &[&[ONE], &[TWO]],
         proves: true,
         limit: 0,
@@ -221,6 +245,7 @@ static CASES: [Case; 10] = [
     },
     Case {
         said: SOME,
+        wanted: 3,
         clauses: &[&[ONE], &[TWO]],
         proves: true,
         limit: 3,
@@ -241,17 +266,23 @@ fn regex_of(alloc: Global, arena: &mut Arena, says: &Says) -> Result<RegexId, Al
     }
 }
 
-/// Puts the regexes of what is said, and the numbers of the atoms.
+/// So many first atoms.
+fn first_atoms(alloc: Global, count: u64) -> Result<WantedAtoms, AllocError> {
+    let mut atoms = Vec::new(alloc);
+    for atom in 0..count {
+        atoms.push(atom)?;
+    }
+    WantedAtoms::of(alloc, atoms)
+}
+
+/// Puts the regexes of what is said.
 fn put_regexes(
     alloc: Global,
     arena: &mut Arena,
     ids: &mut Vec<RegexId>,
-    wanted: &mut Vec<u64>,
     said: &[Says],
 ) -> Result<(), AllocError> {
     for says in said {
-        let number = wanted.len() as u64;
-        wanted.push(number)?;
         let id = regex_of(alloc, arena, says)?;
         ids.push(id)?;
     }
@@ -395,6 +426,9 @@ fn search_case(
     add_clauses(alloc, engine, case.clauses)?;
     add_gates(alloc, engine, &theory.atoms)?;
     engine.clear();
+    if engine.atoms() > theory.atoms.len() {
+        return Err(TapeFault::NoMemory);
+    }
     let mut budget = Budget::new(case.limit);
     let found = search(alloc, theory, engine, tape, &[], &mut budget)?;
     assert!(rt; budget.spent() == case.steps);
@@ -405,11 +439,11 @@ fn search_case(
 
 /// Goes through a case over tables of its own.
 fn expect_case(rt: &impl Abort, alloc: Global, case: &Case) -> Result<(), TapeFault> {
+    let wanted = first_atoms(alloc, case.wanted)?;
     let mut arena = Arena::new(alloc);
     let mut atoms = Atoms::new(alloc);
     let mut ids = Vec::new(alloc);
-    let mut wanted = Vec::new(alloc);
-    let put = put_regexes(alloc, &mut arena, &mut ids, &mut wanted, case.said);
+    let put = put_regexes(alloc, &mut arena, &mut ids, case.said);
     let added = add_all(alloc, &arena, &mut atoms, &ids, case.said);
     drop(ids);
     let graph = Graph::new(alloc);

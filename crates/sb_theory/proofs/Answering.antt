@@ -1,27 +1,27 @@
 -- What an answer says, step behind step, and to the search.
 use Rattle.std.proofs.Common.{◌≡◌, ℕ, ◌+◌, ◌<◌, Bool, true, false, List, length, Option, Result, Ok, Err, OnOk, OnErr, refl, sym, ap, subst, ◌∙◌, arith}
+use Rattle.std.specs.List.{list_all}
 use Rattle.std.specs.Result.{is_ok}
 use Rattle.std.proofs.lemmas.Bool.{false≢true, true≢false}
 use Rattle.sb_lit.specs.declared.clause.Lit.{Lit}
 use Rattle.sb_lit.specs.Budgets.{Spending}
 use Rattle.sb_lit.specs.Kept.{Kept}
-use Rattle.sb_lang.specs.Regex.{Regex}
 use Rattle.sb_trail.specs.declared.assigned.Assigned.{Assigned}
 use Rattle.sb_deriv.specs.Faithful.{KeepsEntries}
 use Rattle.sb_regex.specs.Numbered.{Extends}
 use Rattle.sb_regex.proofs.CallerLemmas.{extends_same, extends_more}
-use Rattle.sb_rulebook.specs.Atoms.{Atom, AtomOver, clause_holds}
+use Rattle.sb_rulebook.specs.Atoms.{Atom, clause_holds}
 use Rattle.sb_atoms.specs.Numbered.{atoms_in, HaveRegexesBelow}
 use Rattle.sb_atoms.proofs.CallerLemmas.{atoms_kept}
 use Rattle.sb_proof.specs.declared.tape.TapeFault.{TapeFault}
 use Rattle.sb_proof.specs.declared.tape.TapeFault.TheVariants as fault
 use Rattle.sb_trace.specs.Putting.{CountsTapeFault}
-use Rattle.sb_search.specs.Asking.{IsFair, Falls, CountsFaults}
+use Rattle.sb_search.specs.Asking.{Falls, CountsFaults}
 use Rattle.sb_search.specs.Writing.{written, kept_behind}
 use Rattle.sb_search.specs.declared.theory.Checked.{Checked}
 use Rattle.sb_search.specs.declared.theory.Checked.TheVariants.{Fine, Lemma, Ask, Spent}
 use Rattle.sb_theory.specs.declared.strings.Strings.{Strings}
-use Rattle.sb_theory.specs.Memberships.{is_atom, IsValid}
+use Rattle.sb_theory.specs.Wanted.{is_of_wanted, IsTaught}
 use Rattle.sb_theory.specs.Strings.{Holds, Grows, Keeps, Looks, IsPaid, Answers, IsEnd}
 use Rattle.sb_theory.specs.Laws.{writes_grown, writes_both}
 
@@ -67,11 +67,13 @@ pub looks_none : (x : Strings) → Holds x → Looks x x
 looks_none x h =
     looks_on x x (keeps_on x x refl refl refl refl h.regexes (extends_same x.arena) (λ n pieces k. k)) refl refl refl
 
-pub valid_grows : (x y : Strings) → Grows x y → (clause : List Lit) → IsValid x.arena x.atoms clause
-    → IsValid y.arena y.atoms clause
-valid_grows x y g clause valid = λ v words.
-    ap (λ (table : List Atom). clause_holds v table clause)
-    (ap (atoms_in y.arena) g.atoms ∙ atoms_kept x.arena y.arena x.atoms g.extends g.below) ∙ valid v words
+pub taught_grows : (x y : Strings) → Grows x y → (clause : List Lit) → IsTaught x.arena x.atoms x.wanted clause
+    → IsTaught y.arena y.atoms y.wanted clause
+taught_grows x y g clause taught = (
+  ap (λ (ns : List ℕ). list_all (is_of_wanted ns) clause) g.wanted ∙ taught.0,
+  λ v words. ap (λ (table : List Atom). clause_holds v table clause)
+      (ap (atoms_in y.arena) g.atoms ∙ atoms_kept x.arena y.arena x.atoms g.extends g.below) ∙ taught.1 v words,
+)
 
 -- Nothing is wrong so far.
 
@@ -91,19 +93,13 @@ pub answers_as : (x y : Strings) (entries : List Assigned) (before after : Spend
 answers_as x y entries before after old new made answer is h =
     subst (λ (a : Checked). Answers x y entries before after old new a) (sym is) h
 
-fair_before : (x y : Strings) (rs : List Regex) (atoms : List (AtomOver ℕ)) (entries : List Assigned) (answer : Checked)
-    → y.atoms ≡ x.atoms → IsFair (is_atom y.atoms) (IsValid rs atoms) entries answer
-    → IsFair (is_atom x.atoms) (IsValid rs atoms) entries answer
-fair_before x y rs atoms entries answer same h =
-    subst (λ (ts : List (AtomOver ℕ)). IsFair (is_atom ts) (IsValid rs atoms) entries answer) same h
-
 -- the same where nothing was put before
 pub end_kept : (x y z : Strings) (entries : List Assigned) (budget after : Spending) (told new : Option (List ℕ))
     (answer : Checked) → Keeps x y → IsEnd y z entries budget after told new answer
     → IsEnd x z entries budget after told new answer
 end_kept x y z entries budget after told new answer h end = (
   record {
-    fair = fair_before x y z.arena z.atoms entries answer h.grows.atoms end.0.fair;
+    fair = end.0.fair;
     paid = end.0.paid;
     writes = λ kept none_false.
         writes_both x y z (written kept budget told) (written kept budget told)

@@ -1,6 +1,6 @@
 -- A few literals of one constant that clash, and their clause: it is false on the trail, new, true whatever the values
 -- are, and its lines follow.
-use Rattle.std.proofs.Common.{◌≡◌, ℕ, zero, suc, ◌+◌, ◌<◌, ◌≤◌, Bool, true, false, cond, eqb, ◌||◌, if◌then◌else◌, List, [], ◌∷◌, ◌++◌, length, filter, map, take, get_or, Option, Some, None, refl, sym, ap, subst, ◌∙◌, inl, inr, arith}
+use Rattle.std.proofs.Common.{◌≡◌, ℕ, zero, suc, ◌+◌, ◌<◌, ◌≤◌, Bool, true, false, cond, eqb, ◌||◌, ◌&&◌, if◌then◌else◌, List, [], ◌∷◌, ◌++◌, length, filter, map, take, get_or, Option, Some, None, refl, sym, ap, subst, ◌∙◌, inl, inr, arith}
 use Rattle.std.specs.List.{list_all, count_by}
 use Rattle.std.specs.List.Sorted.{IsPermutation}
 use Rattle.std.proofs.lemmas.Bool.{and_parts, and_from, false≢true, or_cases, eq-eqb}
@@ -40,6 +40,7 @@ use Rattle.sb_search.specs.declared.theory.Checked.{Checked}
 use Rattle.sb_search.specs.declared.theory.Checked.TheVariants.{Fine, Lemma, Spent}
 use Rattle.sb_theory.specs.declared.strings.Strings.{Strings}
 use Rattle.sb_theory.specs.Memberships.{row_at, AreMembers, subject_of, is_subject, is_about, literals_about, is_atom, are_atoms, HaveAtoms, IsValid}
+use Rattle.sb_theory.specs.Wanted.{is_of_wanted, wanted_on, IsTaught}
 use Rattle.sb_theory.specs.Strings.{Holds, Writes, IsDenied, IsPaid, Answers}
 use Rattle.sb_theory.proofs.Standing.{subject_names, names_subject, about_subject, filter_passes, take_passes}
 use Rattle.sb_theory.specs.Laws.{have_more}
@@ -162,12 +163,20 @@ pub front_is : (atoms : List (AtomOver ℕ)) (x n : ℕ) (rows now : List (List 
 front_is atoms x n rows now ls front members same is =
     is ∙ ap (λ (rs : List (List Lit)). take n (row_at rs x)) same ∙ ap (take n) (members x)
 
+-- of wanted atoms,
+pub row_wanted : (atoms : List (AtomOver ℕ)) (wanted : List ℕ) (x : ℕ) (entries : List Assigned)
+    → list_all (is_of_wanted wanted) (literals_about atoms x (wanted_on wanted entries)) ≡ true
+row_wanted atoms wanted x entries =
+    filter_keeps (is_about atoms x) (is_of_wanted wanted) (wanted_on wanted entries)
+    (filter_passes (is_of_wanted wanted) (held entries))
+
 -- and on the trail,
-pub row_among : (atoms : List (AtomOver ℕ)) (x : ℕ) (entries : List Assigned)
-    → list_all (is_among (held entries)) (literals_about atoms x (held entries)) ≡ true
-row_among atoms x entries =
-    filter_keeps (is_about atoms x) (is_among (held entries)) (held entries)
-    (all_from_among (is_among (held entries)) (held entries) (λ l among. among))
+pub row_among : (atoms : List (AtomOver ℕ)) (wanted : List ℕ) (x : ℕ) (entries : List Assigned)
+    → list_all (is_among (held entries)) (literals_about atoms x (wanted_on wanted entries)) ≡ true
+row_among atoms wanted x entries =
+    filter_keeps (is_about atoms x) (is_among (held entries)) (wanted_on wanted entries)
+    (filter_keeps (is_of_wanted wanted) (is_among (held entries)) (held entries)
+    (all_from_among (is_among (held entries)) (held entries) (λ l among. among)))
 
 none_of_atom : (es : List Assigned) (a : ℕ) (l : Lit) → l.atom ≡ a → entry_of es a ≡ None
     → count_by (is_it l) (held es) ≡ 0
@@ -201,10 +210,15 @@ trail_single (e ∷ es) h = λ l. step l (is_it l e.literal) refl (trail_single 
         omega (arith, count_cons (is_it l) e.literal (held es), none, few)
 
 -- each once
-pub row_single : (atoms : List (AtomOver ℕ)) (x : ℕ) (entries : List Assigned) → AreDistinct entries
-    → AreSingle (literals_about atoms x (held entries))
-row_single atoms x entries distinct = λ l.
-    omega (arith, filter_counts (is_about atoms x) (is_it l) (held entries), trail_single entries distinct l)
+pub row_single : (atoms : List (AtomOver ℕ)) (wanted : List ℕ) (x : ℕ) (entries : List Assigned)
+    → AreDistinct entries → AreSingle (literals_about atoms x (wanted_on wanted entries))
+row_single atoms wanted x entries distinct = λ l.
+    omega (
+      arith,
+      filter_counts (is_about atoms x) (is_it l) (wanted_on wanted entries),
+      filter_counts (is_of_wanted wanted) (is_it l) (held entries),
+      trail_single entries distinct l,
+    )
 
 -- The clause.
 
@@ -222,13 +236,24 @@ never_clash_none keeps rs atoms ls none h =
     false≢true (sym (h [] refl) ∙ ap (λ (ms : List Lit). language (asked_by_all rs atoms ms) []) none
     ∙ in_all keeps rs atoms [] [])
 
-pub denied_on : MkandKeepsLanguage → (rs : List Regex) (atoms : List (AtomOver ℕ)) (entries : List Assigned) (x : ℕ)
-    (literals few clause : List Lit) → AreFewer few literals → AreAbout atoms x literals
+still_wanted : (wanted : List ℕ) (ls : List Lit) → list_all (is_of_wanted wanted) ls ≡ true
+    → list_all (is_of_wanted wanted) (map negation ls) ≡ true
+still_wanted wanted [] h = refl
+still_wanted wanted (l ∷ ls) h =
+    let p = and_parts (is_of_wanted wanted l) (list_all (is_of_wanted wanted) ls) h in
+    and_from (is_of_wanted wanted (negation l)) (list_all (is_of_wanted wanted) (map negation ls)) p.0
+    (still_wanted wanted ls p.1)
+
+pub denied_on : MkandKeepsLanguage → (rs : List Regex) (atoms : List (AtomOver ℕ)) (wanted : List ℕ)
+    (entries : List Assigned) (x : ℕ) (literals few clause : List Lit) → AreFewer few literals
+    → AreAbout atoms x literals → list_all (is_of_wanted wanted) literals ≡ true
     → list_all (is_among (held entries)) literals ≡ true → AreClashing rs atoms few → Ascend clause
-    → IsPermutation (map negation few) clause → IsDenied rs atoms entries x clause
-denied_on keeps rs atoms entries x literals few clause fewer about among clash ascend perm =
+    → IsPermutation (map negation few) clause → IsDenied rs atoms wanted entries x clause
+denied_on keeps rs atoms wanted entries x literals few clause fewer about asked among clash ascend perm =
     let clashes = clash_clause keeps rs atoms few clause perm clash in
     record {
+      asked = list_permuted (is_of_wanted wanted) (map negation few) clause perm
+          (still_wanted wanted few (fewer_pass (is_of_wanted wanted) few literals fewer asked));
       about = about_clause atoms x few clause (fewer_about atoms x few literals fewer about) perm;
       clash = clashes;
       some = λ none. never_clash_none keeps rs atoms (map negation clause) (ap (map negation) none) clashes;
@@ -238,19 +263,21 @@ denied_on keeps rs atoms entries x literals few clause fewer about among clash a
     }
 
 row_is : (x : Strings) (entries : List Assigned) (constant : ℕ) → Holds x → x.taken.items ≡ entries
-    → row_at x.members.items constant ≡ literals_about x.atoms constant (held entries)
+    → row_at x.members.items constant ≡ literals_about x.atoms constant (wanted_on x.wanted entries)
 row_is x entries constant h taken =
-    h.members constant ∙ ap (λ (es : List Assigned). literals_about x.atoms constant (held es)) taken
+    h.members constant ∙ ap (λ (es : List Assigned). literals_about x.atoms constant (wanted_on x.wanted es)) taken
 
 -- of a few literals of a row
 pub denied_row : MkandKeepsLanguage → (x : Strings) (entries : List Assigned) (constant : ℕ) (few clause : List Lit)
     → Holds x → x.taken.items ≡ entries → AreFewer few (row_at x.members.items constant)
     → AreClashing x.arena x.atoms few → Ascend clause → IsPermutation (map negation few) clause
-    → IsDenied x.arena x.atoms entries constant clause
+    → IsDenied x.arena x.atoms x.wanted entries constant clause
 denied_row keeps x entries constant few clause h taken fewer clash ascend perm =
-    denied_on keeps x.arena x.atoms entries constant (literals_about x.atoms constant (held entries)) few clause
+    denied_on keeps x.arena x.atoms x.wanted entries constant
+    (literals_about x.atoms constant (wanted_on x.wanted entries)) few clause
     (subst (λ (ls : List Lit). AreFewer few ls) (row_is x entries constant h taken) fewer)
-    (row_about x.atoms constant (held entries)) (row_among x.atoms constant entries) clash ascend perm
+    (row_about x.atoms constant (wanted_on x.wanted entries)) (row_wanted x.atoms x.wanted constant entries)
+    (row_among x.atoms x.wanted constant entries) clash ascend perm
 
 pub few_single : (x : Strings) (entries : List Assigned) (constant : ℕ) (few : List Lit) → Holds x
     → x.taken.items ≡ entries → AreDistinct entries → AreFewer few (row_at x.members.items constant) → AreSingle few
@@ -258,7 +285,7 @@ few_single x entries constant few h taken distinct fewer = λ l.
     omega (
       arith,
       subst (λ (ls : List Lit). AreFewer few ls) (row_is x entries constant h taken) fewer l,
-      row_single x.atoms constant entries distinct l,
+      row_single x.atoms x.wanted constant entries distinct l,
     )
 
 -- It is new,
@@ -295,10 +322,11 @@ only_dead : (r : Regex) → HasNone r → AreEmpty (r ∷ []) (true ∷ [])
 only_dead r h zero s marked there = subst HasNone (same_Some r s there) h
 only_dead r h (suc n) s marked there = absurd (Prim.cc (there))
 
-pub is_valid : EmptyHolds → EmptyIsExact → (rs : List Regex) (atoms : List (AtomOver ℕ)) (entries : List Assigned)
-    (x : ℕ) (clause : List Lit) → IsDenied rs atoms entries x clause → IsValid rs atoms clause
+pub is_valid : EmptyHolds → EmptyIsExact → (rs : List Regex) (atoms : List (AtomOver ℕ)) (wanted : List ℕ)
+    (entries : List Assigned) (x : ℕ) (clause : List Lit) → IsDenied rs atoms wanted entries x clause
+    → IsValid rs atoms clause
 unfolding all_kept
-is_valid holds exact rs atoms entries x clause d = λ v words.
+is_valid holds exact rs atoms wanted entries x clause d = λ v words.
     let r = asked_by_all rs atoms (map negation clause) in
     holds v (all_kept rs atoms r) clause words (only_dead r d.clash)
     ((exact (all_kept rs atoms r) clause).1 (record {
@@ -327,17 +355,20 @@ never_fine clause false answer is fine = absurd (other (sym is ∙ fine))
     other : Spent ≡ Fine → ⊥
     other h = absurd (Prim.cc (h))
 
-fair_answer : (atoms now : List (AtomOver ℕ)) (rs more : List Regex) (entries : List Assigned) (x : ℕ)
-    (clause : List Lit) (done : Bool) → now ≡ atoms → Extends rs more → HaveRegexesBelow (length rs) atoms
-    → IsDenied rs atoms entries x clause → IsValid rs atoms clause
-    → IsFair (is_atom atoms) (IsValid more now) entries (answer_of done clause)
-fair_answer atoms now rs more entries x clause true same e below d valid = (
-  d.is_false,
-  about_atoms atoms x clause d.about,
-  λ v words. ap (λ (table : List Atom). clause_holds v table clause)
-      (ap (atoms_in more) same ∙ atoms_kept rs more atoms e below) ∙ valid v words,
+fair_answer : (atoms now : List (AtomOver ℕ)) (wanted : List ℕ) (rs more : List Regex) (entries : List Assigned)
+    (x : ℕ) (clause : List Lit) (done : Bool) → now ≡ atoms → Extends rs more → HaveRegexesBelow (length rs) atoms
+    → IsDenied rs atoms wanted entries x clause → IsValid rs atoms clause
+    → IsFair (λ atom. is_atom now atom ≡ true) (IsTaught more now wanted) entries (answer_of done clause)
+fair_answer atoms now wanted rs more entries x clause true same e below d valid = (
+  λ l among. ap (λ (ts : List (AtomOver ℕ)). is_atom ts l.atom) same
+      ∙ all_among (λ m. is_atom atoms m.atom) clause l (about_atoms atoms x clause d.about) among,
+  (
+    d.asked,
+    λ v words. ap (λ (table : List Atom). clause_holds v table clause)
+        (ap (atoms_in more) same ∙ atoms_kept rs more atoms e below) ∙ valid v words,
+  ),
 )
-fair_answer atoms now rs more entries x clause false same e below d valid = tt
+fair_answer atoms now wanted rs more entries x clause false same e below d valid = tt
 
 paid_answer : (before after : Spending) (clause : List Lit) (done : Bool)
     → (done ≡ true → before.spent < after.spent) → (done ≡ false → after.spent ≡ after.limit)
@@ -395,19 +426,21 @@ writes_answer x y kept clause done before after old new atoms proves e keeps kno
 
 pub answers_denied : EmptyHolds → EmptyIsExact → (x y : Strings) (entries : List Assigned) (constant : ℕ)
     (clause : List Lit) (done : Bool) (before after : Spending) (old new : Option (List ℕ)) → y.atoms ≡ x.atoms
-    → y.proves ≡ x.proves → Extends x.arena y.arena → KeepsEntries x.graph.memo y.graph.memo
-    → HaveRegexesBelow (length x.arena) x.atoms → IsDenied x.arena x.atoms entries constant clause
+    → y.proves ≡ x.proves → y.wanted ≡ x.wanted → Extends x.arena y.arena → KeepsEntries x.graph.memo y.graph.memo
+    → HaveRegexesBelow (length x.arena) x.atoms → IsDenied x.arena x.atoms x.wanted entries constant clause
     → (done ≡ true → before.spent < after.spent) → (done ≡ false → after.spent ≡ after.limit)
     → (x.proves ≡ false → y.trace ≡ x.trace)
     → (x.proves ≡ true → (asked : Asked) (k : AllKept) → Tracks x.arena x.graph.memo x.trace k
     → k.atoms ≡ atoms_in x.arena x.atoms → HasNoSubset k.clauses clause → IsCounted asked k before
     → Denies asked k y.arena y.graph.memo y.trace x.atoms clause done after old new)
     → Answers x y entries before after old new (answer_of done clause)
-answers_denied holds exact x y entries constant clause done before after old new atoms proves e keeps below d ticks
-    spent silent puts =
+answers_denied holds exact x y entries constant clause done before after old new atoms proves same_wanted e keeps below d
+    ticks spent silent puts =
     record {
-      fair = fair_answer x.atoms y.atoms x.arena y.arena entries constant clause done atoms e below d
-          (is_valid holds exact x.arena x.atoms entries constant clause d);
+      fair = subst (λ (ns : List ℕ). IsFair (λ atom. is_atom y.atoms atom ≡ true) (IsTaught y.arena y.atoms ns) entries
+          (answer_of done clause)) (sym same_wanted)
+          (fair_answer x.atoms y.atoms x.wanted x.arena y.arena entries constant clause done atoms e below d
+          (is_valid holds exact x.arena x.atoms x.wanted entries constant clause d));
       paid = paid_answer before after clause done ticks spent;
       writes = λ kept none_false.
           writes_answer x y kept clause done before after old new atoms proves e keeps

@@ -1,9 +1,8 @@
 -- How much of each row is known to be true of the words, as literals come and words are put.
 use Rattle.std.proofs.Common.{◌≡◌, ℕ, ◌+◌, ◌-◌, ◌<◌, ◌≤◌, Bool, true, false, not, cond, nat_eq, if◌then◌else◌, List, [], ◌∷◌, ◌++◌, length, filter, take, get_or, Option, Some, None, refl, sym, ap, subst, ◌∙◌, arith}
 use Rattle.std.specs.List.{list_all}
-use Rattle.std.proofs.lemmas.Bool.{and_parts, and_from, false≢true, false_from_ne_true, eqb-true, eq-eqb}
-use Rattle.std.proofs.lemmas.List.{append-nil, length-append, take_all, take_at, take_more, take-append-le}
-use Rattle.std.proofs.lemmas.List.Elements.{filter-append}
+use Rattle.std.proofs.lemmas.Bool.{and_parts, and_from, false≢true, eqb-true, eq-eqb}
+use Rattle.std.proofs.lemmas.List.{length-append, take_all, take_at, take_more, take-append-le}
 use Rattle.std.proofs.lemmas.List.Folds.{list_all-append}
 use Rattle.sb_lit.specs.declared.clause.Lit.{Lit}
 use Rattle.sb_lang.specs.Regex.{Regex}
@@ -12,16 +11,17 @@ use Rattle.sb_lang.specs.Constructors.{mknot}
 use Rattle.sb_lang.specs.ConstructorLaws.{MkandKeepsLanguage, MknotKeepsLanguage}
 use Rattle.sb_term.specs.declared.term.Serial.{Serial}
 use Rattle.sb_trail.specs.declared.assigned.Assigned.{Assigned}
-use Rattle.sb_trail.specs.Assignments.{held}
 use Rattle.sb_regex.specs.Numbered.{regex_at}
 use Rattle.sb_rulebook.specs.Atoms.{AtomOver, bool_atom}
 use Rattle.sb_clash.specs.Literals.{number_in, asked_by, asked_by_all}
 use Rattle.sb_clash.proofs.CallerLemmas.{in_all}
 use Rattle.sb_theory.specs.declared.strings.Strings.{Strings}
 use Rattle.sb_theory.specs.Memberships.{subject_of, is_subject, is_about, literals_about, word_at, is_true_of, fits_subject, is_true_by, IsPut}
+use Rattle.sb_theory.specs.Wanted.{is_of_wanted, wanted_of, wanted_on}
 use Rattle.sb_theory.specs.Fronts.{number_at, IsSet, Rises, is_in, AreFitting, IsNoted}
 use Rattle.sb_theory.specs.Strings.{Holds, Agrees}
 use Rattle.sb_theory.proofs.Standing.{names_subject}
+use Rattle.sb_theory.proofs.Rows.{row_other, row_more, row_passed, about_one, not_about, one_wanted}
 use Rattle.sb_theory.proofs.Denied.{row_about, both_pass}
 
 -- What a literal asks for is where it is true.
@@ -46,7 +46,7 @@ all_of_word keeps negates rs atoms ls w =
     in_all keeps rs atoms ls w
     ∙ same_tests (λ l. language (asked_by rs atoms l) w) (is_true_of rs atoms w) ls (asked_holds negates rs atoms w)
 
--- Once all rows fit, all literals are true.
+-- Once all rows fit, all literals of wanted atoms are true.
 
 filtered : (p q : Lit → Bool) (l : Lit) (ls : List Lit) → list_all q (filter p (l ∷ ls)) ≡ true
     → (p l ≡ true → q l ≡ true) × (list_all q (filter p ls) ≡ true)
@@ -81,44 +81,33 @@ row_true p row n all h = sym (ap (list_all p) (take_all n row all)) ∙ h
 pub agrees_settled : (x : Strings) (entries : List Assigned) → Holds x → x.changed ≡ [] → x.taken.items ≡ entries
     → Agrees x entries
 agrees_settled x entries h none taken =
-    ap (λ (es : List Assigned). list_all (is_true_by x.arena x.atoms x.words.items) (held es)) (sym taken)
-    ∙ all_true x.arena x.atoms x.words.items (held x.taken.items) (λ n.
-    row_true (is_true_of x.arena x.atoms (word_at x.words.items n)) (literals_about x.atoms n (held x.taken.items))
-    (number_at x.fitting.items n) (h.fit.whole n (ap (λ (cs : List Serial). is_in cs n) none)) (h.fit.front n))
+    ap (λ (es : List Assigned). list_all (is_true_by x.arena x.atoms x.words.items) (wanted_on x.wanted es)) (sym taken)
+    ∙ all_true x.arena x.atoms x.words.items (wanted_on x.wanted x.taken.items) (λ n.
+    row_true (is_true_of x.arena x.atoms (word_at x.words.items n))
+    (literals_about x.atoms n (wanted_on x.wanted x.taken.items)) (number_at x.fitting.items n)
+    (h.fit.whole n (ap (λ (cs : List Serial). is_in cs n) none)) (h.fit.front n))
 
 -- One literal more.
 
-row_other : (atoms : List (AtomOver ℕ)) (x : ℕ) (ls : List Lit) (l : Lit) → is_about atoms x l ≡ false
-    → literals_about atoms x (ls ++ l ∷ []) ≡ literals_about atoms x ls
-row_other atoms x ls l out =
-    filter-append (is_about atoms x) ls (l ∷ [])
-    ∙ ap (λ b. literals_about atoms x ls ++ cond b (l ∷ []) []) out
-    ∙ append-nil (literals_about atoms x ls)
-
-row_more : (atoms : List (AtomOver ℕ)) (x : ℕ) (ls : List Lit) (l : Lit) → is_about atoms x l ≡ true
-    → literals_about atoms x (ls ++ l ∷ []) ≡ literals_about atoms x ls ++ l ∷ []
-row_more atoms x ls l here =
-    filter-append (is_about atoms x) ls (l ∷ []) ∙ ap (λ b. literals_about atoms x ls ++ cond b (l ∷ []) []) here
-
-pub fitting_other : (rs : List Regex) (atoms : List (AtomOver ℕ)) (words : List (Option (List ℕ))) (ls : List Lit)
-    (fitting : List ℕ) (changed : List Serial) (l : Lit) → subject_of atoms l ≡ None
-    → AreFitting rs atoms words ls fitting changed → AreFitting rs atoms words (ls ++ l ∷ []) fitting changed
-fitting_other rs atoms words ls fitting changed l none h = record {
+-- one that is not wanted, or about no constant
+pub fitting_passed : (rs : List Regex) (atoms : List (AtomOver ℕ)) (words : List (Option (List ℕ)))
+    (ls more : List Lit) (fitting : List ℕ) (changed : List Serial) → ((x : ℕ) → literals_about atoms x more ≡ [])
+    → AreFitting rs atoms words ls fitting changed → AreFitting rs atoms words (ls ++ more) fitting changed
+fitting_passed rs atoms words ls more fitting changed none h = record {
   front = λ x. ap (λ (row : List Lit).
       list_all (is_true_of rs atoms (word_at words x)) (take (number_at fitting x) row))
-      (row_other atoms x ls l (ap (is_subject x) none)) ∙ h.front x;
-  whole = λ x out. subst (λ (row : List Lit). length row ≤ number_at fitting x)
-      (sym (row_other atoms x ls l (ap (is_subject x) none))) (h.whole x out);
+      (row_passed atoms x ls more (none x)) ∙ h.front x;
+  whole = λ x out. subst (λ (row : List Lit). length row ≤ number_at fitting x) (sym (row_passed atoms x ls more (none x)))
+      (h.whole x out);
 }
 
-about_one : (atoms : List (AtomOver ℕ)) (l : Lit) (x : ℕ) → subject_of atoms l ≡ Some x → is_about atoms x l ≡ true
-about_one atoms l x subject = ap (is_subject x) subject ∙ eq-eqb x x refl
-
-not_about : (atoms : List (AtomOver ℕ)) (l : Lit) (x y : ℕ) → subject_of atoms l ≡ Some x → nat_eq x y ≡ false
-    → is_about atoms y l ≡ false
-not_about atoms l x y subject other =
-    ap (is_subject y) subject
-    ∙ false_from_ne_true (nat_eq y x) (λ same. false≢true (sym other ∙ eq-eqb x y (sym (eqb-true y x same))))
+-- and one that is wanted
+pub fitting_asked : (rs : List Regex) (atoms : List (AtomOver ℕ)) (wanted : List ℕ) (words : List (Option (List ℕ)))
+    (ls : List Lit) (fitting : List ℕ) (changed : List Serial) (l : Lit) → is_of_wanted wanted l ≡ true
+    → AreFitting rs atoms words (ls ++ l ∷ []) fitting changed
+    → AreFitting rs atoms words (ls ++ wanted_of wanted (l ∷ [])) fitting changed
+fitting_asked rs atoms wanted words ls fitting changed l asked h =
+    subst (λ (ms : List Lit). AreFitting rs atoms words (ls ++ ms) fitting changed) (sym (one_wanted wanted l asked)) h
 
 pushed_front : (rs : List Regex) (atoms : List (AtomOver ℕ)) (words : List (Option (List ℕ))) (ls : List Lit)
     (old new : List ℕ) (l : Lit) (x : ℕ) → subject_of atoms l ≡ Some x

@@ -1,6 +1,9 @@
 pub mod Standing
+pub mod Rows
 pub mod Fitting
 pub mod Denied
 pub mod Settling
 pub mod Placed
 pub mod Answering
+pub mod Known
+pub mod CallerLemmas

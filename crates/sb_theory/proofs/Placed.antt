@@ -18,6 +18,7 @@ use Rattle.sb_rulebook.specs.Atoms.{AtomOver}
 use Rattle.sb_atoms.specs.Numbered.{HaveRegexesBelow}
 use Rattle.sb_theory.specs.declared.strings.Strings.{Strings}
 use Rattle.sb_theory.specs.Memberships.{is_about, literals_about, word_at, is_true_of, AreMembers}
+use Rattle.sb_theory.specs.Wanted.{is_of_wanted, wanted_of, wanted_on}
 use Rattle.sb_theory.specs.Fronts.{number_at, AreFitting}
 use Rattle.sb_theory.specs.Places.{IsCut}
 use Rattle.sb_theory.specs.Strings.{Stands}
@@ -67,33 +68,39 @@ take_front p (suc n) (x ∷ xs) ys h =
     let q = and_parts (p x) (list_all p (take n (xs ++ ys))) h in
     and_from (p x) (list_all p (take n xs)) q.0 (take_front p n xs ys q.1)
 
-row_cut : (atoms : List (AtomOver ℕ)) (x : ℕ) (old new more : List Assigned) → old ≡ new ++ more
-    → literals_about atoms x (held old) ≡ literals_about atoms x (held new) ++ literals_about atoms x (held more)
-row_cut atoms x old new more is =
-    ap (λ (es : List Assigned). literals_about atoms x (held es)) is
-    ∙ ap (literals_about atoms x) (map-append (λ (a : Assigned). a.literal) new more)
-    ∙ filter-append (is_about atoms x) (held new) (held more)
+row_cut : (atoms : List (AtomOver ℕ)) (wanted : List ℕ) (x : ℕ) (old new more : List Assigned) → old ≡ new ++ more
+    → literals_about atoms x (wanted_on wanted old)
+    ≡ literals_about atoms x (wanted_on wanted new) ++ literals_about atoms x (wanted_on wanted more)
+row_cut atoms wanted x old new more is =
+    ap (λ (es : List Assigned). literals_about atoms x (wanted_on wanted es)) is
+    ∙ ap (λ (ls : List Lit). literals_about atoms x (wanted_of wanted ls))
+    (map-append (λ (a : Assigned). a.literal) new more)
+    ∙ ap (literals_about atoms x) (filter-append (is_of_wanted wanted) (held new) (held more))
+    ∙ filter-append (is_about atoms x) (wanted_on wanted new) (wanted_on wanted more)
 
-fitting_cut : (rs : List Regex) (atoms : List (AtomOver ℕ)) (words : List (Option (List ℕ)))
+fitting_cut : (rs : List Regex) (atoms : List (AtomOver ℕ)) (wanted : List ℕ) (words : List (Option (List ℕ)))
     (old new more : List Assigned) (fitting : List ℕ) (changed : List Serial) → old ≡ new ++ more
-    → AreFitting rs atoms words (held old) fitting changed → AreFitting rs atoms words (held new) fitting changed
-fitting_cut rs atoms words old new more fitting changed is h = record {
+    → AreFitting rs atoms words (wanted_on wanted old) fitting changed
+    → AreFitting rs atoms words (wanted_on wanted new) fitting changed
+fitting_cut rs atoms wanted words old new more fitting changed is h = record {
   front = λ x. take_front (is_true_of rs atoms (word_at words x)) (number_at fitting x)
-      (literals_about atoms x (held new)) (literals_about atoms x (held more))
+      (literals_about atoms x (wanted_on wanted new)) (literals_about atoms x (wanted_on wanted more))
       (ap (λ (row : List Lit). list_all (is_true_of rs atoms (word_at words x)) (take (number_at fitting x) row))
-      (sym (row_cut atoms x old new more is)) ∙ h.front x);
+      (sym (row_cut atoms wanted x old new more is)) ∙ h.front x);
   whole = λ x out.
-      let all = ap length (row_cut atoms x old new more is)
-      ∙ length-append (literals_about atoms x (held new)) (literals_about atoms x (held more)) in
+      let all = ap length (row_cut atoms wanted x old new more is)
+      ∙ length-append (literals_about atoms x (wanted_on wanted new)) (literals_about atoms x (wanted_on wanted more)) in
       omega (arith, all, h.whole x out);
 }
 
 pub stands_cut : (x y : Strings) (level : ℕ) (entries : List Assigned) → y.arena ≡ x.arena → y.graph ≡ x.graph
-    → y.plain ≡ x.plain → y.atoms ≡ x.atoms → y.words.items ≡ x.words.items → y.fitting.items ≡ x.fitting.items
-    → y.changed ≡ x.changed → (AreLevelled 0 x.taken.items → IsCut level x.taken.items y.taken.items)
-    → (AreMembers x.atoms x.members.items (held x.taken.items)
-    → AreMembers x.atoms y.members.items (held y.taken.items)) → Stands x entries → Stands y (up_to level entries)
-stands_cut x y level entries arena graph plain atoms words fitting changed cuts members h =
+    → y.plain ≡ x.plain → y.atoms ≡ x.atoms → y.wanted ≡ x.wanted → y.words.items ≡ x.words.items
+    → y.fitting.items ≡ x.fitting.items → y.changed ≡ x.changed
+    → (AreLevelled 0 x.taken.items → IsCut level x.taken.items y.taken.items)
+    → (AreMembers x.atoms x.members.items (wanted_on x.wanted x.taken.items)
+    → AreMembers x.atoms y.members.items (wanted_on x.wanted y.taken.items)) → Stands x entries
+    → Stands y (up_to level entries)
+stands_cut x y level entries arena graph plain atoms wanted words fitting changed cuts members h =
     let cut = cuts h.levelled in
     record {
       holds = record {
@@ -103,14 +110,17 @@ stands_cut x y level entries arena graph plain atoms words fitting changed cuts 
             (subst (λ (m : Memory). IsRight x.arena m) (sym plain) h.holds.plain);
         regexes = subst (λ (r : List Regex). HaveRegexesBelow (length r) y.atoms) (sym arena)
             (subst (λ (ts : List (AtomOver ℕ)). HaveRegexesBelow (length x.arena) ts) (sym atoms) h.holds.regexes);
-        members = subst (λ (ts : List (AtomOver ℕ)). AreMembers ts y.members.items (held y.taken.items)) (sym atoms)
-            (members h.holds.members);
+        members = subst (λ (ts : List (AtomOver ℕ)). AreMembers ts y.members.items (wanted_on y.wanted y.taken.items))
+            (sym atoms)
+            (subst (λ (ns : List ℕ). AreMembers x.atoms y.members.items (wanted_on ns y.taken.items)) (sym wanted)
+            (members h.holds.members));
         fit = subst (λ (r : List Regex).
-            AreFitting r y.atoms y.words.items (held y.taken.items) y.fitting.items y.changed) (sym arena)
-            (fitting_as x.arena x.atoms y.atoms x.words.items y.words.items (held y.taken.items) (held y.taken.items)
-            x.fitting.items y.fitting.items x.changed y.changed atoms words refl fitting changed
-            (fitting_cut x.arena x.atoms x.words.items x.taken.items y.taken.items cut.more x.fitting.items x.changed
-            cut.front h.holds.fit));
+            AreFitting r y.atoms y.words.items (wanted_on y.wanted y.taken.items) y.fitting.items y.changed) (sym arena)
+            (fitting_as x.arena x.atoms y.atoms x.words.items y.words.items (wanted_on x.wanted y.taken.items)
+            (wanted_on y.wanted y.taken.items) x.fitting.items y.fitting.items x.changed y.changed atoms words
+            (ap (λ (ns : List ℕ). wanted_on ns y.taken.items) wanted) fitting changed
+            (fitting_cut x.arena x.atoms x.wanted x.words.items x.taken.items y.taken.items cut.more x.fitting.items
+            x.changed cut.front h.holds.fit));
       };
       levelled = levelled_front 0 y.taken.items cut.more
           (subst (λ (es : List Assigned). AreLevelled 0 es) cut.front h.levelled);

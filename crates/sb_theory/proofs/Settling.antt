@@ -5,12 +5,12 @@ use Rattle.std.proofs.lemmas.List.Folds.{list_any_more}
 use Rattle.sb_lit.specs.declared.clause.Lit.{Lit}
 use Rattle.sb_lang.specs.Regex.{Regex}
 use Rattle.sb_term.specs.declared.term.Serial.{Serial}
-use Rattle.sb_trail.specs.Assignments.{held}
 use Rattle.sb_rulebook.specs.Atoms.{AtomOver}
 use Rattle.sb_clash.specs.Literals.{AreAbout, AreClashing}
 use Rattle.sb_clash.proofs.CallerLemmas.{clash_grown}
 use Rattle.sb_theory.specs.declared.strings.Strings.{Strings}
 use Rattle.sb_theory.specs.Memberships.{row_at, literals_about, AreMembers}
+use Rattle.sb_theory.specs.Wanted.{wanted_on}
 use Rattle.sb_theory.specs.Fronts.{number_at, Rises, is_in, IsWhole, AreFitting}
 use Rattle.sb_theory.specs.Strings.{Holds, Looks, HasClash}
 use Rattle.sb_theory.proofs.Denied.{row_about}
@@ -64,4 +64,4 @@ clash_looked x y constant h looks clash =
     (subst (λ (rows : List (List Lit)). AreClashing y.arena x.atoms (row_at rows constant)) (sym looks.members)
     (clash_grown x.arena y.arena x.atoms constant (row_at x.members.items constant) looks.keeps.grows.extends h.regexes
     (subst (λ (ls : List Lit). AreAbout x.atoms constant ls) (sym (h.members constant))
-    (row_about x.atoms constant (held x.taken.items))) clash))
+    (row_about x.atoms constant (wanted_on x.wanted x.taken.items))) clash))

@@ -4,6 +4,7 @@ use mathlib.Core.Bool.{beq}
 use Rattle.std.specs.List.{list_all}
 use Rattle.std.proofs.lemmas.Bool.{and_parts, and_from, false≢true, eqb-true}
 use Rattle.std.proofs.lemmas.List.{map-append}
+use Rattle.std.proofs.lemmas.List.Elements.{filter-append}
 use Rattle.std.proofs.lemmas.Option.{same_Some, get_or_from_slice_get}
 use Rattle.sb_lit.specs.declared.clause.Lit.{Lit}
 use Rattle.sb_lang.specs.Regex.{Regex}
@@ -23,6 +24,7 @@ use Rattle.sb_clash.specs.Literals.{IsAbout, number_in}
 use Rattle.sb_clash.proofs.CallerLemmas.{regex_below}
 use Rattle.sb_theory.specs.declared.strings.Strings.{Strings}
 use Rattle.sb_theory.specs.Memberships.{constant_of, subject_of, is_subject, is_about, literals_about, row_at, word_at, is_true_of, fits_subject, is_true_by}
+use Rattle.sb_theory.specs.Wanted.{is_of_wanted, wanted_of, wanted_on}
 use Rattle.sb_theory.specs.Fronts.{AreFitting, number_at}
 use Rattle.sb_theory.specs.Strings.{Holds, Stands}
 
@@ -142,21 +144,28 @@ fitting_as rs atoms now words put ls ms fitting numbers changed left same_atoms 
     (subst (λ (ns : List ℕ). AreFitting rs atoms words ls ns left) (sym same_numbers)
     (subst (λ (cs : List Serial). AreFitting rs atoms words ls fitting cs) (sym same) h))))
 
+-- the literals of wanted atoms on the trail
+same_on : (old new : List ℕ) (before after : List Assigned) → new ≡ old → after ≡ before
+    → wanted_on new after ≡ wanted_on old before
+same_on old new before after same_wanted same =
+    ap (λ (ns : List ℕ). wanted_on ns after) same_wanted ∙ ap (wanted_on old) same
+
 pub holds_grown : (x y : Strings) → Extends x.arena y.arena → IsGraph y.arena y.graph → IsRight y.arena y.plain
-    → y.atoms ≡ x.atoms → y.words.items ≡ x.words.items → y.taken.items ≡ x.taken.items
+    → y.atoms ≡ x.atoms → y.wanted ≡ x.wanted → y.words.items ≡ x.words.items → y.taken.items ≡ x.taken.items
     → y.members.items ≡ x.members.items → y.fitting.items ≡ x.fitting.items → y.changed ≡ x.changed → Holds x → Holds y
-holds_grown x y e graph plain atoms words taken members fitting changed h = record {
+holds_grown x y e graph plain atoms wanted words taken members fitting changed h = record {
   graph = graph;
   plain = plain;
   regexes = subst (λ (ts : List (AtomOver ℕ)). HaveRegexesBelow (length y.arena) ts) (sym atoms)
       (regexes_kept x.arena y.arena x.atoms e h.regexes);
   members = λ n. ap (λ (rows : List (List Lit)). row_at rows n) members ∙ h.members n
-      ∙ ap (λ (ts : List (AtomOver ℕ)). literals_about ts n (held x.taken.items)) (sym atoms)
-      ∙ ap (λ (es : List Assigned). literals_about y.atoms n (held es)) (sym taken);
-  fit = fitting_as y.arena x.atoms y.atoms x.words.items y.words.items (held x.taken.items) (held y.taken.items)
-      x.fitting.items y.fitting.items x.changed y.changed atoms words (ap held taken) fitting changed
-      (fitting_grown x.arena y.arena x.atoms x.words.items (held x.taken.items) x.fitting.items x.changed e h.regexes
-      h.fit);
+      ∙ ap (λ (ts : List (AtomOver ℕ)). literals_about ts n (wanted_on x.wanted x.taken.items)) (sym atoms)
+      ∙ ap (literals_about y.atoms n) (sym (same_on x.wanted y.wanted x.taken.items y.taken.items wanted taken));
+  fit = fitting_as y.arena x.atoms y.atoms x.words.items y.words.items (wanted_on x.wanted x.taken.items)
+      (wanted_on y.wanted y.taken.items) x.fitting.items y.fitting.items x.changed y.changed atoms words
+      (same_on x.wanted y.wanted x.taken.items y.taken.items wanted taken) fitting changed
+      (fitting_grown x.arena y.arena x.atoms x.words.items (wanted_on x.wanted x.taken.items) x.fitting.items x.changed
+      e h.regexes h.fit);
 }
 
 -- what was taken in stands on the trail where it is as it was
@@ -191,9 +200,9 @@ stands_new x graph plain regexes none no_members no_numbers = record {
     plain = plain;
     regexes = regexes;
     members = λ n. ap (λ (rows : List (List Lit)). row_at rows n) no_members
-        ∙ sym (ap (λ (es : List Assigned). literals_about x.atoms n (held es)) none);
-    fit = fitting_none x.arena x.atoms x.words.items (held x.taken.items) x.fitting.items x.changed (ap held none)
-        no_numbers;
+        ∙ sym (ap (λ (es : List Assigned). literals_about x.atoms n (wanted_on x.wanted es)) none);
+    fit = fitting_none x.arena x.atoms x.words.items (wanted_on x.wanted x.taken.items) x.fitting.items x.changed
+        (ap (wanted_on x.wanted) none) no_numbers;
   };
   levelled = subst (λ (es : List Assigned). AreLevelled 0 es) (sym none) tt;
   rest = [];
@@ -206,19 +215,29 @@ pub levelled_front : (n : ℕ) (xs ys : List Assigned) → AreLevelled n (xs ++ 
 levelled_front n [] ys h = tt
 levelled_front n (x ∷ xs) ys h = (h.0, levelled_front x.level xs ys h.1)
 
-pub held_push : (taken now : List Assigned) (e : Assigned) (l : Lit) → now ≡ taken ++ e ∷ [] → l ≡ e.literal
+held_push : (taken now : List Assigned) (e : Assigned) (l : Lit) → now ≡ taken ++ e ∷ [] → l ≡ e.literal
     → held now ≡ held taken ++ l ∷ []
 held_push taken now e l is same =
     ap held is ∙ map-append (λ (a : Assigned). a.literal) taken (e ∷ [])
     ∙ ap (λ (k : Lit). held taken ++ k ∷ []) (sym same)
 
-pub fitting_taken : (rs : List Regex) (atoms : List (AtomOver ℕ)) (words given : List (Option (List ℕ)))
-    (taken now : List Assigned) (e : Assigned) (l : Lit) (fitting : List ℕ) (changed : List Serial) → given ≡ words
-    → now ≡ taken ++ e ∷ [] → l ≡ e.literal → AreFitting rs atoms given (held taken ++ l ∷ []) fitting changed
-    → AreFitting rs atoms words (held now) fitting changed
-fitting_taken rs atoms words given taken now e l fitting changed same is literal h =
-    subst (λ (ls : List Lit). AreFitting rs atoms words ls fitting changed) (sym (held_push taken now e l is literal))
-    (subst (λ (ws : List (Option (List ℕ))). AreFitting rs atoms ws (held taken ++ l ∷ []) fitting changed) same h)
+-- it counts where its atom is wanted
+pub wanted_push : (wanted : List ℕ) (taken now : List Assigned) (e : Assigned) (l : Lit) → now ≡ taken ++ e ∷ []
+    → l ≡ e.literal → wanted_on wanted now ≡ wanted_on wanted taken ++ wanted_of wanted (l ∷ [])
+wanted_push wanted taken now e l is same =
+    ap (wanted_of wanted) (held_push taken now e l is same)
+    ∙ filter-append (is_of_wanted wanted) (held taken) (l ∷ [])
+
+pub fitting_taken : (rs : List Regex) (atoms : List (AtomOver ℕ)) (wanted : List ℕ)
+    (words given : List (Option (List ℕ))) (taken now : List Assigned) (e : Assigned) (l : Lit) (fitting : List ℕ)
+    (changed : List Serial) → given ≡ words → now ≡ taken ++ e ∷ [] → l ≡ e.literal
+    → AreFitting rs atoms given (wanted_on wanted taken ++ wanted_of wanted (l ∷ [])) fitting changed
+    → AreFitting rs atoms words (wanted_on wanted now) fitting changed
+fitting_taken rs atoms wanted words given taken now e l fitting changed same is literal h =
+    subst (λ (ls : List Lit). AreFitting rs atoms words ls fitting changed)
+    (sym (wanted_push wanted taken now e l is literal))
+    (subst (λ (ws : List (Option (List ℕ))).
+    AreFitting rs atoms ws (wanted_on wanted taken ++ wanted_of wanted (l ∷ [])) fitting changed) same h)
 
 pub stands_pushed : (y : Strings) (taken entries : List Assigned) (e : Assigned) (rest : List Assigned)
     → entries ≡ taken ++ e ∷ rest → AreLevelled 0 entries → y.taken.items ≡ taken ++ e ∷ [] → Holds y → Stands y entries

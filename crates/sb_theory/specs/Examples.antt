@@ -6,6 +6,7 @@ use Rattle.sb_lang.specs.Language.{language}
 use Rattle.sb_script.specs.Pieces.{constant_piece}
 use Rattle.sb_rulebook.specs.Atoms.{AtomOver, bool_atom, in_atom}
 use Rattle.sb_theory.specs.Memberships.{subject_of, literals_about, word_at, is_true_by, is_atom}
+use Rattle.sb_theory.specs.Wanted.{is_wanted, wanted_of}
 
 abbrev plus : ℕ → Lit
 plus atom = record { atom = atom; positive = true }
@@ -31,6 +32,13 @@ of_no_atom = refl
 
 of_one_constant : literals_about three 3 (plus 0 ∷ plus 1 ∷ minus 2 ∷ minus 0 ∷ []) ≡ plus 0 ∷ minus 0 ∷ []
 of_one_constant = refl
+
+-- of a literal whose atom is not wanted nothing is asked
+of_wanted_atoms : wanted_of (2 ∷ 0 ∷ []) (plus 0 ∷ minus 1 ∷ minus 2 ∷ minus 0 ∷ []) ≡ plus 0 ∷ minus 2 ∷ minus 0 ∷ []
+of_wanted_atoms = refl
+
+not_wanted : is_wanted (2 ∷ 0 ∷ []) 1 ≡ false
+not_wanted = refl
 
 a_word : word_at (None ∷ Some (97 ∷ []) ∷ []) 1 ≡ 97 ∷ []
 a_word = refl

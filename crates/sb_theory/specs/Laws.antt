@@ -1,17 +1,17 @@
 -- Lines that the search puts over the theory, and lines behind lines.
-use Rattle.std.proofs.Common.{◌≡◌, ◌⊎◌, ℕ, zero, suc, ◌+◌, ◌<◌, Bool, true, false, not, ◌&&◌, nat_lt, if◌then◌else◌, List, [], ◌∷◌, ◌++◌, length, Option, Some, None, Result, Ok, Err, refl, sym, ap, subst, ◌∙◌, inl, inr, arith, append_assoc}
+use Rattle.std.proofs.Common.{◌≡◌, ◌⊎◌, ℕ, zero, suc, ◌+◌, ◌<◌, Bool, true, false, not, ◌&&◌, nat_lt, if◌then◌else◌, List, [], ◌∷◌, ◌++◌, length, Some, Result, Ok, Err, refl, sym, ap, subst, ◌∙◌, inl, inr, arith, append_assoc}
 use Rattle.std.specs.List.{list_all}
-use Rattle.std.proofs.lemmas.Bool.{false≢true, and_parts, and_from, or_left, or_right, or_cases, le-ltb, eq-eqb, lt-ltb}
+use Rattle.std.proofs.lemmas.Bool.{and_from, or_left, or_right, le-ltb, eq-eqb, lt-ltb}
 use Rattle.std.proofs.lemmas.List.{length-map}
 use Rattle.std.proofs.lemmas.Option.{same_Some}
 use Rattle.sb_lit.specs.declared.clause.Lit.{Lit}
 use Rattle.sb_lit.specs.Clauses.{is_among, is_same_literal, are_ascending}
 use Rattle.sb_lit.specs.Kept.{Kept, KeptClause, kept_at}
 use Rattle.sb_lit.specs.Hints.{Unlearned, learned}
-use Rattle.sb_lit.proofs.CallerLemmas.{is_same_literal-self, all_among}
+use Rattle.sb_lit.proofs.CallerLemmas.{is_same_literal-self, all_from_among}
 use Rattle.sb_lang.specs.Regex.{Regex}
 use Rattle.sb_trail.specs.declared.assigned.Assigned.{Assigned}
-use Rattle.sb_analyze.specs.Learning.{IsLesson, literals_at, is_named}
+use Rattle.sb_analyze.specs.Learning.{IsLesson}
 use Rattle.sb_deriv.specs.Faithful.{Memo, KeepsEntries}
 use Rattle.sb_regex.specs.Numbered.{Extends}
 use Rattle.sb_regex.proofs.CallerLemmas.{extends_same, extends_more}
@@ -28,6 +28,7 @@ use Rattle.sb_atoms.specs.Numbered.{over, atoms_in, HaveRegexesBelow}
 use Rattle.sb_atoms.proofs.CallerLemmas.{atoms_kept}
 use Rattle.sb_trace.specs.Tracking.{Traced, Tracks}
 use Rattle.sb_trace.proofs.CallerLemmas.{puts_none, puts_one, puts_both, tracks_grow}
+use Rattle.sb_search.specs.Asking.{AreKnown}
 use Rattle.sb_search.specs.Writing.{Written, with_learned, with_gate, true_or_false}
 use Rattle.sb_theory.specs.declared.strings.Strings.{Strings}
 use Rattle.sb_theory.specs.Memberships.{is_atom, are_atoms, HaveAtoms}
@@ -69,10 +70,6 @@ writes_both x y z before between after p q = record {
         second.2,
       );
 }
-
-pub known_later : (x y : Strings) (before after : Written) → Writes x y before after → (atom : ℕ)
-    → is_atom x.atoms atom ≡ true → is_atom y.atoms atom ≡ true
-known_later x y before after h atom k = ap (λ (ts : List (AtomOver ℕ)). is_atom ts atom) h.atoms ∙ k
 
 -- where the arena and what is known of derivatives grow
 pub writes_grown : (x y : Strings) (proof : Written) → y.atoms ≡ x.atoms → y.proves ≡ x.proves → y.trace ≡ x.trace
@@ -142,29 +139,6 @@ have_more atoms kept clause level h new = λ id c there.
       | inr is ↦ subst (λ (k : KeptClause). are_atoms atoms k.literals ≡ true) is new
     ]
 
-one_named : (atoms : List (AtomOver ℕ)) (kept : Kept) (hints : List ℕ) (l : Lit) → HaveAtoms atoms kept
-    → is_named kept hints l ≡ true → is_atom atoms l.atom ≡ true
-one_named atoms kept [] l h named = absurd (false≢true named)
-one_named atoms kept (id ∷ ids) l h named =
-    elim (or_cases (is_among (literals_at kept id) l) (is_named kept ids l) named) [
-      | inl here ↦ step (kept_at kept id) refl here
-      | inr later ↦ one_named atoms kept ids l h later
-    ]
-  where
-    step : (o : Option KeptClause) → kept_at kept id ≡ o
-        → is_among (elim o as (λ _. List Lit) [ None ↦ [] | Some clause ↦ clause.literals ]) l ≡ true
-        → is_atom atoms l.atom ≡ true
-    step None is among = absurd (false≢true among)
-    step (Some clause) is among = all_among (λ m. is_atom atoms m.atom) clause.literals l (h id clause is) among
-
-named_atoms : (atoms : List (AtomOver ℕ)) (kept : Kept) (hints : List ℕ) (clause : List Lit) → HaveAtoms atoms kept
-    → list_all (is_named kept hints) clause ≡ true → are_atoms atoms clause ≡ true
-named_atoms atoms kept hints [] h named = refl
-named_atoms atoms kept hints (l ∷ ls) h named =
-    let p = and_parts (is_named kept hints l) (list_all (is_named kept hints) ls) named in
-    and_from (is_atom atoms l.atom) (are_atoms atoms ls) (one_named atoms kept hints l h p.0)
-    (named_atoms atoms kept hints ls h p.1)
-
 pub are_known_in : (rs : List Regex) (atoms : List (AtomOver ℕ)) (table : List Atom) (clause : List Lit)
     → table ≡ atoms_in rs atoms → are_atoms atoms clause ≡ true → are_known table clause ≡ true
 are_known_in rs atoms table clause is h =
@@ -208,35 +182,37 @@ tracks_kept rs memo t kept clauses rests counted h = record {
 }
 
 pub writes_learned : (x : Strings) (proof : Written) (clause : List Lit) (hints : List ℕ) (level : ℕ)
-    → IsLesson proof.kept clause hints level → has_text (learned_line clause hints) ≡ true
-    → proof.budget.spent < proof.budget.limit → Writes x x proof (with_learned clause hints level proof)
-writes_learned x proof clause hints level lesson text room = record {
-  atoms = refl;
-  proves = refl;
-  extends = extends_same x.arena;
-  derivatives = λ n pieces h. h;
-  known = λ h. have_more x.atoms proof.kept clause level h (named_atoms x.atoms proof.kept hints clause h lesson.named);
-  silent = λ off. refl;
-  lines = λ on asked kept b.
-      let new = named_atoms x.atoms proof.kept hints clause b.known lesson.named in
-      let known = are_known_in x.arena x.atoms kept.atoms clause b.atoms new in
-      let accepted = ap (λ (ks : Kept). learned ks clause hints) b.clauses ∙ lesson.accepted in
-      let after : AllKept = record (with_clause kept clause level (rests_of_any kept hints)) {
-        counted = kept.counted + 1;
-      } in (
-        after,
-        puts_one asked kept after (learned_line clause hints) proof.told (with_learned clause hints level proof).told
-            (learned_follows asked kept clause hints level known accepted
-            (omega (arith, room, b.counted.spent, b.counted.limit))) text refl,
-        record {
-          tracks = tracks_kept x.arena x.graph.memo x.trace kept after.clauses after.rests after.counted b.tracks;
-          atoms = b.atoms;
-          clauses = ap (λ (ks : Kept). ks ++ Some (record { literals = clause; level = level }) ∷ []) b.clauses;
-          known = have_more x.atoms proof.kept clause level b.known new;
-          counted = record { spent = ap (λ n. n + 1) b.counted.spent; limit = b.counted.limit };
-        },
-      );
-}
+    → IsLesson proof.kept clause hints level → AreKnown (λ atom. is_atom x.atoms atom ≡ true) clause
+    → has_text (learned_line clause hints) ≡ true → proof.budget.spent < proof.budget.limit
+    → Writes x x proof (with_learned clause hints level proof)
+writes_learned x proof clause hints level lesson all text room =
+    let new : are_atoms x.atoms clause ≡ true = all_from_among (λ l. is_atom x.atoms l.atom) clause all in
+    record {
+      atoms = refl;
+      proves = refl;
+      extends = extends_same x.arena;
+      derivatives = λ n pieces h. h;
+      known = λ h. have_more x.atoms proof.kept clause level h new;
+      silent = λ off. refl;
+      lines = λ on asked kept b.
+          let known = are_known_in x.arena x.atoms kept.atoms clause b.atoms new in
+          let accepted = ap (λ (ks : Kept). learned ks clause hints) b.clauses ∙ lesson.accepted in
+          let after : AllKept = record (with_clause kept clause level (rests_of_any kept hints)) {
+            counted = kept.counted + 1;
+          } in (
+            after,
+            puts_one asked kept after (learned_line clause hints) proof.told (with_learned clause hints level proof).told
+                (learned_follows asked kept clause hints level known accepted
+                (omega (arith, room, b.counted.spent, b.counted.limit))) text refl,
+            record {
+              tracks = tracks_kept x.arena x.graph.memo x.trace kept after.clauses after.rests after.counted b.tracks;
+              atoms = b.atoms;
+              clauses = ap (λ (ks : Kept). ks ++ Some (record { literals = clause; level = level }) ∷ []) b.clauses;
+              known = have_more x.atoms proof.kept clause level b.known new;
+              counted = record { spent = ap (λ n. n + 1) b.counted.spent; limit = b.counted.limit };
+            },
+          );
+    }
 
 -- The line of the clause that an atom is true or false.
 

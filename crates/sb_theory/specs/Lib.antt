@@ -1,4 +1,5 @@
 pub mod Memberships
+pub mod Wanted
 pub mod Strings
 pub mod Examples
 pub mod Places

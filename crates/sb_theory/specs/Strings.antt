@@ -25,17 +25,18 @@ use Rattle.sb_search.specs.Writing.{Written, written, kept_behind}
 use Rattle.sb_search.specs.declared.theory.Checked.{Checked}
 use Rattle.sb_search.specs.declared.theory.Checked.TheVariants.{Fine, Lemma, Ask, Spent}
 use Rattle.sb_theory.specs.declared.strings.Strings.{Strings}
-use Rattle.sb_theory.specs.Memberships.{AreMembers, row_at, is_true_by, is_atom, HaveAtoms, IsValid}
+use Rattle.sb_theory.specs.Memberships.{AreMembers, row_at, is_true_by, is_atom, HaveAtoms}
+use Rattle.sb_theory.specs.Wanted.{is_of_wanted, wanted_on, IsTaught}
 use Rattle.sb_theory.specs.Fronts.{AreFitting}
 
--- What holds of the theory: its tables are right, the rows are those of what was taken in, and it is known how much of
--- each of them is true of the words.
+-- What holds of the theory: its tables are right, the rows are those of the literals of wanted atoms that were taken in,
+-- and it is known how much of each of them is true of the words.
 pub record Holds (x : Strings) : Type 0 where
   pub graph : IsGraph x.arena x.graph
   pub plain : IsRight x.arena x.plain
   pub regexes : HaveRegexesBelow (length x.arena) x.atoms
-  pub members : AreMembers x.atoms x.members.items (held x.taken.items)
-  pub fit : AreFitting x.arena x.atoms x.words.items (held x.taken.items) x.fitting.items x.changed
+  pub members : AreMembers x.atoms x.members.items (wanted_on x.wanted x.taken.items)
+  pub fit : AreFitting x.arena x.atoms x.words.items (wanted_on x.wanted x.taken.items) x.fitting.items x.changed
 
 -- What was taken in is the front of the trail.
 pub record Stands (x : Strings) (entries : List Assigned) : Type 0 where
@@ -44,9 +45,9 @@ pub record Stands (x : Strings) (entries : List Assigned) : Type 0 where
   pub rest : List Assigned
   pub is : entries ≡ x.taken.items ++ rest
 
--- each literal on the trail is true of the words
+-- each literal of a wanted atom on the trail is true of the words
 abbrev pub Agrees : Strings → List Assigned → Type 0
-Agrees x entries = list_all (is_true_by x.arena x.atoms x.words.items) (held entries) ≡ true
+Agrees x entries = list_all (is_true_by x.arena x.atoms x.words.items) (wanted_on x.wanted entries) ≡ true
 
 -- Regexes may be added, and nothing else that others know changes.
 pub record Grows (x y : Strings) : Type 0 where
@@ -97,10 +98,11 @@ pub record Writes (x y : Strings) (before after : Written) : Type 0 where
   pub lines : x.proves ≡ true → (asked : Asked) (kept : AllKept) → Backs asked x kept before
       → (more : AllKept) × Puts asked kept more before.told after.told × Backs asked y more after
 
--- The clause is of memberships of one constant, no word makes it false, and it is false on the trail.
-pub record IsDenied (rs : List Regex) (atoms : List (AtomOver ℕ)) (entries : List Assigned) (x : ℕ) (clause : List Lit) :
-    Type 0
+-- The clause is of wanted memberships of one constant, no word makes it false, and it is false on the trail.
+pub record IsDenied (rs : List Regex) (atoms : List (AtomOver ℕ)) (wanted : List ℕ) (entries : List Assigned) (x : ℕ)
+    (clause : List Lit) : Type 0
   where
+    pub asked : list_all (is_of_wanted wanted) clause ≡ true
     pub about : AreAbout atoms x clause
     pub clash : AreClashing rs atoms (map negation clause)
     pub some : clause ≢ []
@@ -118,7 +120,7 @@ IsPaid before after Spent = after.spent ≡ after.limit
 pub record Answers (x y : Strings) (entries : List Assigned) (before after : Spending) (old new : Option (List ℕ))
     (answer : Checked) : Type 0
   where
-    pub fair : IsFair (is_atom x.atoms) (IsValid y.arena y.atoms) entries answer
+    pub fair : IsFair (λ atom. is_atom y.atoms atom ≡ true) (IsTaught y.arena y.atoms y.wanted) entries answer
     pub paid : IsPaid before after answer
     pub writes : (kept : Kept) → HasNoneFalse kept (held entries)
         → Writes x y (written kept before old) (written (kept_behind kept answer) after new)

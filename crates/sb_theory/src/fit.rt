@@ -6,13 +6,15 @@ ghost use Rattle.sb_regex.specs.Numbered.{Extends};
 ghost use Rattle.sb_plain.specs.Memory.{IsRight};
 ghost use Rattle.sb_atoms.specs.Numbered.{HaveRegexesBelow};
 ghost use Rattle.sb_theory.specs.Memberships.{is_true_by, AreMembers};
+ghost use Rattle.sb_theory.specs.Wanted.{wanted_of};
 ghost use Rattle.sb_theory.specs.Fronts.{AreFitting, IsNoted};
 
 use crate::changed::Changed;
-use crate::member::membership;
+use crate::member::{asked, membership};
 use crate::numbers::{number_of, put_number};
 use crate::place::contains;
 use crate::row::{Row, row_of};
+use crate::wanted::WantedAtoms;
 use sb_atoms::Atoms;
 use sb_lit::Lit;
 use sb_plain::Plain;
@@ -42,12 +44,13 @@ pub(crate) fn fits(
     Ok(is_in == literal.positive)
 }
 
-/// Matches the next literal of a constant's row with its word, where this is known to make the row true so far: either
-/// it makes the next one true too, or the constant is to be looked at. What is known of a row that was longer is then
-/// known of what is left of it.
+/// Matches the next literal of a constant's row with its word, where the literal's atom is wanted and the word is known
+/// to make the row true so far: either it makes the next one true too, or the constant is to be looked at. What is known
+/// of a row that was longer is then known of what is left of it.
 pub(crate) fn note(
     arena: &mut Arena,
     plain: &mut Plain,
+    wanted: &WantedAtoms,
     atoms: &Atoms,
     words: &[Option<Word>],
     rows: &[Row],
@@ -59,11 +62,12 @@ pub(crate) fn note(
     requires right { IsRight arena.old plain.old }
     ensures fit { OnOk result ((ls : List TheLit) → AreMembers atoms.now rows.now ls
         → AreFitting arena.old atoms.now words.now ls fitting.old.items changed.old
-        → AreFitting arena.new atoms.now words.now (ls ++ literal ∷ []) fitting.new.items changed.new) }
+        → AreFitting arena.new atoms.now words.now (ls ++ wanted_of wanted.now (literal ∷ [])) fitting.new.items
+        changed.new) }
     ensures extends { Extends arena.old arena.new }
     ensures right { IsRight arena.new plain.new }
 {
-    let Some(member) = membership(atoms, literal) else {
+    let Some(member) = asked(wanted, atoms, literal) else {
         return Ok(());
     };
     let long = row_of(rows, member.serial).len();

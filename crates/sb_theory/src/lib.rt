@@ -1,5 +1,5 @@
-//! The theory of memberships: for each String constant a word that makes the memberships of it true that are on the
-//! trail, or a few of them that no word makes true together.
+//! The theory of memberships: for each String constant a word that makes the wanted memberships of it true that are on
+//! the trail, or a few of them that no word makes true together.
 //!
 //! [`Strings`] is a theory that a search may ask. It takes all of the trail in first, and tries each new membership on
 //! the word that its constant has: nothing is explored while it fits. Then each constant whose word does not fit is
@@ -15,6 +15,8 @@ mod numbers;
 mod place;
 mod row;
 mod strings;
+mod wanted;
 
 pub use member::{Member, membership};
 pub use strings::Strings;
+pub use wanted::WantedAtoms;

@@ -1,16 +1,18 @@
 //! What literals are about, and what was taken in of them.
 
-ghost use Rattle.std.specs.Prelude.{◌≡◌, ◌∷◌, ◌++◌, [], List, None, OnOk, IfSome, IfNone};
+ghost use Rattle.std.specs.Prelude.{◌≡◌, ◌∷◌, ◌++◌, ℕ, true, [], List, None, OnOk, IfSome, IfNone};
 ghost use Rattle.sb_lit.specs.declared.clause.Lit.{Lit as TheLit};
 ghost use Rattle.sb_script.specs.Pieces.{constant_piece};
 ghost use Rattle.sb_rulebook.specs.Atoms.{in_atom};
-ghost use Rattle.sb_trail.specs.Assignments.{held, AreLevelled};
+ghost use Rattle.sb_trail.specs.Assignments.{AreLevelled};
 ghost use Rattle.sb_atoms.specs.Numbered.{Names, atom_in};
 ghost use Rattle.sb_theory.specs.Places.{IsCut};
-ghost use Rattle.sb_theory.specs.Memberships.{constant_of, subject_of, AreMembers};
+ghost use Rattle.sb_theory.specs.Memberships.{constant_of, subject_of, literals_about, AreMembers};
+ghost use Rattle.sb_theory.specs.Wanted.{is_wanted, wanted_of, wanted_on};
 
 use crate::place::{add, is_above};
 use crate::row::{Row, drop_member, put_member};
+use crate::wanted::WantedAtoms;
 use sb_atoms::{Atom, AtomId, Atoms};
 use sb_lit::Lit;
 use sb_regex::RegexId;
@@ -53,45 +55,69 @@ fn member_in(atom: &Atom) -> Option<Member>
     }
 }
 
-/// Adds an entry to those that were taken in, and its literal to the row of its constant.
+/// What a literal's atom says, where it is wanted and a membership of one constant. Takes constant time and no memory.
+pub(crate) fn asked(wanted: &WantedAtoms, atoms: &Atoms, literal: Lit) -> Option<Member>
+    ensures some { IfSome result
+        (λ found. Names atoms.now literal.atom (in_atom (constant_piece found.serial.0 ∷ []) found.regex)) }
+    ensures wanted { IfSome result (λ found. is_wanted wanted.now literal.atom ≡ true) }
+    ensures none { IfNone result ((x : ℕ) → literals_about atoms.now x (wanted_of wanted.now (literal ∷ [])) ≡ []) }
+{
+    let Some(member) = membership(atoms, literal) else {
+        return None;
+    };
+    if !wanted.contains(literal.atom) {
+        return None;
+    }
+    Some(member)
+}
+
+/// Adds an entry to those that were taken in, and its literal, where its atom is wanted, to the row of its constant.
 pub(crate) fn keep(
     alloc: Global,
+    wanted: &WantedAtoms,
     atoms: &Atoms,
     taken: &mut Vec<Entry>,
     rows: &mut Vec<Row>,
     entry: Entry,
 ) -> Result<(), AllocError>
     ensures taken { OnOk result (taken.new.items ≡ taken.old.items ++ entry ∷ []) }
-    ensures members { OnOk result (AreMembers atoms.now rows.old.items (held taken.old.items)
-        → AreMembers atoms.now rows.new.items (held taken.new.items)) }
+    ensures members { OnOk result (AreMembers atoms.now rows.old.items (wanted_on wanted.now taken.old.items)
+        → AreMembers atoms.now rows.new.items (wanted_on wanted.now taken.new.items)) }
 {
     let literal = entry.literal();
-    let Some(member) = membership(atoms, literal) else {
+    let Some(member) = asked(wanted, atoms, literal) else {
         return add(taken, entry);
     };
     put_member(alloc, rows, member.serial, literal)?;
     add(taken, entry)
 }
 
-/// Takes the last literal that was taken in off the row of its constant. Takes no memory.
-pub(crate) fn forget(atoms: &Atoms, rows: &mut Vec<Row>, literal: Lit)
-    ensures { (ls : List TheLit) → AreMembers atoms.now rows.old.items (ls ++ literal ∷ [])
+/// Takes the last literal that was taken in off the row of its constant, where its atom is wanted. Takes no memory.
+fn forget(wanted: &WantedAtoms, atoms: &Atoms, rows: &mut Vec<Row>, literal: Lit)
+    ensures { (ls : List TheLit) → AreMembers atoms.now rows.old.items (ls ++ wanted_of wanted.now (literal ∷ []))
         → AreMembers atoms.now rows.new.items ls }
 {
-    if let Some(member) = membership(atoms, literal) {
-        drop_member(rows, member.serial);
-    }
+    let Some(member) = asked(wanted, atoms, literal) else {
+        return;
+    };
+    drop_member(rows, member.serial);
 }
 
 /// Takes the entries off whose level is above this one, and their literals off the rows. Takes no memory.
-pub(crate) fn cut(atoms: &Atoms, taken: &mut Vec<Entry>, rows: &mut Vec<Row>, level: usize)
+pub(crate) fn cut(
+    wanted: &WantedAtoms,
+    atoms: &Atoms,
+    taken: &mut Vec<Entry>,
+    rows: &mut Vec<Row>,
+    level: usize,
+)
     ensures taken { AreLevelled 0 taken.old.items → IsCut level taken.old.items taken.new.items }
-    ensures members { AreMembers atoms.now rows.old.items (held taken.old.items)
-        → AreMembers atoms.now rows.new.items (held taken.new.items) }
+    ensures members { AreMembers atoms.now rows.old.items (wanted_on wanted.now taken.old.items)
+        → AreMembers atoms.now rows.new.items (wanted_on wanted.now taken.new.items) }
 {
     while is_above(taken, level) {
         if let Some(entry) = taken.pop() {
-            forget(atoms, rows, entry.literal());
+            forget(wanted, atoms, rows, entry.literal());
         }
     }
 }

@@ -9,10 +9,11 @@ ghost use Rattle.sb_atoms.specs.Numbered.{HaveRegexesBelow};
 ghost use Rattle.sb_trace.specs.Putting.{CountsTapeFault, SpendsWithin};
 ghost use Rattle.sb_clash.specs.Literals.{AreClashing, AreFewer};
 ghost use Rattle.sb_search.specs.declared.theory.Checked.TheVariants.{Fine, Lemma, Spent};
-ghost use Rattle.sb_theory.specs.Memberships.{row_at, is_atom, IsValid};
+ghost use Rattle.sb_theory.specs.Memberships.{row_at, is_atom};
+ghost use Rattle.sb_theory.specs.Wanted.{IsTaught};
 ghost use Rattle.sb_theory.specs.Fronts.{number_at, IsWhole, Rises};
 ghost use Rattle.sb_theory.specs.Strings.{Holds, Stands, Agrees, Grows, Keeps, Looks, HasClash, HasClashIn, Writes, IsDenied, Answers, IsEnd};
-ghost use Rattle.sb_theory.specs.Laws.{stands_longer, writes_none, writes_both, writes_learned, writes_gate, known_later};
+ghost use Rattle.sb_theory.specs.Laws.{stands_longer, writes_none, writes_both, writes_learned, writes_gate};
 
 use crate::changed::Changed;
 use crate::fit::{fits, note};
@@ -20,6 +21,7 @@ use crate::member::{cut, keep};
 use crate::numbers::{number_of, put_number};
 use crate::place::put_word;
 use crate::row::{Row, front_of, literal_at, row_of};
+use crate::wanted::WantedAtoms;
 use sb_atoms::Atoms;
 use sb_clash::{core, denial, least_word, put_denial};
 use sb_clauses::Clauses;
@@ -49,13 +51,13 @@ pub struct Strings {
     /// Whether lines are put.
     pub proves: bool,
     /// The atoms that are to have values in the end.
-    pub wanted: Vec<u64>,
+    pub wanted: WantedAtoms,
     /// What was taken in of the trail, oldest first.
     taken: Vec<Entry>,
-    /// By serial the literals of the constant's memberships among these, oldest first.
+    /// By serial the literals of the constant's memberships among these whose atoms are wanted, oldest first.
     members: Vec<Row>,
-    /// By serial a word that makes the constant's memberships among these true, but for the constants in `changed`; the
-    /// empty one where there is none.
+    /// By serial a word that makes these literals of the constant true, but for the constants in `changed`; the empty
+    /// one where there is none.
     pub words: Vec<Option<Word>>,
     /// By serial how many first literals of the row the word is known to make true. It may be more than are left of a
     /// row that was longer.
@@ -65,19 +67,17 @@ pub struct Strings {
 }
 
 impl Theory for Strings {
-    ghost wanted = { λ x. x.wanted.items };
+    ghost wanted = { λ x. x.wanted };
 
-    ghost passes = { λ x atom. is_atom x.atoms atom };
+    ghost passes = { λ x atom. is_atom x.atoms atom ≡ true };
 
-    ghost teaches = { λ x clause. IsValid x.arena x.atoms clause };
+    ghost teaches = { λ x clause. IsTaught x.arena x.atoms x.wanted clause };
 
     ghost measure = { λ _ _ _. 0 };
 
     ghost stands = { λ x entries. Stands x entries };
 
     ghost agrees = { λ x entries. Agrees x entries };
-
-    ghost knows = { λ x atom. is_atom x.atoms atom ≡ true };
 
     ghost puts = { λ x y before after. Writes x y before after };
 
@@ -93,12 +93,21 @@ impl Theory for Strings {
     }
 
     fn backtrack(&mut self, level: usize) {
-        cut(&self.atoms, &mut self.taken, &mut self.members, level);
+        cut(
+            &self.wanted,
+            &self.atoms,
+            &mut self.taken,
+            &mut self.members,
+            level,
+        );
     }
 
     fn wanted_at(&self, at: u64) -> Option<u64> {
-        let _wanted = self.wanted.len();
-        self.wanted.get(at as usize).copied()
+        self.wanted.at(at)
+    }
+
+    fn phase(&self, _atom: u64) -> Option<bool> {
+        None
     }
 
     ghost stands_longer = { stands_longer };
@@ -108,8 +117,6 @@ impl Theory for Strings {
     ghost puts_none = { writes_none };
 
     ghost puts_both = { writes_both };
-
-    ghost stays_known = { known_later };
 
     ghost puts_learned = { writes_learned };
 
@@ -126,7 +133,7 @@ impl Strings {
         trace: Trace,
         atoms: Atoms,
         proves: bool,
-        wanted: Vec<u64>,
+        wanted: WantedAtoms,
     ) -> Strings
         requires graph { IsGraph arena graph }
         requires plain { IsRight arena plain }
@@ -137,7 +144,7 @@ impl Strings {
         ensures trace { result.trace ≡ trace }
         ensures atoms { result.atoms ≡ atoms }
         ensures proves { result.proves ≡ proves }
-        ensures wanted { result.wanted.items ≡ wanted.items }
+        ensures wanted { result.wanted ≡ wanted }
     {
         Strings {
             alloc,
@@ -207,6 +214,7 @@ impl Strings {
         note(
             &mut self.arena,
             &mut self.plain,
+            &self.wanted,
             &self.atoms,
             &self.words,
             &self.members,
@@ -216,6 +224,7 @@ impl Strings {
         )?;
         keep(
             self.alloc,
+            &self.wanted,
             &self.atoms,
             &mut self.taken,
             &mut self.members,
@@ -407,7 +416,7 @@ impl Strings {
         budget: &mut Budget,
     ) -> Result<Checked, TapeFault>
         requires stands { Stands self.old trail.now.literals }
-        requires denied { IsDenied self.old.arena self.old.atoms trail.now.literals serial.0 clause }
+        requires denied { IsDenied self.old.arena self.old.atoms self.old.wanted trail.now.literals serial.0 clause }
         ensures stands { OnOk result (Stands self.new trail.now.literals) }
         ensures end { IfOk result (IsEnd self.old self.new trail.now.literals budget.old budget.new
             (L.Tape.told tape.old) (L.Tape.told tape.new)) }

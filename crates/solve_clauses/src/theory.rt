@@ -37,7 +37,7 @@ pub struct Given {
 impl Theory for Given {
     ghost wanted = { λ theory. theory.atoms.items };
 
-    ghost passes = { λ _ _. true };
+    ghost passes = { λ _ _. Unit {0} };
 
     ghost teaches = { λ _ _. Unit {0} };
 
@@ -46,8 +46,6 @@ impl Theory for Given {
     ghost stands = { λ _ _. Unit {0} };
 
     ghost agrees = { λ _ _. Unit {0} };
-
-    ghost knows = { λ _ _. Unit {0} };
 
     ghost puts = { λ _ _ _ _. Unit {0} };
 
@@ -82,6 +80,10 @@ impl Theory for Given {
         self.atoms.get(at as usize).copied()
     }
 
+    fn phase(&self, _atom: u64) -> Option<bool> {
+        None
+    }
+
     ghost stands_longer = { λ _ _ _ _. tt };
 
     ghost measure_longer = { Prim.search rules };
@@ -90,9 +92,7 @@ impl Theory for Given {
 
     ghost puts_both = { λ _ _ _ _ _ _ _ _. tt };
 
-    ghost stays_known = { λ _ _ _ _ _ _ _. tt };
-
-    ghost puts_learned = { λ _ _ _ _ _ _ _ _. tt };
+    ghost puts_learned = { λ _ _ _ _ _ _ _ _ _. tt };
 
     ghost puts_gate = { λ _ _ _ _ _. tt };
 }

@@ -5,6 +5,7 @@ use Rattle.sb_trail.specs.Assignments.{Assignments, IsTrail, current_level}
 use Rattle.sb_trail.proofs.CallerLemmas.{up_to-all}
 use Rattle.sb_analyze.specs.Cores.{AreAssumed}
 use Rattle.sb_search.specs.Writing.{written, with_learned}
+use Rattle.sb_search.proofs.Known.{known_learned, known_written, lesson_known}
 use Rattle.sb_search.proofs.Writes.{written_is, learned_is, puts_written}
 use Rattle.std.proofs.lemmas.Result.{IfOk-from_err}
 use Rattle.sb_search.specs.declared.found.Found.TheVariants as found
@@ -46,9 +47,10 @@ returns-in_err-found g c = record {
   follows = IfOk-from_err c.from_residual.result _ c.from_residual.ensures.0;
   not_sat = IfOk-from_err c.from_residual.result _ c.from_residual.ensures.0;
   stands = IfOk-from_err c.from_residual.result _ c.from_residual.ensures.0;
+  known = IfOk-from_err c.from_residual.result _ c.from_residual.ensures.0;
   puts = IfOk-from_err c.from_residual.result _ c.from_residual.ensures.0;
   wanted = refl;
-  passes = refl;
+  passes = λ atom h. h;
   teaches = λ clause h. h;
   counts = faults_on c.refute.result c.from_residual.result c.in_err-found.field-0.0 (g.L.Tape.faults c.args.tape.now)
       (g.L.Tape.faults c.args.tape.now) (g.L.Tape.faults c.refute.new.tape) c.in_err-found.was c.from_residual.ensures.1
@@ -61,9 +63,10 @@ returns-in_err-lesson g c = record {
   follows = IfOk-from_err c.from_residual-in_err-lesson.result _ c.from_residual-in_err-lesson.ensures.0;
   not_sat = IfOk-from_err c.from_residual-in_err-lesson.result _ c.from_residual-in_err-lesson.ensures.0;
   stands = IfOk-from_err c.from_residual-in_err-lesson.result _ c.from_residual-in_err-lesson.ensures.0;
+  known = IfOk-from_err c.from_residual-in_err-lesson.result _ c.from_residual-in_err-lesson.ensures.0;
   puts = IfOk-from_err c.from_residual-in_err-lesson.result _ c.from_residual-in_err-lesson.ensures.0;
   wanted = refl;
-  passes = refl;
+  passes = λ atom h. h;
   teaches = λ clause h. h;
   counts = faults_stay c.from_residual-in_err-lesson.result (g.L.Tape.faults c.args.tape.now)
       (g.L.Tape.faults c.args.tape.now) c.from_residual-in_err-lesson.ensures.1 refl;
@@ -75,9 +78,10 @@ returns-in_err-put_learned g c = record {
   follows = IfOk-from_err c.from_residual-in_err-put_learned.result _ c.from_residual-in_err-put_learned.ensures.0;
   not_sat = IfOk-from_err c.from_residual-in_err-put_learned.result _ c.from_residual-in_err-put_learned.ensures.0;
   stands = IfOk-from_err c.from_residual-in_err-put_learned.result _ c.from_residual-in_err-put_learned.ensures.0;
+  known = IfOk-from_err c.from_residual-in_err-put_learned.result _ c.from_residual-in_err-put_learned.ensures.0;
   puts = IfOk-from_err c.from_residual-in_err-put_learned.result _ c.from_residual-in_err-put_learned.ensures.0;
   wanted = refl;
-  passes = refl;
+  passes = λ atom h. h;
   teaches = λ clause h. h;
   counts = faults_on c.put_learned.result c.from_residual-in_err-put_learned.result c.in_err-put_learned.field-0.0
       (g.L.Tape.faults c.args.tape.now) (g.L.Tape.faults c.args.tape.now) (g.L.Tape.faults c.put_learned.new.tape)
@@ -90,6 +94,7 @@ returns-in_err-take_lesson g c = record {
   follows = IfOk-from_err c.from_residual-in_err-take_lesson.result _ c.from_residual-in_err-take_lesson.ensures.0;
   not_sat = IfOk-from_err c.from_residual-in_err-take_lesson.result _ c.from_residual-in_err-take_lesson.ensures.0;
   stands = IfOk-from_err c.from_residual-in_err-take_lesson.result _ c.from_residual-in_err-take_lesson.ensures.0;
+  known = IfOk-from_err c.from_residual-in_err-take_lesson.result _ c.from_residual-in_err-take_lesson.ensures.0;
   puts = IfOk-from_err c.from_residual-in_err-take_lesson.result _ c.from_residual-in_err-take_lesson.ensures.0;
   wanted = c.take_lesson.ensures.wanted;
   passes = c.take_lesson.ensures.passes;
@@ -110,13 +115,17 @@ returns-then-current_level-stage g c = record {
   not_sat = ends_no_sat c.in_ok-found.found c.in_ok-found.ensures.not_sat;
   stands = subst (λ (es : List Assigned). g.T.Theory.stands c.args.theory.now es)
       (sym c.in_ok-found.ensures.literals) c.requires.stands;
-  puts = puts_written g.T.Theory.knows g.T.Theory.puts g.met.T.Theory.puts_none g.met.T.Theory.puts_learned
-      g.met.T.Theory.puts_gate c.args.theory.now c.args.assumptions.now
+  known = known_written (g.T.Theory.passes c.args.theory.now) c.args.assumptions.now
       (written c.args.engine.now.kept c.args.budget.now (g.L.Tape.told c.args.tape.now))
       (written c.refute.new.engine.kept c.refute.new.budget (g.L.Tape.told c.refute.new.tape))
+      c.in_ok-found.ensures.writes c.requires.known;
+  puts = puts_written g.T.Theory.passes g.T.Theory.puts g.met.T.Theory.puts_none g.met.T.Theory.puts_learned
+      g.met.T.Theory.puts_gate c.args.theory.now c.args.assumptions.now
+      (written c.args.engine.now.kept c.args.budget.now (g.L.Tape.told c.args.tape.now))
+      (written c.refute.new.engine.kept c.refute.new.budget (g.L.Tape.told c.refute.new.tape)) c.requires.known
       c.in_ok-found.ensures.writes;
   wanted = refl;
-  passes = refl;
+  passes = λ atom h. h;
   teaches = λ clause h. h;
   counts = c.in_ok-found.ensures.counts;
 }
@@ -132,14 +141,15 @@ returns-then-is_err g c =
       follows = λ values level h. h;
       not_sat = spent_no_sat;
       stands = c.requires.stands;
-      puts = λ known.
+      known = c.requires.known;
+      puts =
           let before = written c.args.engine.now.kept c.args.budget.now (g.L.Tape.told c.args.tape.now) in
           subst (g.T.Theory.puts c.args.theory.now c.args.theory.now before)
           (sym (written_is c.args.engine.now.kept c.args.engine.now.kept c.args.budget.now c.tick.new.self
           (g.L.Tape.told c.args.tape.now) (g.L.Tape.told c.args.tape.now) refl same refl))
           (g.met.T.Theory.puts_none c.args.theory.now before);
       wanted = refl;
-      passes = refl;
+      passes = λ atom h. h;
       teaches = λ clause h. h;
       counts = refl;
     }
@@ -156,7 +166,11 @@ returns g c =
       follows = c.in_ok-take_lesson.ensures.follows;
       not_sat = moves_no_sat;
       stands = c.in_ok-take_lesson.ensures.stands c.requires.stands;
-      puts = λ known.
+      known = known_learned (g.T.Theory.passes c.args.theory.now) (g.T.Theory.passes c.take_lesson.new.theory)
+          c.args.engine.now.kept c.take_lesson.new.engine.kept c.in_ok-lesson.lesson.clause c.args.assumptions.now
+          c.in_ok-lesson.lesson.hints c.in_ok-lesson.lesson.level c.take_lesson.ensures.passes
+          c.in_ok-take_lesson.ensures.kept c.in_ok-lesson.ensures.is_lesson c.requires.known;
+      puts =
           let before = written c.args.engine.now.kept c.args.budget.now (g.L.Tape.told c.args.tape.now) in
           let after = with_learned c.in_ok-lesson.lesson.clause c.in_ok-lesson.lesson.hints
           c.in_ok-lesson.lesson.level before in
@@ -168,7 +182,9 @@ returns g c =
           (g.met.T.Theory.puts_both c.args.theory.now c.args.theory.now c.take_lesson.new.theory before after after
           (g.met.T.Theory.puts_learned c.args.theory.now before c.in_ok-lesson.lesson.clause
           c.in_ok-lesson.lesson.hints c.in_ok-lesson.lesson.level c.in_ok-lesson.ensures.is_lesson
-          c.in_ok-put_learned.ensures.has_text room)
+          (lesson_known (g.T.Theory.passes c.args.theory.now) c.args.engine.now.kept c.in_ok-lesson.lesson.clause
+          c.in_ok-lesson.lesson.hints c.in_ok-lesson.lesson.level c.requires.known.clauses
+          c.in_ok-lesson.ensures.is_lesson) c.in_ok-put_learned.ensures.has_text room)
           (c.take_lesson.ensures.puts after));
       wanted = c.take_lesson.ensures.wanted;
       passes = c.take_lesson.ensures.passes;

@@ -14,20 +14,20 @@ returns g c = record {
       let is_trail = subst (λ (t : Assignments). IsTrail t) c.trail-trail.ensures c.literals-before.ensures.trail in
       searching_after (g.T.Theory.wanted c.args.theory.now) (g.T.Theory.wanted c.backtrack.new.theory) assumptions
       c.args.stage.now.levels c.args.stage.now.next c.backtrack.new.stage.levels c.backtrack.new.stage.next
-      c.second_level-level.result c.args.engine.now c.backtrack.new.engine c.keep.new.engine
+      c.lowest_level-level.result c.args.engine.now c.backtrack.new.engine c.keep.new.engine
       (record { literals = c.args.clause.now; level = 0 }) is_trail c.backtrack.ensures.engine c.backtrack.ensures.wanted
       c.backtrack.ensures.levels c.backtrack.ensures.next c.in_ok-keep.ensures.kept c.in_ok-keep.ensures.literals
       c.in_ok-keep.ensures.reserved c.in_ok-keep.ensures.room
       (below_lemma c.args.engine.now.kept (record { literals = c.args.clause.now; level = 0 })
-      c.args.engine.now.trail.literals c.second_level-level.result is_trail.distinct
-      (rw (c.trail-trail.ensures, c.literals.ensures) at c.second_level-level.ensures).two_below
-      (below_back c.args.engine.now.kept c.args.engine.now.trail.literals c.second_level-level.result is_trail.levelled
+      c.args.engine.now.trail.literals c.lowest_level-level.result
+      (rw (c.trail-trail.ensures, c.literals.ensures) at c.lowest_level-level.ensures)
+      (below_back c.args.engine.now.kept c.args.engine.now.trail.literals c.lowest_level-level.result is_trail.levelled
       h.below)) h;
   kept = c.in_ok-keep.ensures.kept ∙ ap (λ (s : State).
       s.kept ++ Some (record { literals = c.args.clause.now; level = 0 }) ∷ []) c.backtrack.ensures.engine;
   back = (
-    c.second_level-level.result,
-    rw (c.trail-trail.ensures, c.literals.ensures) at c.second_level-level.ensures,
+    c.lowest_level-level.result,
+    rw (c.trail-trail.ensures, c.literals.ensures) at c.lowest_level-level.ensures,
     c.in_ok-keep.ensures.literals ∙ ap (λ (s : State). s.trail.literals) c.backtrack.ensures.engine,
   );
   stands = λ h.
@@ -43,9 +43,9 @@ returns g c = record {
       (sym (c.in_ok-keep.ensures.literals ∙ ap (λ (s : State). s.trail.literals) c.backtrack.ensures.engine))
       (omega (
         arith,
-        h c.second_level-level.result,
+        h c.lowest_level-level.result,
         c.backtrack.ensures.falls (with_lemma c.args.engine.now.kept c.args.clause.now)
-            (up_to c.second_level-level.result c.args.engine.now.trail.literals),
+            (up_to c.lowest_level-level.result c.args.engine.now.trail.literals),
       )));
   puts = c.backtrack.ensures.puts;
   wanted = c.backtrack.ensures.wanted;

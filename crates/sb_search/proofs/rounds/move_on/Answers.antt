@@ -3,7 +3,6 @@ use Rattle.std.proofs.lemmas.Result.{IfOk-from_err, err_from_is_err_and}
 use Rattle.sb_search.proofs.Outcomes.{no_round, round_ends, round_moves, round_decides, better_on, no_worse_on, fewer_left, counts_on, no_some, some_no, ends_is}
 use Rattle.sb_search.proofs.Following.{follows_same, follows_on}
 use Rattle.sb_search.specs.Writing.{written}
-use Rattle.sb_search.proofs.Writes.{puts_on}
 use Rattle.sb_search.proofs.rounds.move_on.Goals as goal
 
 pub loop-found-init : goal.loop-found-init
@@ -14,17 +13,20 @@ loop-found-init g c = (
   inr (refl, omega arith),
   c.requires.stands,
   refl,
-  refl,
+  λ _ h. h,
   refl,
   λ _ taught. taught,
   follows_same (g.T.Theory.teaches c.args.theory.now) c.args.engine.now.kept c.args.engine.now.kept refl,
-  λ _.
-      g.met.T.Theory.puts_none c.args.theory.now
+  g.met.T.Theory.puts_none c.args.theory.now
       (written c.args.engine.now.kept c.args.budget.now (g.L.Tape.told c.args.tape.now)),
+  c.requires.known,
 )
 
 pub take_turn-requires-clause-searching : goal.take_turn-requires-clause-searching
 take_turn-requires-clause-searching g c = c.loop-found.invariant.0.continues
+
+pub take_turn-requires-clause-known : goal.take_turn-requires-clause-known
+take_turn-requires-clause-known g c = c.loop-found.invariant.9
 
 pub take_turn-requires-clause-stands : goal.take_turn-requires-clause-stands
 take_turn-requires-clause-stands g c = c.loop-found.invariant.2
@@ -36,9 +38,10 @@ returns-in_err-found g c = record {
   follows = IfOk-from_err c.from_residual.result _ c.from_residual.ensures.0;
   agrees = IfOk-from_err c.from_residual.result _ c.from_residual.ensures.0;
   stands = IfOk-from_err c.from_residual.result _ c.from_residual.ensures.0;
+  known = IfOk-from_err c.from_residual.result _ c.from_residual.ensures.0;
   puts = IfOk-from_err c.from_residual.result _ c.from_residual.ensures.0;
   wanted = c.take_turn.ensures.wanted ∙ c.loop-found.invariant.3;
-  passes = c.take_turn.ensures.passes ∙ c.loop-found.invariant.4;
+  passes = λ atom h. c.take_turn.ensures.passes atom (c.loop-found.invariant.4 atom h);
   teaches = λ clause taught.
       c.take_turn.ensures.teaches clause (c.loop-found.invariant.6 clause taught);
   counts = let p = err_from_is_err_and c.from_residual.result c.from_residual.ensures.1 in
@@ -62,14 +65,14 @@ returns-in-Ends g c = record {
       c.in_ok-found.ensures.follows;
   agrees = λ is. c.in_ok-found.ensures.agrees (c.in-Ends.is ∙ ends_is c.in-Ends.found _ is);
   stands = c.in_ok-found.ensures.stands;
-  puts = puts_on g.T.Theory.knows g.T.Theory.puts g.met.T.Theory.puts_both g.met.T.Theory.stays_known
-      c.args.assumptions.now c.args.theory.now c.loop-found.theory c.take_turn.new.theory
+  known = c.in_ok-found.ensures.known;
+  puts = g.met.T.Theory.puts_both c.args.theory.now c.loop-found.theory c.take_turn.new.theory
       (written c.args.engine.now.kept c.args.budget.now (g.L.Tape.told c.args.tape.now))
       (written c.loop-found.engine.kept c.loop-found.budget (g.L.Tape.told c.loop-found.tape))
       (written c.take_turn.new.engine.kept c.take_turn.new.budget (g.L.Tape.told c.take_turn.new.tape))
       c.loop-found.invariant.8 c.in_ok-found.ensures.puts;
   wanted = c.take_turn.ensures.wanted ∙ c.loop-found.invariant.3;
-  passes = c.take_turn.ensures.passes ∙ c.loop-found.invariant.4;
+  passes = λ atom h. c.take_turn.ensures.passes atom (c.loop-found.invariant.4 atom h);
   teaches = λ clause taught.
       c.take_turn.ensures.teaches clause (c.loop-found.invariant.6 clause taught);
   counts = c.in_ok-found.ensures.counts ∙ c.loop-found.invariant.5;
@@ -97,14 +100,14 @@ returns-in-Moves g c = record {
       c.in_ok-found.ensures.follows;
   agrees = λ is. absurd (no_some is);
   stands = c.in_ok-found.ensures.stands;
-  puts = puts_on g.T.Theory.knows g.T.Theory.puts g.met.T.Theory.puts_both g.met.T.Theory.stays_known
-      c.args.assumptions.now c.args.theory.now c.loop-found.theory c.take_turn.new.theory
+  known = c.in_ok-found.ensures.known;
+  puts = g.met.T.Theory.puts_both c.args.theory.now c.loop-found.theory c.take_turn.new.theory
       (written c.args.engine.now.kept c.args.budget.now (g.L.Tape.told c.args.tape.now))
       (written c.loop-found.engine.kept c.loop-found.budget (g.L.Tape.told c.loop-found.tape))
       (written c.take_turn.new.engine.kept c.take_turn.new.budget (g.L.Tape.told c.take_turn.new.tape))
       c.loop-found.invariant.8 c.in_ok-found.ensures.puts;
   wanted = c.take_turn.ensures.wanted ∙ c.loop-found.invariant.3;
-  passes = c.take_turn.ensures.passes ∙ c.loop-found.invariant.4;
+  passes = λ atom h. c.take_turn.ensures.passes atom (c.loop-found.invariant.4 atom h);
   teaches = λ clause taught.
       c.take_turn.ensures.teaches clause (c.loop-found.invariant.6 clause taught);
   counts = c.in_ok-found.ensures.counts ∙ c.loop-found.invariant.5;
@@ -136,17 +139,17 @@ loop-found-preserved g c = (
       c.in_ok-found.field-0 c.loop-found.invariant.1 c.in_ok-found.ensures.turned c.in-Decides.is,
   c.in_ok-found.ensures.stands,
   c.take_turn.ensures.wanted ∙ c.loop-found.invariant.3,
-  c.take_turn.ensures.passes ∙ c.loop-found.invariant.4,
+  λ atom h. c.take_turn.ensures.passes atom (c.loop-found.invariant.4 atom h),
   c.in_ok-found.ensures.counts ∙ c.loop-found.invariant.5,
   λ clause taught.
       c.take_turn.ensures.teaches clause (c.loop-found.invariant.6 clause taught),
   follows_on (g.T.Theory.teaches c.loop-found.theory) (g.T.Theory.teaches c.take_turn.new.theory) c.args.engine.now.kept
       c.loop-found.engine.kept c.take_turn.new.engine.kept c.take_turn.ensures.teaches c.loop-found.invariant.7
       c.in_ok-found.ensures.follows,
-  puts_on g.T.Theory.knows g.T.Theory.puts g.met.T.Theory.puts_both g.met.T.Theory.stays_known
-      c.args.assumptions.now c.args.theory.now c.loop-found.theory c.take_turn.new.theory
+  g.met.T.Theory.puts_both c.args.theory.now c.loop-found.theory c.take_turn.new.theory
       (written c.args.engine.now.kept c.args.budget.now (g.L.Tape.told c.args.tape.now))
       (written c.loop-found.engine.kept c.loop-found.budget (g.L.Tape.told c.loop-found.tape))
       (written c.take_turn.new.engine.kept c.take_turn.new.budget (g.L.Tape.told c.take_turn.new.tape))
       c.loop-found.invariant.8 c.in_ok-found.ensures.puts,
+  c.in_ok-found.ensures.known,
 )

@@ -4,7 +4,7 @@ use Rattle.sb_search.proofs.Outcomes.{no_round, rounds_on, grows_both, counts_on
 use Rattle.sb_search.proofs.Following.{follows_same, follows_on, follows_in_all, refuted, core_found}
 use Rattle.sb_lit.specs.Kept.{Kept}
 use Rattle.sb_search.specs.Writing.{written}
-use Rattle.sb_search.proofs.Writes.{puts_on}
+use Rattle.sb_search.proofs.Known.{known_on}
 use Rattle.sb_search.specs.Searching.{Continues}
 use Rattle.sb_search.specs.declared.found.Found.{Found}
 use Rattle.sb_search.proofs.rounds.search.Goals as goal
@@ -21,15 +21,20 @@ loop-stage-init g c = (
   c.begin.ensures.teaches,
   follows_same (g.T.Theory.teaches c.begin.new.theory) c.args.engine.now.kept c.begin.new.engine.kept
       c.in_ok-begin.ensures.kept,
-  λ _.
-      subst (λ (k : Kept). g.T.Theory.puts c.args.theory.now c.begin.new.theory
+  subst (λ (k : Kept). g.T.Theory.puts c.args.theory.now c.begin.new.theory
       (written c.args.engine.now.kept c.args.budget.now (g.L.Tape.told c.args.tape.now))
       (written k c.args.budget.now (g.L.Tape.told c.args.tape.now))) (sym c.in_ok-begin.ensures.kept)
       (c.begin.ensures.puts (written c.args.engine.now.kept c.args.budget.now (g.L.Tape.told c.args.tape.now))),
+  known_on (g.T.Theory.passes c.args.theory.now) (g.T.Theory.passes c.begin.new.theory) c.args.engine.now.kept
+      c.begin.new.engine.kept c.args.assumptions.now c.begin.ensures.passes c.in_ok-begin.ensures.kept
+      c.requires.passes,
 )
 
 pub spend_one-requires-clause-searching : goal.spend_one-requires-clause-searching
 spend_one-requires-clause-searching g c = c.loop-stage.invariant.0.continues
+
+pub spend_one-requires-clause-known : goal.spend_one-requires-clause-known
+spend_one-requires-clause-known g c = c.loop-stage.invariant.8
 
 pub spend_one-requires-clause-stands : goal.spend_one-requires-clause-stands
 spend_one-requires-clause-stands g c = c.loop-stage.invariant.1
@@ -46,9 +51,10 @@ returns-in_err-found g c = record {
   stands = IfOk-from_err c.from_residual-in_err-found.result _ c.from_residual-in_err-found.ensures.0;
   limit = IfOk-from_err c.from_residual-in_err-found.result _ c.from_residual-in_err-found.ensures.0;
   spends = IfOk-from_err c.from_residual-in_err-found.result _ c.from_residual-in_err-found.ensures.0;
+  known = IfOk-from_err c.from_residual-in_err-found.result _ c.from_residual-in_err-found.ensures.0;
   puts = IfOk-from_err c.from_residual-in_err-found.result _ c.from_residual-in_err-found.ensures.0;
   wanted = c.spend_one.ensures.wanted ∙ c.loop-stage.invariant.2;
-  passes = c.spend_one.ensures.passes ∙ c.loop-stage.invariant.3;
+  passes = λ atom h. c.spend_one.ensures.passes atom (c.loop-stage.invariant.3 atom h);
   teaches = λ clause taught.
       c.spend_one.ensures.teaches clause (c.loop-stage.invariant.5 clause taught);
   counts = let p = err_from_is_err_and c.from_residual-in_err-found.result c.from_residual-in_err-found.ensures.1 in
@@ -87,14 +93,14 @@ returns-in-Some g c = record {
   stands = c.in_ok-found.ensures.stands;
   limit = c.in_ok-found.ensures.round.spends.limit ∙ c.loop-stage.invariant.0.spends.limit;
   spends = omega (arith, c.in_ok-found.ensures.round.spends.spent, c.loop-stage.invariant.0.spends.spent);
-  puts = puts_on g.T.Theory.knows g.T.Theory.puts g.met.T.Theory.puts_both g.met.T.Theory.stays_known
-      c.args.assumptions.now c.args.theory.now c.loop-stage.theory c.spend_one.new.theory
+  known = c.in_ok-found.ensures.known.clauses;
+  puts = g.met.T.Theory.puts_both c.args.theory.now c.loop-stage.theory c.spend_one.new.theory
       (written c.args.engine.now.kept c.args.budget.now (g.L.Tape.told c.args.tape.now))
       (written c.loop-stage.engine.kept c.loop-stage.budget (g.L.Tape.told c.loop-stage.tape))
       (written c.spend_one.new.engine.kept c.spend_one.new.budget (g.L.Tape.told c.spend_one.new.tape))
       c.loop-stage.invariant.7 c.in_ok-found.ensures.puts;
   wanted = c.spend_one.ensures.wanted ∙ c.loop-stage.invariant.2;
-  passes = c.spend_one.ensures.passes ∙ c.loop-stage.invariant.3;
+  passes = λ atom h. c.spend_one.ensures.passes atom (c.loop-stage.invariant.3 atom h);
   teaches = λ clause taught.
       c.spend_one.ensures.teaches clause (c.loop-stage.invariant.5 clause taught);
   counts = c.in_ok-found.ensures.counts ∙ c.loop-stage.invariant.4;
@@ -118,19 +124,19 @@ loop-stage-preserved g c = (
       c.loop-stage.invariant.0 c.in_ok-found.ensures.round c.in_default.is,
   c.in_ok-found.ensures.stands,
   c.spend_one.ensures.wanted ∙ c.loop-stage.invariant.2,
-  c.spend_one.ensures.passes ∙ c.loop-stage.invariant.3,
+  λ atom h. c.spend_one.ensures.passes atom (c.loop-stage.invariant.3 atom h),
   c.in_ok-found.ensures.counts ∙ c.loop-stage.invariant.4,
   λ clause taught.
       c.spend_one.ensures.teaches clause (c.loop-stage.invariant.5 clause taught),
   follows_on (g.T.Theory.teaches c.loop-stage.theory) (g.T.Theory.teaches c.spend_one.new.theory) c.args.engine.now.kept
       c.loop-stage.engine.kept c.spend_one.new.engine.kept c.spend_one.ensures.teaches c.loop-stage.invariant.6
       c.in_ok-found.ensures.follows,
-  puts_on g.T.Theory.knows g.T.Theory.puts g.met.T.Theory.puts_both g.met.T.Theory.stays_known
-      c.args.assumptions.now c.args.theory.now c.loop-stage.theory c.spend_one.new.theory
+  g.met.T.Theory.puts_both c.args.theory.now c.loop-stage.theory c.spend_one.new.theory
       (written c.args.engine.now.kept c.args.budget.now (g.L.Tape.told c.args.tape.now))
       (written c.loop-stage.engine.kept c.loop-stage.budget (g.L.Tape.told c.loop-stage.tape))
       (written c.spend_one.new.engine.kept c.spend_one.new.budget (g.L.Tape.told c.spend_one.new.tape))
       c.loop-stage.invariant.7 c.in_ok-found.ensures.puts,
+  c.in_ok-found.ensures.known,
 )
 
 pub returns-in_err-begin : goal.returns-in_err-begin
@@ -145,6 +151,7 @@ returns-in_err-begin g c = record {
   stands = IfOk-from_err c.from_residual.result _ c.from_residual.ensures.0;
   limit = IfOk-from_err c.from_residual.result _ c.from_residual.ensures.0;
   spends = IfOk-from_err c.from_residual.result _ c.from_residual.ensures.0;
+  known = IfOk-from_err c.from_residual.result _ c.from_residual.ensures.0;
   puts = IfOk-from_err c.from_residual.result _ c.from_residual.ensures.0;
   wanted = c.begin.ensures.wanted;
   passes = c.begin.ensures.passes;

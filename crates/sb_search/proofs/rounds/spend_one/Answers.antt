@@ -3,7 +3,6 @@ use Rattle.std.proofs.lemmas.Result.{IfOk-from_err, err_from_is_err_and}
 use Rattle.sb_search.proofs.Outcomes.{no_round, rounds_on, fell, counts_on, no_some, some_no}
 use Rattle.sb_search.proofs.Following.{follows_same, follows_on}
 use Rattle.sb_search.specs.Writing.{written}
-use Rattle.sb_search.proofs.Writes.{puts_on}
 use Rattle.sb_search.proofs.rounds.spend_one.Goals as goal
 
 pub loop-found-init : goal.loop-found-init
@@ -14,17 +13,20 @@ loop-found-init g c = (
   refl,
   c.requires.stands,
   refl,
-  refl,
+  λ _ h. h,
   refl,
   λ _ taught. taught,
   follows_same (g.T.Theory.teaches c.args.theory.now) c.args.engine.now.kept c.args.engine.now.kept refl,
-  λ _.
-      g.met.T.Theory.puts_none c.args.theory.now
+  g.met.T.Theory.puts_none c.args.theory.now
       (written c.args.engine.now.kept c.args.budget.now (g.L.Tape.told c.args.tape.now)),
+  c.requires.known,
 )
 
 pub move_on-requires-clause-searching : goal.move_on-requires-clause-searching
 move_on-requires-clause-searching g c = c.loop-found.invariant.0.continues
+
+pub move_on-requires-clause-known : goal.move_on-requires-clause-known
+move_on-requires-clause-known g c = c.loop-found.invariant.9
 
 pub move_on-requires-clause-stands : goal.move_on-requires-clause-stands
 move_on-requires-clause-stands g c = c.loop-found.invariant.2
@@ -36,9 +38,10 @@ returns-in_err-found g c = record {
   follows = IfOk-from_err c.from_residual.result _ c.from_residual.ensures.0;
   agrees = IfOk-from_err c.from_residual.result _ c.from_residual.ensures.0;
   stands = IfOk-from_err c.from_residual.result _ c.from_residual.ensures.0;
+  known = IfOk-from_err c.from_residual.result _ c.from_residual.ensures.0;
   puts = IfOk-from_err c.from_residual.result _ c.from_residual.ensures.0;
   wanted = c.move_on.ensures.wanted ∙ c.loop-found.invariant.3;
-  passes = c.move_on.ensures.passes ∙ c.loop-found.invariant.4;
+  passes = λ atom h. c.move_on.ensures.passes atom (c.loop-found.invariant.4 atom h);
   teaches = λ clause taught.
       c.move_on.ensures.teaches clause (c.loop-found.invariant.6 clause taught);
   counts = let p = err_from_is_err_and c.from_residual.result c.from_residual.ensures.1 in
@@ -60,14 +63,14 @@ returns-in-Some g c = record {
       c.in_ok-found.ensures.follows;
   agrees = λ is. c.in_ok-found.ensures.agrees (c.in-Some.is ∙ is);
   stands = c.in_ok-found.ensures.stands;
-  puts = puts_on g.T.Theory.knows g.T.Theory.puts g.met.T.Theory.puts_both g.met.T.Theory.stays_known
-      c.args.assumptions.now c.args.theory.now c.loop-found.theory c.move_on.new.theory
+  known = c.in_ok-found.ensures.known;
+  puts = g.met.T.Theory.puts_both c.args.theory.now c.loop-found.theory c.move_on.new.theory
       (written c.args.engine.now.kept c.args.budget.now (g.L.Tape.told c.args.tape.now))
       (written c.loop-found.engine.kept c.loop-found.budget (g.L.Tape.told c.loop-found.tape))
       (written c.move_on.new.engine.kept c.move_on.new.budget (g.L.Tape.told c.move_on.new.tape))
       c.loop-found.invariant.8 c.in_ok-found.ensures.puts;
   wanted = c.move_on.ensures.wanted ∙ c.loop-found.invariant.3;
-  passes = c.move_on.ensures.passes ∙ c.loop-found.invariant.4;
+  passes = λ atom h. c.move_on.ensures.passes atom (c.loop-found.invariant.4 atom h);
   teaches = λ clause taught.
       c.move_on.ensures.teaches clause (c.loop-found.invariant.6 clause taught);
   counts = c.in_ok-found.ensures.counts ∙ c.loop-found.invariant.5;
@@ -87,14 +90,14 @@ returns-then-spent-start g c = record {
       c.in_ok-found.ensures.follows;
   agrees = λ is. absurd (no_some is);
   stands = c.in_ok-found.ensures.stands;
-  puts = puts_on g.T.Theory.knows g.T.Theory.puts g.met.T.Theory.puts_both g.met.T.Theory.stays_known
-      c.args.assumptions.now c.args.theory.now c.loop-found.theory c.move_on.new.theory
+  known = c.in_ok-found.ensures.known;
+  puts = g.met.T.Theory.puts_both c.args.theory.now c.loop-found.theory c.move_on.new.theory
       (written c.args.engine.now.kept c.args.budget.now (g.L.Tape.told c.args.tape.now))
       (written c.loop-found.engine.kept c.loop-found.budget (g.L.Tape.told c.loop-found.tape))
       (written c.move_on.new.engine.kept c.move_on.new.budget (g.L.Tape.told c.move_on.new.tape))
       c.loop-found.invariant.8 c.in_ok-found.ensures.puts;
   wanted = c.move_on.ensures.wanted ∙ c.loop-found.invariant.3;
-  passes = c.move_on.ensures.passes ∙ c.loop-found.invariant.4;
+  passes = λ atom h. c.move_on.ensures.passes atom (c.loop-found.invariant.4 atom h);
   teaches = λ clause taught.
       c.move_on.ensures.teaches clause (c.loop-found.invariant.6 clause taught);
   counts = c.in_ok-found.ensures.counts ∙ c.loop-found.invariant.5;
@@ -131,17 +134,17 @@ loop-found-preserved g c = (
   ),
   c.in_ok-found.ensures.stands,
   c.move_on.ensures.wanted ∙ c.loop-found.invariant.3,
-  c.move_on.ensures.passes ∙ c.loop-found.invariant.4,
+  λ atom h. c.move_on.ensures.passes atom (c.loop-found.invariant.4 atom h),
   c.in_ok-found.ensures.counts ∙ c.loop-found.invariant.5,
   λ clause taught.
       c.move_on.ensures.teaches clause (c.loop-found.invariant.6 clause taught),
   follows_on (g.T.Theory.teaches c.loop-found.theory) (g.T.Theory.teaches c.move_on.new.theory) c.args.engine.now.kept
       c.loop-found.engine.kept c.move_on.new.engine.kept c.move_on.ensures.teaches c.loop-found.invariant.7
       c.in_ok-found.ensures.follows,
-  puts_on g.T.Theory.knows g.T.Theory.puts g.met.T.Theory.puts_both g.met.T.Theory.stays_known
-      c.args.assumptions.now c.args.theory.now c.loop-found.theory c.move_on.new.theory
+  g.met.T.Theory.puts_both c.args.theory.now c.loop-found.theory c.move_on.new.theory
       (written c.args.engine.now.kept c.args.budget.now (g.L.Tape.told c.args.tape.now))
       (written c.loop-found.engine.kept c.loop-found.budget (g.L.Tape.told c.loop-found.tape))
       (written c.move_on.new.engine.kept c.move_on.new.budget (g.L.Tape.told c.move_on.new.tape))
       c.loop-found.invariant.8 c.in_ok-found.ensures.puts,
+  c.in_ok-found.ensures.known,
 )

@@ -6,6 +6,7 @@ use Rattle.sb_trail.proofs.CallerLemmas.{up_to-all}
 use Rattle.sb_analyze.specs.Cores.{AreAssumed}
 use Rattle.sb_search.proofs.Following.{follows_alone}
 use Rattle.sb_search.specs.Writing.{written}
+use Rattle.sb_search.proofs.Known.{known_written}
 use Rattle.sb_search.proofs.Writes.{puts_written}
 use Rattle.sb_search.proofs.turn.examine.Goals as goal
 
@@ -14,6 +15,7 @@ assume-requires g c = record {
   searching = c.next.ensures.searching;
   settled = c.requires.settled;
   stands = c.requires.stands;
+  known = c.requires.known;
   next = c.in-Assume.ensures.next;
 }
 
@@ -22,6 +24,7 @@ choose-requires g c = record {
   searching = c.next.ensures.searching;
   settled = c.requires.settled;
   stands = c.requires.stands;
+  known = c.requires.known;
   next = c.in-Free.ensures.next;
 }
 
@@ -30,6 +33,7 @@ finish-requires g c = record {
   searching = c.next.ensures.searching;
   settled = c.requires.settled;
   stands = c.requires.stands;
+  known = c.requires.known;
   next = c.in-Full.ensures.next;
 }
 
@@ -51,7 +55,8 @@ returns-in-Assume g c = record {
   agrees = IfOk-weaker c.assume.result _ _ (λ turn never is. absurd (never is)) c.assume.ensures.not_sat;
   follows = c.assume.ensures.follows;
   stands = c.assume.ensures.stands;
-  puts = on_ok_weaker c.assume.result (λ h _. h) c.assume.ensures.puts;
+  known = c.assume.ensures.known;
+  puts = c.assume.ensures.puts;
   wanted = c.assume.ensures.wanted;
   passes = c.assume.ensures.passes;
   teaches = c.assume.ensures.teaches;
@@ -64,7 +69,8 @@ returns-in-Free g c = record {
   agrees = IfOk-weaker c.choose.result _ _ (λ turn never is. absurd (never is)) c.choose.ensures.not_sat;
   follows = c.choose.ensures.follows;
   stands = c.choose.ensures.stands;
-  puts = on_ok_weaker c.choose.result (λ h _. h) c.choose.ensures.puts;
+  known = c.choose.ensures.known;
+  puts = c.choose.ensures.puts;
   wanted = c.choose.ensures.wanted;
   passes = c.choose.ensures.passes;
   teaches = c.choose.ensures.teaches;
@@ -77,7 +83,8 @@ returns-in-Full g c = record {
   agrees = c.finish.ensures.agrees;
   follows = c.finish.ensures.follows;
   stands = c.finish.ensures.stands;
-  puts = on_ok_weaker c.finish.result (λ h _. h) c.finish.ensures.puts;
+  known = c.finish.ensures.known;
+  puts = c.finish.ensures.puts;
   wanted = c.finish.ensures.wanted;
   passes = c.finish.ensures.passes;
   teaches = c.finish.ensures.teaches;
@@ -94,14 +101,19 @@ returns-in-Refuted g c = record {
   stands = on_ok_weaker c.contradict.result
       (λ same. subst (λ (es : List Assigned). g.T.Theory.stands c.args.theory.now es) (sym same) c.requires.stands)
       c.contradict.ensures.literals;
+  known = on_ok_weaker c.contradict.result
+      (λ h. known_written (g.T.Theory.passes c.args.theory.now) c.args.assumptions.now
+      (written c.args.engine.now.kept c.args.budget.now (g.L.Tape.told c.args.tape.now))
+      (written c.contradict.new.engine.kept c.contradict.new.budget (g.L.Tape.told c.contradict.new.tape)) h
+      c.requires.known) c.contradict.ensures.writes;
   puts = on_ok_weaker c.contradict.result
-      (puts_written g.T.Theory.knows g.T.Theory.puts g.met.T.Theory.puts_none g.met.T.Theory.puts_learned
+      (puts_written g.T.Theory.passes g.T.Theory.puts g.met.T.Theory.puts_none g.met.T.Theory.puts_learned
       g.met.T.Theory.puts_gate c.args.theory.now c.args.assumptions.now
       (written c.args.engine.now.kept c.args.budget.now (g.L.Tape.told c.args.tape.now))
-      (written c.contradict.new.engine.kept c.contradict.new.budget (g.L.Tape.told c.contradict.new.tape)))
-      c.contradict.ensures.writes;
+      (written c.contradict.new.engine.kept c.contradict.new.budget (g.L.Tape.told c.contradict.new.tape))
+      c.requires.known) c.contradict.ensures.writes;
   wanted = refl;
-  passes = refl;
+  passes = λ atom h. h;
   teaches = λ clause h. h;
   counts = c.contradict.ensures.counts;
 }

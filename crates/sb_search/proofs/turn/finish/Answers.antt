@@ -9,6 +9,7 @@ use Rattle.sb_search.specs.Writing.{written}
 use Rattle.sb_search.specs.declared.found.Found.TheVariants as found
 use Rattle.sb_search.specs.declared.theory.Checked.{Checked}
 use Rattle.sb_search.specs.declared.theory.Checked.TheVariants as checked
+use Rattle.sb_search.proofs.Known.{known_lemma, known_on}
 use Rattle.sb_search.proofs.Following.{follows_same, follows_lemma}
 use Rattle.sb_search.proofs.Outcomes.{granted, ended, taken, spent_no_sat, moves_no_sat, faults_on, faults_stay}
 use Rattle.sb_search.proofs.Writes.{asked}
@@ -23,6 +24,7 @@ returns-in_err-ask g c = record {
   agrees = IfOk-from_err c.from_residual.result _ c.from_residual.ensures.0;
   follows = IfOk-from_err c.from_residual.result _ c.from_residual.ensures.0;
   stands = IfOk-from_err c.from_residual.result _ c.from_residual.ensures.0;
+  known = IfOk-from_err c.from_residual.result _ c.from_residual.ensures.0;
   puts = IfOk-from_err c.from_residual.result _ c.from_residual.ensures.0;
   wanted = c.ask.ensures.wanted;
   passes = c.ask.ensures.passes;
@@ -39,6 +41,9 @@ returns-in-Spent g c = record {
   agrees = λ is. absurd (spent_no_sat is);
   follows = follows_same (g.T.Theory.teaches c.ask.new.theory) c.args.engine.now.kept c.args.engine.now.kept refl;
   stands = c.in_ok-ask.ensures.stands;
+  known = known_on (g.T.Theory.passes c.args.theory.now) (g.T.Theory.passes c.ask.new.theory) c.args.engine.now.kept
+      c.args.engine.now.kept c.args.assumptions.now c.ask.ensures.passes
+      refl c.requires.known;
   puts = asked g.T.Theory.puts c.args.theory.now c.ask.new.theory
       (written c.args.engine.now.kept c.args.budget.now (g.L.Tape.told c.args.tape.now)) c.args.engine.now.kept c.args.engine.now.kept
       c.ask.new.budget (g.L.Tape.told c.ask.new.tape) c.in_ok-ask.field-0 checked.Spent c.in_ok-ask.ensures.puts c.in-Spent.is
@@ -55,9 +60,10 @@ returns-in_err-take_lemma-in-Lemma g c = record {
   agrees = IfOk-from_err c.from_residual-in_err-take_lemma-in-Lemma.result _ c.from_residual-in_err-take_lemma-in-Lemma.ensures.0;
   follows = IfOk-from_err c.from_residual-in_err-take_lemma-in-Lemma.result _ c.from_residual-in_err-take_lemma-in-Lemma.ensures.0;
   stands = IfOk-from_err c.from_residual-in_err-take_lemma-in-Lemma.result _ c.from_residual-in_err-take_lemma-in-Lemma.ensures.0;
+  known = IfOk-from_err c.from_residual-in_err-take_lemma-in-Lemma.result _ c.from_residual-in_err-take_lemma-in-Lemma.ensures.0;
   puts = IfOk-from_err c.from_residual-in_err-take_lemma-in-Lemma.result _ c.from_residual-in_err-take_lemma-in-Lemma.ensures.0;
   wanted = c.take_lemma.ensures.wanted ∙ c.ask.ensures.wanted;
-  passes = c.take_lemma.ensures.passes ∙ c.ask.ensures.passes;
+  passes = λ atom h. c.take_lemma.ensures.passes atom (c.ask.ensures.passes atom h);
   teaches = λ clause h. c.take_lemma.ensures.teaches clause (c.ask.ensures.teaches clause h);
   counts = faults_stay c.from_residual-in_err-take_lemma-in-Lemma.result (g.L.Tape.faults c.args.tape.now) (g.L.Tape.faults c.ask.new.tape)
       c.from_residual-in_err-take_lemma-in-Lemma.ensures.1 c.in_ok-ask.ensures.counts;
@@ -79,9 +85,16 @@ returns-in_ok-take_lemma-in-Lemma g c = record {
   follows = follows_lemma (g.T.Theory.teaches c.take_lemma.new.theory) c.args.engine.now.kept
       c.take_lemma.new.engine.kept c.in-Lemma.clause c.in_ok-take_lemma-in-Lemma.ensures.kept
       (c.take_lemma.ensures.teaches c.in-Lemma.clause
-      (subst (λ (a : Checked). IsFair (g.T.Theory.passes c.args.theory.now) (g.T.Theory.teaches c.ask.new.theory)
-      c.args.engine.now.trail.literals a) c.in-Lemma.is c.in_ok-ask.ensures.fair).2);
+      (subst (λ (a : Checked). IsFair (g.T.Theory.passes c.ask.new.theory) (g.T.Theory.teaches c.ask.new.theory)
+      c.args.engine.now.trail.literals a) c.in-Lemma.is c.in_ok-ask.ensures.fair).1);
   stands = c.in_ok-take_lemma-in-Lemma.ensures.stands c.in_ok-ask.ensures.stands;
+  known = known_lemma (g.T.Theory.passes c.args.theory.now) (g.T.Theory.passes c.take_lemma.new.theory)
+      c.args.engine.now.kept c.take_lemma.new.engine.kept c.in-Lemma.clause c.args.assumptions.now
+      (λ atom h. c.take_lemma.ensures.passes atom (c.ask.ensures.passes atom h))
+      c.in_ok-take_lemma-in-Lemma.ensures.kept
+      (λ l among. c.take_lemma.ensures.passes l.atom
+      ((subst (λ (a : Checked). IsFair (g.T.Theory.passes c.ask.new.theory) (g.T.Theory.teaches c.ask.new.theory)
+      c.args.engine.now.trail.literals a) c.in-Lemma.is c.in_ok-ask.ensures.fair).0 l among)) c.requires.known;
   puts = g.met.T.Theory.puts_both c.args.theory.now c.ask.new.theory c.take_lemma.new.theory
       (written c.args.engine.now.kept c.args.budget.now (g.L.Tape.told c.args.tape.now))
       (written c.take_lemma.new.engine.kept c.ask.new.budget (g.L.Tape.told c.ask.new.tape))
@@ -93,7 +106,7 @@ returns-in_ok-take_lemma-in-Lemma g c = record {
       (c.take_lemma.ensures.puts
       (written c.take_lemma.new.engine.kept c.ask.new.budget (g.L.Tape.told c.ask.new.tape)));
   wanted = c.take_lemma.ensures.wanted ∙ c.ask.ensures.wanted;
-  passes = c.take_lemma.ensures.passes ∙ c.ask.ensures.passes;
+  passes = λ atom h. c.take_lemma.ensures.passes atom (c.ask.ensures.passes atom h);
   teaches = λ clause h. c.take_lemma.ensures.teaches clause (c.ask.ensures.teaches clause h);
   counts = c.in_ok-ask.ensures.counts;
 }
@@ -101,7 +114,7 @@ returns-in_ok-take_lemma-in-Lemma g c = record {
 pub grant-requires : goal.grant-requires
 grant-requires g c = record {
   unassigned =
-      (subst (λ (a : Checked). IsFair (g.T.Theory.passes c.args.theory.now) (g.T.Theory.teaches c.ask.new.theory)
+      (subst (λ (a : Checked). IsFair (g.T.Theory.passes c.ask.new.theory) (g.T.Theory.teaches c.ask.new.theory)
       c.args.engine.now.trail.literals a) c.in-Ask.is c.in_ok-ask.ensures.fair).0;
   settled = c.requires.settled;
 }
@@ -112,6 +125,7 @@ returns-in_err-grant-in-Ask g c = record {
   agrees = IfOk-from_err c.from_residual-in_err-grant-in-Ask.result _ c.from_residual-in_err-grant-in-Ask.ensures.0;
   follows = IfOk-from_err c.from_residual-in_err-grant-in-Ask.result _ c.from_residual-in_err-grant-in-Ask.ensures.0;
   stands = IfOk-from_err c.from_residual-in_err-grant-in-Ask.result _ c.from_residual-in_err-grant-in-Ask.ensures.0;
+  known = IfOk-from_err c.from_residual-in_err-grant-in-Ask.result _ c.from_residual-in_err-grant-in-Ask.ensures.0;
   puts = IfOk-from_err c.from_residual-in_err-grant-in-Ask.result _ c.from_residual-in_err-grant-in-Ask.ensures.0;
   wanted = c.ask.ensures.wanted;
   passes = c.ask.ensures.passes;
@@ -137,6 +151,9 @@ returns-in_ok-grant-in-Ask g c = record {
       c.in_ok-grant-in-Ask.ensures.kept;
   stands = subst (λ (es : List Assigned). g.T.Theory.stands c.ask.new.theory es) (sym c.in_ok-grant-in-Ask.ensures.literals)
       (g.met.T.Theory.stands_longer c.ask.new.theory c.args.engine.now.trail.literals _ c.in_ok-ask.ensures.stands);
+  known = known_on (g.T.Theory.passes c.args.theory.now) (g.T.Theory.passes c.ask.new.theory) c.args.engine.now.kept
+      c.grant.new.engine.kept c.args.assumptions.now c.ask.ensures.passes
+      c.in_ok-grant-in-Ask.ensures.kept c.requires.known;
   puts = asked g.T.Theory.puts c.args.theory.now c.ask.new.theory
       (written c.args.engine.now.kept c.args.budget.now (g.L.Tape.told c.args.tape.now)) c.args.engine.now.kept c.grant.new.engine.kept
       c.ask.new.budget (g.L.Tape.told c.ask.new.tape) c.in_ok-ask.field-0 (checked.Ask c.in-Ask.literal) c.in_ok-ask.ensures.puts c.in-Ask.is
@@ -159,6 +176,9 @@ returns-in-Fine g c = record {
   agrees = λ _. c.in_ok-ask.ensures.agrees refl c.in-Fine.is;
   follows = follows_same (g.T.Theory.teaches c.ask.new.theory) c.args.engine.now.kept c.args.engine.now.kept refl;
   stands = c.in_ok-ask.ensures.stands;
+  known = known_on (g.T.Theory.passes c.args.theory.now) (g.T.Theory.passes c.ask.new.theory) c.args.engine.now.kept
+      c.args.engine.now.kept c.args.assumptions.now c.ask.ensures.passes
+      refl c.requires.known;
   puts = asked g.T.Theory.puts c.args.theory.now c.ask.new.theory
       (written c.args.engine.now.kept c.args.budget.now (g.L.Tape.told c.args.tape.now)) c.args.engine.now.kept c.args.engine.now.kept
       c.ask.new.budget (g.L.Tape.told c.ask.new.tape) c.in_ok-ask.field-0 checked.Fine c.in_ok-ask.ensures.puts c.in-Fine.is

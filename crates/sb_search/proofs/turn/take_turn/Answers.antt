@@ -1,9 +1,10 @@
-use Rattle.std.proofs.Common.{subst, OnOk}
+use Rattle.std.proofs.Common.{subst, sym, OnOk}
 use Rattle.std.proofs.lemmas.Result.{on_ok_weaker, IfOk-weaker}
 use Rattle.sb_lit.specs.Kept.{Kept}
 use Rattle.sb_search.specs.Following.{FollowsByLevel}
 use Rattle.sb_search.proofs.Following.{follows_alone}
-use Rattle.sb_search.specs.Writing.{written, AreKnown}
+use Rattle.sb_search.specs.Asking.{HasKnownAtoms}
+use Rattle.sb_search.specs.Writing.{written}
 use Rattle.sb_search.proofs.Outcomes.{turned_after}
 use Rattle.sb_search.proofs.turn.take_turn.Goals as goal
 
@@ -17,8 +18,8 @@ returns-in-Some g c = record {
       (follows_alone (g.T.Theory.teaches c.resolve.new.theory) c.args.engine.now.kept c.settle.new.engine.kept
       c.resolve.new.engine.kept c.settle.ensures.kept) c.resolve.ensures.follows;
   stands = c.resolve.ensures.stands;
-  puts = subst (λ (k : Kept). OnOk c.resolve.result (AreKnown (g.T.Theory.knows c.args.theory.now) c.args.assumptions.now
-      → g.T.Theory.puts c.args.theory.now c.resolve.new.theory
+  known = c.resolve.ensures.known;
+  puts = subst (λ (k : Kept). OnOk c.resolve.result (g.T.Theory.puts c.args.theory.now c.resolve.new.theory
       (written k c.args.budget.now (g.L.Tape.told c.args.tape.now))
       (written c.resolve.new.engine.kept c.resolve.new.budget (g.L.Tape.told c.resolve.new.tape)))) c.settle.ensures.kept
       c.resolve.ensures.puts;
@@ -38,8 +39,8 @@ returns-in-None g c = record {
       (subst (λ (k : Kept). FollowsByLevel (g.T.Theory.teaches c.examine.new.theory) k c.examine.new.engine.kept)
       c.settle.ensures.kept) c.examine.ensures.follows;
   stands = c.examine.ensures.stands;
-  puts = subst (λ (k : Kept). OnOk c.examine.result (AreKnown (g.T.Theory.knows c.args.theory.now) c.args.assumptions.now
-      → g.T.Theory.puts c.args.theory.now c.examine.new.theory
+  known = c.examine.ensures.known;
+  puts = subst (λ (k : Kept). OnOk c.examine.result (g.T.Theory.puts c.args.theory.now c.examine.new.theory
       (written k c.args.budget.now (g.L.Tape.told c.args.tape.now))
       (written c.examine.new.engine.kept c.examine.new.budget (g.L.Tape.told c.examine.new.tape)))) c.settle.ensures.kept
       c.examine.ensures.puts;
@@ -55,6 +56,8 @@ resolve-requires g c = record {
       c.requires.searching;
   conflict = c.in-Some.ensures.answer;
   stands = c.settle.ensures.stands c.requires.stands;
+  known = subst (λ (k : Kept). HasKnownAtoms (g.T.Theory.passes c.args.theory.now) k c.args.assumptions.now)
+      (sym c.settle.ensures.kept) c.requires.known;
 }
 
 pub examine-requires : goal.examine-requires
@@ -63,4 +66,6 @@ examine-requires g c = record {
       c.requires.searching;
   settled = c.in-None.ensures.answer;
   stands = c.settle.ensures.stands c.requires.stands;
+  known = subst (λ (k : Kept). HasKnownAtoms (g.T.Theory.passes c.args.theory.now) k c.args.assumptions.now)
+      (sym c.settle.ensures.kept) c.requires.known;
 }

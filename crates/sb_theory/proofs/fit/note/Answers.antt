@@ -1,15 +1,17 @@
 use Rattle.std.proofs.Common.{ℕ, [], ◌∷◌, ◌++◌, List, length, ap, ◌∙◌, arith}
 use Rattle.std.proofs.lemmas.Result.{IfOk-from_err, on_ok_weaker}
 use Rattle.sb_regex.proofs.CallerLemmas.{extends_same}
+use Rattle.sb_theory.specs.Wanted.{wanted_of}
 use Rattle.sb_theory.specs.Fronts.{number_at}
 use Rattle.sb_theory.proofs.Standing.{names_subject, fitting_grown}
-use Rattle.sb_theory.proofs.Fitting.{fitting_other, fitting_behind, fitting_noted}
+use Rattle.sb_theory.proofs.Fitting.{fitting_passed, fitting_asked, fitting_behind, fitting_noted}
 use Rattle.sb_theory.proofs.fit.note.Goals as goal
 
 pub returns-in_default : goal.returns-in_default
 returns-in_default c = record {
-  fit = λ ls members h. fitting_other c.args.arena.now c.args.atoms.now c.args.words.now ls c.args.fitting.now.items
-      c.args.changed.now c.args.literal c.in_default.ensures.none h;
+  fit = λ ls members h. fitting_passed c.args.arena.now c.args.atoms.now c.args.words.now ls
+      (wanted_of c.args.wanted.now (c.args.literal ∷ [])) c.args.fitting.now.items c.args.changed.now
+      c.in_default.ensures.none h;
   extends = extends_same c.args.arena.now;
   right = c.requires.right;
 }
@@ -18,8 +20,9 @@ pub returns-then-number_of-long : goal.returns-then-number_of-long
 returns-then-number_of-long c =
     let x = c.in-Some.member.serial.0 in
     record {
-      fit = λ ls members h. fitting_behind c.args.arena.now c.args.atoms.now c.args.words.now ls
-          c.args.fitting.now.items
+      fit = λ ls members h. fitting_asked c.args.arena.now c.args.atoms.now c.args.wanted.now c.args.words.now ls
+          c.args.fitting.now.items c.args.changed.now c.args.literal c.in-Some.ensures.wanted
+          (fitting_behind c.args.arena.now c.args.atoms.now c.args.words.now ls c.args.fitting.now.items
           c.args.changed.now c.args.literal x
           (names_subject c.args.atoms.now c.args.literal x
           (record { regex = c.in-Some.member.regex; names = c.in-Some.ensures.some }))
@@ -28,7 +31,7 @@ returns-then-number_of-long c =
             c.if-number_of-long.true,
             c.number_of.ensures ∙ ap (λ (ns : List ℕ). number_at ns x) c.deref.ensures.value,
             ap length (c.row_of-long.ensures ∙ members x),
-          )) h;
+          )) h);
       extends = extends_same c.args.arena.now;
       right = c.requires.right;
     }
@@ -51,7 +54,9 @@ returns c =
     let found = c.in_ok-matches.ensures in
     record {
       fit = on_ok_weaker c.note_next.result
-          (λ noted ls members h. fitting_grown c.args.arena.now c.fits.new.arena c.args.atoms.now c.args.words.now
+          (λ noted ls members h. fitting_asked c.fits.new.arena c.args.atoms.now c.args.wanted.now c.args.words.now ls
+          c.note_next.new.fitting.items c.note_next.new.changed c.args.literal c.in-Some.ensures.wanted
+          (fitting_grown c.args.arena.now c.fits.new.arena c.args.atoms.now c.args.words.now
           (ls ++ c.args.literal ∷ []) c.note_next.new.fitting.items c.note_next.new.changed found.extends
           c.requires.regexes
           (fitting_noted c.args.arena.now c.args.atoms.now c.args.words.now ls c.args.fitting.now.items
@@ -64,7 +69,7 @@ returns c =
             arith,
             c.if-number_of-long.false,
             c.number_of.ensures ∙ ap (λ (ns : List ℕ). number_at ns x) c.deref.ensures.value,
-          )) found.fits noted h)) c.note_next.ensures;
+          )) found.fits noted h))) c.note_next.ensures;
       extends = found.extends;
       right = found.right;
     }

@@ -1,9 +1,9 @@
 use Rattle.std.proofs.Common.{List, sym, ap, subst, ◌∙◌}
 use Rattle.sb_lit.specs.declared.clause.Lit.{Lit}
-use Rattle.sb_trail.specs.Assignments.{held}
 use Rattle.sb_theory.specs.Memberships.{AreMembers}
+use Rattle.sb_theory.specs.Wanted.{wanted_on}
 use Rattle.sb_theory.specs.Places.{is_above}
-use Rattle.sb_theory.proofs.Standing.{held_push}
+use Rattle.sb_theory.proofs.Standing.{wanted_push}
 use Rattle.sb_theory.proofs.Placed.{cut_step, cut_end}
 use Rattle.sb_theory.proofs.member.cut.Goals as goal
 
@@ -12,9 +12,9 @@ loop-taken-preserved-in-Some c = (
   cut_step c.args.level c.args.taken.now.items c.loop-taken.taken.items c.pop.new.self.items c.in-Some.entry
       (ap (is_above c.args.level) (sym c.deref.ensures.value) ∙ sym c.is_above.ensures ∙ c.loop-taken-test.true)
       c.in-Some.ensures.items c.loop-taken.invariant.0,
-  λ h. c.forget.ensures (held c.pop.new.self.items)
+  λ h. c.forget.ensures (wanted_on c.args.wanted.now c.pop.new.self.items)
       (subst (λ (ls : List Lit). AreMembers c.args.atoms.now c.loop-taken.rows.items ls)
-      (held_push c.pop.new.self.items c.loop-taken.taken.items c.in-Some.entry c.literal.result
+      (wanted_push c.args.wanted.now c.pop.new.self.items c.loop-taken.taken.items c.in-Some.entry c.literal.result
       c.in-Some.ensures.items c.literal.ensures) (c.loop-taken.invariant.1 h)),
 )
 

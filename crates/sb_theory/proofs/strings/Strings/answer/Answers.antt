@@ -12,7 +12,8 @@ returns-clause-stands g c =
     stands_on c.args.self.now _ c.args.trail.now.literals
     (holds_grown c.args.self.now _ c.in_ok-done.ensures.extends c.in_ok-done.ensures.graph
     (c.right_stays.ensures c.args.self.now.arena c.put_denial.new.arena c.args.self.now.plain
-    c.in_ok-done.ensures.extends c.requires.stands.holds.plain) refl refl refl refl refl refl c.requires.stands.holds)
+    c.in_ok-done.ensures.extends c.requires.stands.holds.plain) refl refl refl refl refl refl refl
+    c.requires.stands.holds)
     refl c.requires.stands
 
 pub returns-clause-end : goal.returns-clause-end
@@ -21,8 +22,9 @@ returns-clause-end g c = (
       (g.L.Tape.told c.args.tape.now) (g.L.Tape.told c.put_denial.new.tape) _ c.answered-2.result c.answered-2.ensures
       (answers_denied c.empty_holds.ensures c.empty_is_exact.ensures c.args.self.now _ c.args.trail.now.literals
       c.args.serial.0 c.args.clause c.in_ok-done.done c.args.budget.now c.put_denial.new.budget
-      (g.L.Tape.told c.args.tape.now) (g.L.Tape.told c.put_denial.new.tape) refl refl c.in_ok-done.ensures.extends
-      c.in_ok-done.ensures.derivatives_stay c.requires.stands.holds.regexes c.requires.denied c.in_ok-done.ensures.ticks c.in_ok-done.ensures.spent
+      (g.L.Tape.told c.args.tape.now) (g.L.Tape.told c.put_denial.new.tape) refl refl refl c.in_ok-done.ensures.extends
+      c.in_ok-done.ensures.derivatives_stay c.requires.stands.holds.regexes c.requires.denied
+      c.in_ok-done.ensures.ticks c.in_ok-done.ensures.spent
       (λ off. never_on c.args.self.now.proves off c.if-not-self.false) (λ on. c.in_ok-done.ensures.puts)),
   never_fine c.args.clause c.in_ok-done.done c.answered-2.result c.answered-2.ensures,
 )
@@ -33,7 +35,7 @@ returns-then-not-self-clause-end g c = (
       (g.L.Tape.told c.args.tape.now) (g.L.Tape.told c.args.tape.now) _ c.answered.result c.answered.ensures
       (answers_denied c.empty_holds.ensures c.empty_is_exact.ensures c.args.self.now c.args.self.now
       c.args.trail.now.literals c.args.serial.0 c.args.clause c.is_ok-done.result c.args.budget.now c.tick.new.self
-      (g.L.Tape.told c.args.tape.now) (g.L.Tape.told c.args.tape.now) refl refl (extends_same c.args.self.now.arena)
+      (g.L.Tape.told c.args.tape.now) (g.L.Tape.told c.args.tape.now) refl refl refl (extends_same c.args.self.now.arena)
       (λ n pieces h. h) c.requires.stands.holds.regexes c.requires.denied
       (λ is. ticked c.tick.result c.args.budget.now c.tick.new.self (sym c.is_ok-done.ensures.value ∙ is)
       c.tick.ensures.ok)

@@ -3,12 +3,12 @@ use Rattle.std.proofs.lemmas.Bool.{true≢false}
 use Rattle.std.proofs.lemmas.Result.{IfOk-from_err}
 use Rattle.sb_lit.specs.declared.clause.Lit.{Lit}
 use Rattle.sb_lang.specs.Language.{language}
-use Rattle.sb_trail.specs.Assignments.{held}
 use Rattle.sb_graph.specs.declared.graph.Explored.{Explored}
 use Rattle.sb_graph.specs.Witness.{IsFinding}
 use Rattle.sb_atoms.proofs.CallerLemmas.{regexes_kept}
 use Rattle.sb_clash.specs.Literals.{AreClashing, asked_by_all}
 use Rattle.sb_theory.specs.Memberships.{row_at}
+use Rattle.sb_theory.specs.Wanted.{wanted_on}
 use Rattle.sb_theory.proofs.Standing.{holds_grown, fitting_grown}
 use Rattle.sb_theory.proofs.Fitting.{fitting_put, rises_set, set_here}
 use Rattle.sb_theory.proofs.Denied.{front_about, front_is}
@@ -20,9 +20,9 @@ least_word-requires c =
     let x = c.args.self.now in
     let h = c.requires.holds in
     record {
-      about = front_about x.atoms c.args.serial.0 c.args.long (held x.taken.items) c.front_of.result.now
-          (front_is x.atoms c.args.serial.0 c.args.long x.members.items c.deref.result.now (held x.taken.items)
-          c.front_of.result.now h.members c.deref.ensures.value c.front_of.ensures);
+      about = front_about x.atoms c.args.serial.0 c.args.long (wanted_on x.wanted x.taken.items) c.front_of.result.now
+          (front_is x.atoms c.args.serial.0 c.args.long x.members.items c.deref.result.now
+          (wanted_on x.wanted x.taken.items) c.front_of.result.now h.members c.deref.ensures.value c.front_of.ensures);
       regexes = h.regexes;
       graph = h.graph;
     }
@@ -76,7 +76,7 @@ returns-in_ok-put_number-in-Alive c =
     let n = c.args.serial.0 in
     let e = c.in_ok-explored.ensures in
     let rs = c.least_word.new.arena in
-    let front = front_is x.atoms n c.args.long x.members.items c.deref.result.now (held x.taken.items)
+    let front = front_is x.atoms n c.args.long x.members.items c.deref.result.now (wanted_on x.wanted x.taken.items)
     c.front_of.result.now h.members c.deref.ensures.value c.front_of.ensures in
     let found = (subst (λ (w : Explored). IsFinding (language (asked_by_all rs x.atoms c.front_of.result.now)) w)
     c.in-Alive.is e.found).member in
@@ -87,12 +87,12 @@ returns-in_ok-put_number-in-Alive c =
         regexes = regexes_kept x.arena rs x.atoms e.extends h.regexes;
         members = h.members;
         fit = fitting_put c.mkand_keeps_language.ensures c.mknot_keeps_language.ensures rs x.atoms x.words.items
-            c.put_word.new.words.items (held x.taken.items) c.front_of.result.now x.fitting.items
+            c.put_word.new.words.items (wanted_on x.wanted x.taken.items) c.front_of.result.now x.fitting.items
             c.put_number.new.numbers.items x.changed n c.args.long c.in-Alive.word c.in_ok-put_word-in-Alive.ensures
             c.in_ok-put_number-in-Alive.ensures c.requires.more
             (omega (arith, c.requires.within, ap length (h.members n))) front found
-            (fitting_grown x.arena rs x.atoms x.words.items (held x.taken.items) x.fitting.items x.changed e.extends
-            h.regexes h.fit);
+            (fitting_grown x.arena rs x.atoms x.words.items (wanted_on x.wanted x.taken.items) x.fitting.items x.changed
+            e.extends h.regexes h.fit);
       };
       fits = λ alive. set_here x.fitting.items c.put_number.new.numbers.items n c.args.long
           c.in_ok-put_number-in-Alive.ensures;
@@ -110,7 +110,7 @@ returns-in-Dead c =
     let rs = c.least_word.new.arena in
     record {
       holds = holds_grown x _ e.extends e.graph (c.right_stays.ensures x.arena rs x.plain e.extends h.plain) refl refl
-          refl refl refl refl h;
+          refl refl refl refl refl h;
       fits = λ alive. absurd (true≢false (sym alive));
       clash = λ dead. subst (λ (ls : List Lit). AreClashing rs x.atoms ls)
           (c.front_of.ensures

@@ -2,9 +2,9 @@ use Rattle.std.proofs.Common.{◌-◌, List, length, get_or, refl, sym, ap, ◌�
 use Rattle.std.proofs.lemmas.Bool.{false≢true, not-true, not-false}
 use Rattle.std.proofs.lemmas.Result.{IfOk-from_err}
 use Rattle.sb_lit.specs.declared.clause.Lit.{Lit}
-use Rattle.sb_trail.specs.Assignments.{held}
 use Rattle.sb_atoms.proofs.CallerLemmas.{regexes_kept}
 use Rattle.sb_theory.specs.Memberships.{row_at, is_true_by}
+use Rattle.sb_theory.specs.Wanted.{wanted_on}
 use Rattle.sb_theory.proofs.Standing.{holds_grown, fitting_grown}
 use Rattle.sb_theory.proofs.Fitting.{fitting_next, set_here}
 use Rattle.sb_theory.proofs.Answering.{keeps_on, looks_on, looks_both}
@@ -62,10 +62,9 @@ returns-then-matches c =
         plain = e.right;
         regexes = regexes_kept x.arena rs x.atoms e.extends h.regexes;
         members = h.members;
-        fit = fitting_grown x.arena rs x.atoms x.words.items (held x.taken.items) c.put_number.new.numbers.items
-            x.changed
-            e.extends h.regexes
-            (fitting_next x.arena x.atoms x.words.items (held x.taken.items) x.fitting.items
+        fit = fitting_grown x.arena rs x.atoms x.words.items (wanted_on x.wanted x.taken.items)
+            c.put_number.new.numbers.items x.changed e.extends h.regexes
+            (fitting_next x.arena x.atoms x.words.items (wanted_on x.wanted x.taken.items) x.fitting.items
             c.put_number.new.numbers.items x.changed n c.args.long c.literal_at-literal.result
             c.in_ok-put_number.ensures
             c.requires.next (omega (arith, c.requires.within, ap length (h.members n)))
@@ -87,7 +86,7 @@ ask-requires c =
     record {
       holds = holds_grown x _ e.extends (c.graph_stays.ensures x.arena c.fits.new.arena x.graph e.extends h.graph)
           e.right
-          refl refl refl refl refl refl h;
+          refl refl refl refl refl refl refl h;
       more = omega (arith, c.requires.next);
       within = c.requires.within;
     }

@@ -1,9 +1,10 @@
 use Rattle.std.proofs.Common.{◌≡◌, List, take, refl, ap, subst, sym, ◌∙◌}
 use Rattle.std.proofs.lemmas.Result.{IfOk-from_err, IfOk-weaker}
 use Rattle.sb_lit.specs.declared.clause.Lit.{Lit}
-use Rattle.sb_trail.specs.Assignments.{held, current_level}
+use Rattle.sb_trail.specs.Assignments.{current_level}
 use Rattle.sb_clash.specs.Literals.{AreClashing, AreFewer}
 use Rattle.sb_theory.specs.Memberships.{row_at}
+use Rattle.sb_theory.specs.Wanted.{wanted_on}
 use Rattle.sb_theory.specs.Strings.{Holds}
 use Rattle.sb_theory.proofs.Standing.{holds_grown}
 use Rattle.sb_theory.proofs.Denied.{front_about, front_is, fewer_same, fewer_front}
@@ -48,8 +49,8 @@ core-requires c =
     let n = c.args.serial.0 in
     let h = c.in_ok-long.ensures.holds in
     record {
-      about = front_about y.atoms n c.in_ok-long.long (held y.taken.items) c.front_of.result.now
-          (front_is y.atoms n c.in_ok-long.long y.members.items c.deref-2.result.now (held y.taken.items)
+      about = front_about y.atoms n c.in_ok-long.long (wanted_on y.wanted y.taken.items) c.front_of.result.now
+          (front_is y.atoms n c.in_ok-long.long y.members.items c.deref-2.result.now (wanted_on y.wanted y.taken.items)
           c.front_of.result.now h.members c.deref-2.ensures.value c.front_of.ensures);
       regexes = h.regexes;
       graph = h.graph;
@@ -72,7 +73,8 @@ returns c =
     record {
       holds = IfOk-weaker c.core.result _ (λ found. Holds _)
           (λ found fewer. holds_grown y _ few.extends few.graph
-          (c.right_stays.ensures y.arena rs y.plain few.extends h.plain) refl refl refl refl refl refl h) few.fewer;
+          (c.right_stays.ensures y.arena rs y.plain few.extends h.plain) refl refl refl refl refl refl refl h)
+          few.fewer;
       whole = IfOk-weaker c.core.result _ (λ found. current_level c.args.trail.now.literals ≡ 0
           → found.items ≡ row_at y.members.items n)
           (λ found fewer none. absurd (c.if-current_level-eq0.false (c.current_level.ensures ∙ none))) few.fewer;

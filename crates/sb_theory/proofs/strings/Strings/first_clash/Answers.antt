@@ -2,7 +2,7 @@ use Rattle.std.proofs.Common.{List, length, ap, ◌∙◌, arith}
 use Rattle.std.proofs.lemmas.List.{take_all}
 use Rattle.std.proofs.lemmas.Result.{IfOk-from_err}
 use Rattle.sb_term.specs.declared.term.Serial.{Serial}
-use Rattle.sb_trail.specs.Assignments.{held}
+use Rattle.sb_theory.specs.Wanted.{wanted_on}
 use Rattle.sb_theory.specs.Fronts.{is_in}
 use Rattle.sb_theory.proofs.Settling.{whole_none, whole_more, fitting_settled}
 use Rattle.sb_theory.proofs.Answering.{keeps_on, keeps_both, looks_none, looks_both}
@@ -83,9 +83,8 @@ returns c =
         plain = h.plain;
         regexes = h.regexes;
         members = h.members;
-        fit = fitting_settled x.arena x.atoms x.words.items x.members.items (held x.taken.items) x.fitting.items
-            x.changed
-            c.clear.new.self h.members
+        fit = fitting_settled x.arena x.atoms x.words.items x.members.items
+            (wanted_on x.wanted x.taken.items) x.fitting.items x.changed c.clear.new.self h.members
             (λ n there. before.whole n
             (ap (λ (cs : List Serial). is_in cs n)
             (take_all c.loop-place.place x.changed (omega (arith, c.loop-place-test.false, c.len.ensures))) ∙ there))

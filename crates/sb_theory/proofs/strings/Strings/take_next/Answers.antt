@@ -2,9 +2,9 @@ use Rattle.std.proofs.Common.{[], ◌∷◌, List, Option, ℕ, length, refl, sy
 use Rattle.std.proofs.lemmas.List.{length-append}
 use Rattle.std.proofs.lemmas.Result.{IfOk-from_err}
 use Rattle.sb_lit.specs.declared.clause.Lit.{Lit}
-use Rattle.sb_trail.specs.Assignments.{held}
 use Rattle.sb_atoms.proofs.CallerLemmas.{regexes_kept}
 use Rattle.sb_theory.specs.Memberships.{AreMembers}
+use Rattle.sb_theory.specs.Wanted.{wanted_on}
 use Rattle.sb_theory.specs.Fronts.{AreFitting}
 use Rattle.sb_theory.proofs.Standing.{stands_pushed, next_of, fitting_taken}
 use Rattle.sb_theory.proofs.Answering.{keeps_on}
@@ -52,15 +52,15 @@ returns c =
             plain = noted.right;
             regexes = regexes_kept x.arena c.note.new.arena x.atoms noted.extends h.regexes;
             members = kept.members h.members;
-            fit = fitting_taken c.note.new.arena x.atoms x.words.items c.deref.result.now x.taken.items
+            fit = fitting_taken c.note.new.arena x.atoms x.wanted x.words.items c.deref.result.now x.taken.items
                 c.keep.new.taken.items e c.literal.result c.note.new.fitting.items c.note.new.changed
                 c.deref.ensures.value
                 kept.taken c.literal.ensures
-                (noted.fit (held x.taken.items)
-                (subst (λ (rows : List (List Lit)). AreMembers x.atoms rows (held x.taken.items))
+                (noted.fit (wanted_on x.wanted x.taken.items)
+                (subst (λ (rows : List (List Lit)). AreMembers x.atoms rows (wanted_on x.wanted x.taken.items))
                 (sym c.deref-2.ensures.value) h.members)
                 (subst (λ (ws : List (Option (List ℕ))).
-                AreFitting x.arena x.atoms ws (held x.taken.items) x.fitting.items x.changed)
+                AreFitting x.arena x.atoms ws (wanted_on x.wanted x.taken.items) x.fitting.items x.changed)
                 (sym c.deref.ensures.value)
                 h.fit));
           });

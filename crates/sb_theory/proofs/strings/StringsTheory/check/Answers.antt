@@ -1,18 +1,18 @@
-use Rattle.std.proofs.Common.{ℕ, List, ap}
+use Rattle.std.proofs.Common.{ℕ, List, ap, ◌∙◌}
 use Rattle.std.proofs.lemmas.Result.{IfOk-weaker}
 use Rattle.sb_rulebook.specs.Atoms.{AtomOver}
 use Rattle.sb_theory.specs.Memberships.{is_atom}
-use Rattle.sb_theory.proofs.Answering.{valid_grows, answer_spent, answer_falls, counts_faults}
+use Rattle.sb_theory.proofs.Answering.{taught_grows, answer_spent, answer_falls, counts_faults}
 use Rattle.sb_theory.proofs.strings.StringsTheory.check.Goals as goal
 
 pub returns-clause-wanted : goal.returns-clause-wanted
-returns-clause-wanted g c = ap (λ v. v.items) c.look.ensures.grows.wanted
+returns-clause-wanted g c = c.look.ensures.grows.wanted
 
 pub returns-clause-passes : goal.returns-clause-passes
-returns-clause-passes g c = ap (λ (ts : List (AtomOver ℕ)). λ (atom : ℕ). is_atom ts atom) c.look.ensures.grows.atoms
+returns-clause-passes g c = λ atom h. ap (λ (ts : List (AtomOver ℕ)). is_atom ts atom) c.look.ensures.grows.atoms ∙ h
 
 pub returns-clause-teaches : goal.returns-clause-teaches
-returns-clause-teaches g c = valid_grows c.args.self.now c.look.new.self c.look.ensures.grows
+returns-clause-teaches g c = taught_grows c.args.self.now c.look.new.self c.look.ensures.grows
 
 pub returns-clause-limit : goal.returns-clause-limit
 returns-clause-limit g c = c.look.ensures.steps.limit

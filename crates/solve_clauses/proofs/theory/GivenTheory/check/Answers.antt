@@ -1,32 +1,21 @@
-use Rattle.std.proofs.Common.{◌≡◌, ℕ, true, length, List, [], ◌∷◌, Option, refl, subst, sym, arith}
-use Rattle.std.specs.List.{list_all}
-use Rattle.std.specs.Option.{IfSome}
+use Rattle.std.proofs.Common.{◌≡◌, ℕ, length, List, refl, arith}
 use Rattle.std.proofs.lemmas.Result.{IfOk-weaker}
 use Rattle.sb_lit.specs.declared.clause.Lit.{Lit}
 use Rattle.sb_lit.specs.Budgets.{Spending}
-use Rattle.sb_lit.specs.Clauses.{is_false_clause}
 use Rattle.sb_lit.specs.Kept.{Kept}
 use Rattle.sb_trail.specs.declared.assigned.Assigned.{Assigned}
-use Rattle.sb_trail.specs.Assignments.{held}
 use Rattle.sb_search.specs.Asking.{IsFair, Falls}
 use Rattle.sb_search.specs.declared.theory.Checked.{Checked}
 use Rattle.sb_search.specs.declared.theory.Checked.TheVariants as checked
 use Rattle.solve_clauses.specs.Giving.{Gives}
 use Rattle.solve_clauses.proofs.theory.GivenTheory.check.Goals as goal
 
--- each literal passes
-all_pass : (ls : List Lit) → list_all (λ l. true) ls ≡ true
-all_pass [] = refl
-all_pass (l ∷ ls) = all_pass ls
-
 given_fair : (entries : List Assigned) (lemma : List Lit) (old new : Spending) (answer : Checked)
-    → is_false_clause (held entries) lemma ≡ true → Gives lemma old new answer
-    → IsFair (λ atom. true) (λ clause. Unit {0}) entries answer
-given_fair entries lemma old new checked.Fine is_false given = absurd given
-given_fair entries lemma old new (checked.Lemma clause) is_false given =
-    (subst (λ (ls : List Lit). is_false_clause (held entries) ls ≡ true) (sym given.0) is_false, all_pass clause, tt)
-given_fair entries lemma old new (checked.Ask l) is_false given = absurd given
-given_fair entries lemma old new checked.Spent is_false given = tt
+    → Gives lemma old new answer → IsFair (λ atom. Unit {0}) (λ clause. Unit {0}) entries answer
+given_fair entries lemma old new checked.Fine given = absurd given
+given_fair entries lemma old new (checked.Lemma clause) given = (λ l among. tt, tt)
+given_fair entries lemma old new (checked.Ask l) given = absurd given
+given_fair entries lemma old new checked.Spent given = tt
 
 given_spent : (lemma : List Lit) (old new : Spending) (answer : Checked) → Gives lemma old new answer
     → answer ≡ checked.Spent → new.spent ≡ new.limit
@@ -48,16 +37,14 @@ pub returns-in-Some : goal.returns-in-Some
 returns-in-Some g c = record {
   stands = IfOk-weaker c.give.result _ _ (λ answer h. tt) c.give.ensures.given;
   wanted = refl;
-  passes = refl;
+  passes = λ atom h. h;
   teaches = λ clause t. t;
   limit = c.give.ensures.limit;
   spends = c.give.ensures.spends;
   within = c.give.ensures.within;
   fair =
       IfOk-weaker c.give.result _ _
-      (λ answer h. given_fair c.args.trail.now.literals c.in-Some.lemma c.args.budget.now c.give.new.budget answer
-      (subst (λ (found : Option (List Lit)). IfSome found (λ lemma.
-      is_false_clause (held c.args.trail.now.literals) lemma ≡ true)) c.in-Some.is c.in-Ok.ensures) h)
+      (λ answer h. given_fair c.args.trail.now.literals c.in-Some.lemma c.args.budget.now c.give.new.budget answer h)
       c.give.ensures.given;
   agrees = IfOk-weaker c.give.result _ _ (λ answer h last is. tt) c.give.ensures.given;
   spent =

@@ -1,0 +1,37 @@
+-- The atoms that are to have values, and the literals of these.
+use Rattle.std.specs.Prelude.{◌≡◌, ℕ, Bool, true, false, nat_eq, List, filter, get_or}
+use Rattle.std.specs.List.{list_any, list_all}
+use Rattle.sb_lit.specs.declared.clause.Lit.{Lit}
+use Rattle.sb_trail.specs.declared.assigned.Assigned.{Assigned}
+use Rattle.sb_trail.specs.Assignments.{held}
+use Rattle.sb_lang.specs.Regex.{Regex}
+use Rattle.sb_rulebook.specs.Atoms.{AtomOver}
+use Rattle.sb_theory.specs.Memberships.{IsValid}
+
+-- the atom is one of those that are wanted
+abbrev pub is_wanted : List ℕ → ℕ → Bool
+is_wanted wanted atom = list_any (nat_eq atom) wanted
+
+-- the literal's atom is wanted
+abbrev pub is_of_wanted : List ℕ → Lit → Bool
+is_of_wanted wanted l = is_wanted wanted l.atom
+
+-- the literals whose atoms are
+abbrev pub wanted_of : List ℕ → List Lit → List Lit
+wanted_of wanted ls = filter (is_of_wanted wanted) ls
+
+-- those on a trail
+abbrev pub wanted_on : List ℕ → List Assigned → List Lit
+wanted_on wanted entries = wanted_of wanted (held entries)
+
+-- the mark of an atom, none past the last one
+abbrev pub mark_at : List Bool → ℕ → Bool
+mark_at marks atom = get_or marks atom false
+
+-- those that are wanted are marked, and no others
+abbrev pub AreMarked : List ℕ → List Bool → Type 0
+AreMarked wanted marks = (atom : ℕ) → mark_at marks atom ≡ is_wanted wanted atom
+
+-- a clause of wanted atoms alone that is true whatever the values are
+abbrev pub IsTaught : List Regex → List (AtomOver ℕ) → List ℕ → List Lit → Type 0
+IsTaught rs atoms wanted clause = (list_all (is_of_wanted wanted) clause ≡ true) × IsValid rs atoms clause
