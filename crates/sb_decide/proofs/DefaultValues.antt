@@ -18,10 +18,10 @@ asking_none n [] h = refl
 asking_none n (t ∷ ts) h = let parts = or_parts (occurs n t) (list_any (occurs n) ts) h in
     rw (occurs_not n t parts.0) (asking_none n ts parts.1)
 
-words_all : (n : ℕ) (ts : List Term) → list_any (occurs n) ts ≡ false → (w : List ℕ) → words_asked n ts w ≡ true
+pub words_all : (n : ℕ) (ts : List Term) → list_any (occurs n) ts ≡ false → (w : List ℕ) → words_asked n ts w ≡ true
 words_all n ts h w = ap (λ (us : List Term). all_hold us ((n, Text w) ∷ [])) (asking_none n ts h)
 
-empty_least : (language : Language) (w : List ℕ) → ((v : List ℕ) → language v ≡ true) → IsShortestLeast language w
+pub empty_least : (language : Language) (w : List ℕ) → ((v : List ℕ) → language v ≡ true) → IsShortestLeast language w
     → w ≡ []
 empty_least language [] all l = refl
 empty_least language (c ∷ w) all l = let h : length (c ∷ w) ≤ 0 = l.shortest [] refl (all []) in absurd (omega arith)

@@ -56,7 +56,7 @@ pub not_one : (ts : List Term) (s : Symbol) (is : List ℕ) (t : Term)
     → demanded t ≡ asked t
 not_one ts s is t e f other = rw (← e, f) (other_count ts is other)
 
-data IsDemanding (serial : ℕ) (t R : Term) : Type 0 where
+pub data IsDemanding (serial : ℕ) (t R : Term) : Type 0 where
   an_asking : asked t ≡ Some (serial, R) → IsDemanding serial t R
   a_denial : (u S : Term) → t ≡ negation_of u → R ≡ complement_of S → asked u ≡ Some (serial, S)
       → IsDemanding serial t R
@@ -72,7 +72,7 @@ denial_of u serial R (Some p) is h =
     a_denial u p.1 refl (sym (ap (λ (q : ℕ × Term). q.1) same))
     (is ∙ ap (λ (q : ℕ × Term). Some (q.0, p.1)) same)
 
-demanded_looks : (t : Term) (serial : ℕ) (R : Term) → demanded t ≡ Some (serial, R) → IsDemanding serial t R
+pub demanded_looks : (t : Term) (serial : ℕ) (R : Term) → demanded t ≡ Some (serial, R) → IsDemanding serial t R
 demanded_looks (apply symbol.core_not (with_term u no_terms)) serial R h =
     denial_of u serial R (asked u) refl h
 demanded_looks _ serial R h = an_asking h

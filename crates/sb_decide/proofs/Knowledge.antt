@@ -36,6 +36,7 @@ use Rattle.sb_fragment.proofs.CallerLemmas.{measures_kept, no_measures}
 use Rattle.sb_stack.specs.Stacked.{Stacked, assertion_in, assertion_of, HasNumberBelow, IsLonger}
 use Rattle.sb_decide.specs.declared.conjuncts.Member.{Member}
 use Rattle.sb_decide.specs.declared.decide.Decider.{Decider}
+use Rattle.sb_decide.specs.declared.decide.Found.{Found}
 use Rattle.sb_decide.specs.Conjoined.{Conjoined, conjoined_at, without_last, with_place, without_place, is_settled, OthersSettled, HasRoom, IsChangedAt}
 use Rattle.sb_decide.specs.Deciding.{word_at}
 use Rattle.sb_decide.specs.Demands.{demanded}
@@ -95,6 +96,14 @@ taken_measured kept ms ts xs measures t = record {
   settled = t.settled;
   listed = t.listed;
   dead = t.dead;
+}
+
+pub knows_measured : (kept : Decider) (ms : List Measure) (stack : Stacked) → AreMeasures stack.table ms
+    → Knows kept stack → Knows (record kept { measures = ms }) stack
+knows_measured kept ms stack measures k = record {
+  taken = taken_measured kept ms stack.table stack.assertions measures k.taken;
+  words = k.words;
+  declared = k.declared;
 }
 
 -- there is room for more constants
@@ -581,10 +590,10 @@ knows_mode kept stack mode k = record { taken = k.taken; words = k.words; declar
 
 -- the graph and the arena grow, and intersections and matches are known
 pub taken_searched : NormalsStay → (kept : Decider) (rs : List Regex) (g : Findings) (p : Memory)
-    (roots : Vec (Option ℕ) Global) (ts : List Term) (xs : List code.Assertion) → Extends kept.arena rs → IsGraph rs g →
-    IsRight rs p → AreRooted rs kept.members.items roots.items → IsTaken kept ts xs →
-    IsTaken (record kept { arena = rs; graph = g; plain = p; roots = roots }) ts xs
-taken_searched stays kept rs g p roots ts xs e graph plain rooted t = record {
+    (roots : Vec (Option ℕ) Global) (fs : Vec Found Global) (ts : List Term) (xs : List code.Assertion) →
+    Extends kept.arena rs → IsGraph rs g → IsRight rs p → AreRooted rs kept.members.items roots.items →
+    IsTaken kept ts xs → IsTaken (record kept { arena = rs; graph = g; plain = p; roots = roots; found = fs }) ts xs
+taken_searched stays kept rs g p roots fs ts xs e graph plain rooted t = record {
   graph = graph;
   normals = stays ts ts kept.arena rs kept.normals (table_facts.extends_same ts) e t.normals;
   measures = t.measures;
@@ -606,7 +615,8 @@ pub knows_dead : NormalsStay → (kept : Decider) (rs : List Regex) (g : Finding
     Knows kept stack →
     Knows (record kept { arena = rs; graph = g; plain = p; roots = roots; dead = Some serial }) stack
 knows_dead stays kept rs g p roots stack serial e graph plain rooted empty k =
-    let t = taken_searched stays kept rs g p roots stack.table stack.assertions e graph plain rooted k.taken in record {
+    let t = taken_searched stays kept rs g p roots kept.found stack.table stack.assertions e graph plain rooted k.taken
+    in record {
       taken = record {
         graph = t.graph;
         normals = t.normals;

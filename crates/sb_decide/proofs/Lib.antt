@@ -13,3 +13,7 @@ pub mod Knowledge
 pub mod PlaceFacts
 pub mod KnownPlaces
 pub mod TakingOver
+pub mod PutWords
+pub mod ModelWords
+pub mod Occurring
+pub mod Questions

@@ -35,7 +35,8 @@ use Rattle.sb_decide.proofs.AskingTerms.{asks_same, asks_nothing, words_apart}
 use Rattle.sb_decide.proofs.DemandFacts.{demanded_holds, demanded_kind, demanded_none, demanded_speaks, nothing_plain}
 use Rattle.sb_regex.proofs.CallerLemmas.{names_at, names_below}
 
-alone_value : (n : ℕ) (w : List ℕ) → value_in ((n, Text w) ∷ []) n text ≡ Text w
+-- the value of the one constant that has one
+pub alone_value : (n : ℕ) (w : List ℕ) → value_in ((n, Text w) ∷ []) n text ≡ Text w
 alone_value n w = let same : (n == n) ≡ true = eq-eqb n n refl in rw same refl
 
 all_hold-append : (ts us : List Term) (v : Valuation) → all_hold (ts ++ us) v ≡ (all_hold ts v && all_hold us v)

@@ -24,12 +24,11 @@ use Rattle.sb_problem.specs.Laws.{NormalsStay}
 use Rattle.sb_meaning.specs.Terms.{Term}
 use Rattle.sb_term.specs.declared.assertion.Assertion as code
 use Rattle.sb_term.specs.declared.term.Serial.{Serial}
-use Rattle.sb_script.specs.State.{live, live_terms, constants_of, fits}
-use Rattle.sb_script.specs.Verdicts.{IsVerdict, is_sat, is_unsat}
+use Rattle.sb_script.specs.State.{live, live_terms}
+use Rattle.sb_script.specs.Verdicts.{IsVerdict, is_unsat}
 use Rattle.sb_stack.specs.Speaking.{speaks_of}
-use Rattle.sb_stack.specs.Stacked.{Stacked, state_of, live_constants, assertion_in, are_words, values_at}
+use Rattle.sb_stack.specs.Stacked.{Stacked, state_of, live_constants, assertion_in}
 use Rattle.sb_stack.proofs.CallerLemmas.{live_laid}
-use Rattle.sb_stack.specs.declared.stack.Mode.{Mode}
 use Rattle.sb_fragment.specs.Rules.{FragmentIsOfEach, is_decided}
 use Rattle.sb_decide.specs.declared.conjuncts.Member.{Member}
 use Rattle.sb_decide.specs.declared.decide.Decider.{Decider}
@@ -39,14 +38,15 @@ use Rattle.sb_decide.specs.Deciding.{IsSofar, AreFilled, word_at}
 use Rattle.sb_decide.specs.Knowing.{IsLeastOf, AreKept, Knows}
 use Rattle.sb_decide.specs.Members.{AreConjuncts, AreRooted, HasRegexBelow, IsEmptyAt, IsRootOf, ids_in, places_in, words_in}
 use Rattle.sb_decide.specs.Places.{is_member}
-use Rattle.sb_decide.specs.Taking.{HasAll, IsFoundAt, IsFoundOf, AreFound, IsTakingOver, with_word, word_of}
+use Rattle.sb_decide.specs.Ready.{IsReady}
+use Rattle.sb_decide.specs.Taking.{Fit, HasAll, IsFoundAt, IsFoundOf, AreFound, IsTakingOver, with_word, word_of}
 use Rattle.sb_decide.proofs.Conjunctions.{same_least, same_no_word, in_root}
 use Rattle.sb_decide.proofs.Constants.{conjoined_within, conjoined_set, conjoined_set_other, listed_last}
 use Rattle.sb_decide.proofs.KeptWords.{all_least, ids_long, known_all, length-with_word, settled_least, word_elsewhere, word_there, words_with}
 use Rattle.sb_decide.proofs.Knowledge.{taken_searched, kept_grown}
 use Rattle.sb_decide.proofs.MemberFacts.{words_grown}
 use Rattle.sb_decide.proofs.OneMembership.{members_alone, members_decided, sofar_of}
-use Rattle.sb_decide.proofs.Verdicts.{sat_given, unsat_given}
+use Rattle.sb_decide.proofs.Verdicts.{unsat_given}
 
 -- what was found, over words that are the same
 found_filled : (rs : List Regex) (ms : List (Option Member)) (cs : List Conjoined) (words filled : List (List ℕ))
@@ -175,7 +175,7 @@ goes_on rs ms old new new' words words' fs rest one c t is there grown given = r
         (t.least n (sym (ap is_settled (conjoined_set_other new place n (all_known c) e)) ∙ h))
 
 -- all is taken over
-least_over : (rs : List Regex) (ms : List (Option Member)) (old new : List Conjoined) (words : List (List ℕ))
+pub least_over : (rs : List Regex) (ms : List (Option Member)) (old new : List Conjoined) (words : List (List ℕ))
     → IsTakingOver rs ms old new words [] → (n : ℕ) → IsShortestLeast (words_in rs ms n) (word_at words n)
 least_over rs ms old new words t n = t.least n (t.settled n refl)
 
@@ -186,7 +186,7 @@ all_live kept stack all =
     ap (map (assertion_in stack.table))
     (take_all (length kept.members.items) stack.assertions (omega (arith, all.0))) ∙ sym (live_laid stack)
 
-all_sofar : NormalHasTermsWords → (kept : Decider) (stack : Stacked) → Knows kept stack → HasAll kept stack
+pub all_sofar : NormalHasTermsWords → (kept : Decider) (stack : Stacked) → Knows kept stack → HasAll kept stack
     → IsSofar kept.arena (live (state_of stack)) (ids_in kept.members.items)
 all_sofar law kept stack k all =
     subst (λ done. IsSofar kept.arena done (ids_in kept.members.items)) (all_live kept stack all)
@@ -206,17 +206,12 @@ decided_live kept stack k all =
     ap (list_all is_decided) (sym (all_live kept stack all))
     ∙ members_decided kept.arena stack.table kept.members.items stack.assertions k.taken.members
 
-members_live : (kept : Decider) (stack : Stacked) → Knows kept stack → HasAll kept stack → kept.others.items ≡ []
+pub members_live : (kept : Decider) (stack : Stacked) → Knows kept stack → HasAll kept stack → kept.others.items ≡ []
     → list_all is_member (live (state_of stack)) ≡ true
 members_live kept stack k all alone =
     ap (list_all is_member) (sym (all_live kept stack all))
     ∙ members_alone kept.arena stack.table 0 kept.members.items stack.assertions k.taken.members
     (sym k.taken.others ∙ alone)
-
--- words fit the live constants
-abbrev pub Fit : Stacked → Type 0
-Fit stack = (words : List (List ℕ)) (truths : List Bool) → are_words words ≡ true
-    → fits (constants_of (state_of stack)) (values_at (live_constants stack) words truths) ≡ true
 
 -- the live terms speak of live constants alone
 abbrev pub Named : Stacked → Type 0
@@ -235,43 +230,33 @@ dead_given law words kept stack k all dead named fit = by_cases kept.dead dead k
         unsat_given law kept.arena (state_of stack) (live_constants stack) (ids_in kept.members.items) serial.0
         (all_sofar words kept stack k all) (decided_live kept stack k all) named (fit [] [] refl) h
 
--- the arena and the graph grow on the way
-searched : NormalsStay → (kept : Decider) (rs : List Regex) (g : Findings) (p : Memory)
-    (roots : Vec (Option ℕ) Global) (stack : Stacked) → Knows kept stack → Extends kept.arena rs → IsGraph rs g →
-    IsRight rs p → AreRooted rs kept.members.items roots.items →
-    Knows (record kept { arena = rs; graph = g; plain = p; roots = roots }) stack
-searched stays kept rs g p roots stack k e graph plain rooted = record {
-  taken = taken_searched stays kept rs g p roots stack.table stack.assertions e graph plain rooted k.taken;
+-- words are known in an arena that grew
+pub knows_searched : NormalsStay → (kept : Decider) (rs : List Regex) (g : Findings) (p : Memory)
+    (roots : Vec (Option ℕ) Global) (fs : Vec Found Global) (stack : Stacked) → Knows kept stack →
+    Extends kept.arena rs → IsGraph rs g → IsRight rs p → AreRooted rs kept.members.items roots.items →
+    Knows (record kept { arena = rs; graph = g; plain = p; roots = roots; found = fs }) stack
+knows_searched stays kept rs g p roots fs stack k e graph plain rooted = record {
+  taken = taken_searched stays kept rs g p roots fs stack.table stack.assertions e graph plain rooted k.taken;
   words = kept_grown kept.arena rs kept.members.items kept.constants.items stack.words e k.taken.rooted.numbers k.words;
   declared = k.declared;
 }
 
-pub unsat_found : FragmentIsOfEach → NormalHasTermsWords → NormalsStay → (kept : Decider) (rs : List Regex)
-    (g : Findings) (p : Memory) (roots : Vec (Option ℕ) Global) (stack : Stacked) (n : ℕ) → Knows kept stack →
-    HasAll kept stack → Extends kept.arena rs → IsGraph rs g → IsRight rs p →
-    AreRooted rs kept.members.items roots.items →
-    IsEmptyAt rs kept.members.items n → Named stack → Fit stack → IsVerdict (state_of stack) [] (is_unsat [])
-unsat_found law words stays kept rs g p roots stack n k all e graph plain rooted empty named fit =
-    unsat_given law rs (state_of stack) (live_constants stack) (ids_in kept.members.items) n
-    (all_sofar words (record kept { arena = rs; graph = g; plain = p; roots = roots }) stack
-    (searched stays kept rs g p roots stack k e graph plain rooted) all) (decided_live kept stack k all) named
-    (fit [] [] refl) empty
-
-pub sat_found : FragmentIsOfEach → NormalHasTermsWords → NormalsStay → (kept : Decider) (rs : List Regex)
-    (g : Findings) (p : Memory) (roots : Vec (Option ℕ) Global) (stack : Stacked) (new : List Conjoined)
-    (words : List (List ℕ)) → Knows kept stack → HasAll kept stack → kept.others.items ≡ [] → Extends kept.arena rs →
-    IsGraph rs g → IsRight rs p → AreRooted rs kept.members.items roots.items →
-    IsTakingOver rs kept.members.items kept.constants.items new words [] →
-    Named stack → Fit stack → IsVerdict (state_of stack) [] (is_sat (values_at (live_constants stack) words []))
-sat_found law terms stays kept rs g p roots stack new words k all alone e graph plain rooted over named fit =
-    sat_given law rs (state_of stack) (live_constants stack) (ids_in kept.members.items) words
-    (all_sofar terms (record kept { arena = rs; graph = g; plain = p; roots = roots }) stack
-    (searched stays kept rs g p roots stack k e graph plain rooted) all) (decided_live kept stack k all)
-    (members_live kept stack k all alone) named (fit words [] over.characters)
-    (least_over rs kept.members.items kept.constants.items new words over)
+-- the check is ready then
+pub ready_searched : NormalsStay → (kept : Decider) (rs : List Regex) (g : Findings) (p : Memory)
+    (roots : Vec (Option ℕ) Global) (fs : Vec Found Global) (stack : Stacked) → Knows kept stack → HasAll kept stack →
+    Named stack → Extends kept.arena rs → IsGraph rs g → IsRight rs p → AreRooted rs kept.members.items roots.items →
+    AreFound rs kept.members.items kept.constants.items stack.words kept.changed.items fs.items →
+    IsReady (record kept { arena = rs; graph = g; plain = p; roots = roots; found = fs }) stack
+ready_searched stays kept rs g p roots fs stack k all named e graph plain rooted found = record {
+  decided = decided_live kept stack k all;
+  named = named;
+  all = all;
+  knows = knows_searched stays kept rs g p roots fs stack k e graph plain rooted;
+  found = found;
+}
 
 -- all words are known then
-kept_over : (rs : List Regex) (ms : List (Option Member)) (old new : List Conjoined) (words : List (List ℕ))
+pub kept_over : (rs : List Regex) (ms : List (Option Member)) (old new : List Conjoined) (words : List (List ℕ))
     → ((n : ℕ) → (conjoined_at old n).places ≡ places_in 0 n ms) → IsTakingOver rs ms old new words []
     → AreKept rs ms new words
 kept_over rs ms old new words places over = record {
@@ -287,38 +272,8 @@ kept_over rs ms old new words places over = record {
         ∙ known_all (length (conjoined_at new n).places) (conjoined_at new n).known (over.settled n refl))
         ∙ (ap length (over.places n ∙ places n) ∙ ids_long ms n)
 
-pub knows_over : NormalsStay → (kept new : Decider) (stack : Stacked) (words : List (List ℕ))
-    (truths : List Bool) (m : Mode) → Knows kept stack → Extends kept.arena new.arena → IsGraph new.arena new.graph →
-    IsRight new.arena new.plain → AreRooted new.arena kept.members.items new.roots.items →
-    IsTakingOver new.arena kept.members.items kept.constants.items new.constants.items words [] →
-    new.members ≡ kept.members → new.normals ≡ kept.normals → new.measures ≡ kept.measures →
-    new.others ≡ kept.others → length new.changed.items ≡ 0 → new.dead ≡ kept.dead →
-    Knows new (record stack { mode = m; words = words; truths = truths })
-knows_over stays kept new stack words truths m k e graph plain rooted over members normals measures others changed dead
-    =
-    let t = taken_searched stays kept new.arena new.graph new.plain new.roots stack.table stack.assertions e graph plain
-    rooted k.taken in record {
-      taken = record {
-        graph = graph;
-        normals = rw normals t.normals;
-        measures = rw measures t.measures;
-        plain = plain;
-        members = rw members t.members;
-        rooted = rw members rooted;
-        within = rw (members, over.same_length) t.within;
-        places = λ n. rw members (over.places n ∙ t.places n);
-        others = rw (others, members) t.others;
-        settled = λ n h. over.settled n refl;
-        listed = λ i d l. absurd (omega (arith, l, changed));
-        dead = rw (dead, members) t.dead;
-      };
-      words = rw members
-          (kept_over new.arena kept.members.items kept.constants.items new.constants.items words k.taken.places over);
-      declared = omega (arith, k.declared, over.same_length);
-    }
-
 -- what was found, in an arena that grows
-found_grown : (rs new : List Regex) (ms : List (Option Member)) (cs : List Conjoined) (words : List (List ℕ))
+pub found_grown : (rs new : List Regex) (ms : List (Option Member)) (cs : List Conjoined) (words : List (List ℕ))
     (f : Found) → Extends rs new → All (HasRegexBelow (length rs)) ms → IsFoundOf rs ms cs words f
     → IsFoundOf new ms cs words f
 found_grown rs new ms cs words f e known h = (
@@ -439,26 +394,29 @@ settled_through v now new serial c changed value p settled =
     let q : IsChangedAt v.items new serial c = rw value at p in
     subst (OthersSettled changed) (sym (with_items_is v new (omega (arith, q.same_length, v.ok.0)))) settled
 
--- what a check with a model makes of what is known
-pub over_of : (kept : Decider) (rs : List Regex) (stack : Stacked) (fs : List Found) (count : ℕ)
-    (given filled : List (List ℕ)) (cs new : List Conjoined) (before after : List (List ℕ)) → Knows kept stack →
-    HasAll kept stack → Extends kept.arena rs →
-    AreFound rs kept.members.items kept.constants.items stack.words kept.changed.items fs →
+-- what a model makes of what is known
+pub over_of : (kept : Decider) (stack : Stacked) (fs : List Found) (count : ℕ) (given filled : List (List ℕ))
+    (cs new : List Conjoined) (before after : List (List ℕ)) → IsReady kept stack → fs ≡ kept.found.items →
     given ≡ stack.words → count ≡ length stack.scope.sorts → AreFilled count given filled → cs ≡ kept.constants.items →
     before ≡ filled →
     ((ts : List Regex) (ms : List (Option Member)) → IsTakingOver ts ms cs cs before fs
     → IsTakingOver ts ms cs new after []) →
-    IsTakingOver rs kept.members.items kept.constants.items new after []
-over_of kept rs stack fs count given filled cs new before after k all e found same_words same_count more same_cs
+    IsTakingOver kept.arena kept.members.items kept.constants.items new after []
+over_of kept stack fs count given filled cs new before after r same_found same_words same_count more same_cs
     same_before over =
-    let long : count ≡ length kept.constants.items = same_count ∙ sym all.1 in
-    let begun : IsTakingOver rs kept.members.items kept.constants.items kept.constants.items filled fs =
-    starts rs kept.members.items kept.constants.items kept.changed.items fs stack.words filled k.taken.settled
-    k.taken.places
-    (kept_grown kept.arena rs kept.members.items kept.constants.items stack.words e k.taken.rooted.numbers k.words)
-    (rw (same_words, long) at more) found in
-    let there = over rs kept.members.items in
-    (rw (same_cs, same_before) at there) begun
+    let k = r.knows in
+    let long : count ≡ length kept.constants.items = same_count ∙ sym r.all.1 in
+    let begun : IsTakingOver kept.arena kept.members.items kept.constants.items kept.constants.items filled
+    kept.found.items =
+    starts kept.arena kept.members.items kept.constants.items kept.changed.items kept.found.items stack.words filled
+    k.taken.settled k.taken.places k.words (rw (same_words, long) at more) r.found in
+    let there = over kept.arena kept.members.items in
+    (rw (same_cs, same_before, same_found) at there) begun
+
+-- what was found is of constants that there are
+pub found_within : (kept : Decider) (stack : Stacked) (fs : List Found) → IsReady kept stack → fs ≡ kept.found.items
+    → All (λ one. one.serial.0 < length kept.constants.items) fs
+found_within kept stack fs r is = rw is (λ k d l. (r.found.each k d l).0)
 
 pub words_long : (rs : List Regex) (ms : List (Option Member)) (old new : List Conjoined) (words : List (List ℕ))
     (v : Vec (List ℕ) Global) (count : ℕ) (given : List (List ℕ)) → IsTakingOver rs ms old new words [] →

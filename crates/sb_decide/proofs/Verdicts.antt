@@ -31,6 +31,13 @@ all_shortest ts words truths ((n, integer) ∷ cs) h = all_shortest ts words tru
 all_shortest ts words truths ((n, text) ∷ cs) h = (h n, all_shortest ts words truths cs h)
 all_shortest ts words truths ((n, reglan) ∷ cs) h = (h n, all_shortest ts words truths cs h)
 
+-- the least word of a constant's regexes is that of what is asked of it
+pub asked_least : (rs : List Regex) (s : State) (found : ℕ → List ℕ) (words : List (List ℕ)) (n : ℕ)
+    → IsSofar rs (live s) found → IsShortestLeast (in_each rs (found n)) (word_at words n)
+    → IsShortestLeast (words_asked n (live_terms s)) (word_at words n)
+asked_least rs s found words n f least =
+    same_least (in_each rs (found n)) (words_asked n (live_terms s)) (word_at words n) (f.words n) least
+
 pub sat_given : FragmentIsOfEach → (rs : List Regex) (s : State) (cs : List (ℕ × Sort)) (found : ℕ → List ℕ)
     (words : List (List ℕ)) → IsSofar rs (live s) found → list_all is_decided (live s) ≡ true
     → list_all is_member (live s) ≡ true → list_all (speaks_of cs) (live_terms s) ≡ true
@@ -49,8 +56,7 @@ sat_given law rs s cs found words f decided members named fitting least = (
 )
   where
     shortest : (n : ℕ) → IsShortestLeast (words_asked n (live_terms s)) (word_at words n)
-    shortest n =
-        same_least (in_each rs (found n)) (words_asked n (live_terms s)) (word_at words n) (f.words n) (least n)
+    shortest n = asked_least rs s found words n f (least n)
 
     shortest_about : (n : ℕ) → is_plain s ≡ true → IsShortestLeast (words_for n (live_terms s)) (word_at words n)
     shortest_about n plain =

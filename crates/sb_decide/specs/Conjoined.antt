@@ -1,5 +1,5 @@
 -- A constant's memberships by their places, and of how many first ones of them its kept word is known to be the least.
-use Rattle.std.specs.Prelude.{◌≡◌, ◌≢◌, ℕ, ◌<◌, ◌-◌, ◌==◌, nat_le, if◌then◌else◌, Bool, true, false, List, [], ◌∷◌, ◌++◌, length, take, Option, Some, None, slice_index_or}
+use Rattle.std.specs.Prelude.{◌≡◌, ◌≢◌, ℕ, ◌-◌, ◌==◌, nat_le, if◌then◌else◌, Bool, true, false, List, [], ◌∷◌, ◌++◌, length, take, Option, Some, None, slice_index_or}
 use Rattle.std.specs.List.{list_any}
 use Rattle.sb_term.specs.declared.term.Serial.{Serial}
 
@@ -55,12 +55,6 @@ is_listed changed n = list_any (λ serial. serial.0 == n) changed
 -- constants out of the list have their words
 abbrev pub OthersSettled : List Serial → List Conjoined → Type 0
 OthersSettled changed cs = (n : ℕ) → is_listed changed n ≡ false → is_settled (conjoined_at cs n) ≡ true
-
--- nothing is known of any kept word, and each constant's memberships are what they were
-pub record AreAllForgotten (old new : List Conjoined) : Type 0 where
-  pub same_length : length new ≡ length old
-  pub places : (n : ℕ) → (conjoined_at new n).places ≡ (conjoined_at old n).places
-  pub known : (n : ℕ) → n < length new → (conjoined_at new n).known ≡ None
 
 -- so many constants, of which those that are new have no memberships
 pub record HasRoom (count : ℕ) (old new : List Conjoined) : Type 0 where

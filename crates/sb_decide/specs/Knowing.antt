@@ -1,20 +1,15 @@
 -- What is known of a script's assertions so far.
-use Rattle.std.specs.Prelude.{◌≡◌, ℕ, ◌≤◌, ◌<◌, true, false, List, length, take, Option, Some, IfSome, IsSome}
-use Rattle.std.specs.List.{All, list_all}
+use Rattle.std.specs.Prelude.{◌≡◌, ℕ, ◌≤◌, ◌<◌, true, List, length, take, Option, Some, IfSome, IsSome}
+use Rattle.std.specs.List.{All}
 use Rattle.sb_lang.specs.Regex.{Regex}
 use Rattle.sb_lang.specs.Least.{IsShortestLeast}
 use Rattle.sb_graph.specs.Findings.{IsGraph}
 use Rattle.sb_plain.specs.Memory.{IsRight}
 use Rattle.sb_problem.specs.Known.{AreNormals}
 use Rattle.sb_meaning.specs.Terms.{Term}
-use Rattle.sb_script.specs.Models.{is_plain}
-use Rattle.sb_script.specs.State.{live, live_terms}
 use Rattle.sb_term.specs.declared.assertion.Assertion.{Assertion}
 use Rattle.sb_fragment.specs.Measures.{AreMeasures}
-use Rattle.sb_fragment.specs.Rules.{is_decided}
-use Rattle.sb_stack.specs.Speaking.{speaks_of}
-use Rattle.sb_stack.specs.Stacked.{Stacked, state_of, live_constants, are_words}
-use Rattle.sb_stack.specs.Steps.{found}
+use Rattle.sb_stack.specs.Stacked.{Stacked, are_words}
 use Rattle.sb_stack.specs.declared.verdict.Verdict.{Verdict}
 use Rattle.sb_stack.specs.declared.verdict.Verdict.TheVariants as verdict
 use Rattle.sb_decide.specs.declared.decide.Decider.{Decider}
@@ -67,19 +62,3 @@ IsDecision (verdict.Sat words truths) kept = Unit {0}
 IsDecision verdict.Unsat kept = IsSome kept.dead
 IsDecision verdict.Unknown kept = ⊥
 IsDecision verdict.Outside kept = Unit {0}
-
--- The words of a verdict are one for each constant that was declared.
-abbrev pub MayBeKept : Verdict → Stacked → Type 0
-MayBeKept (verdict.Sat words truths) stack =
-    (are_words words.items ≡ true) × (length words.items ≡ length stack.scope.sorts)
-MayBeKept _ stack = Unit {0}
-
--- The check is left open: each assertion is a decided one and taken in, not each is a membership, and whatever verdict
--- is found may be kept.
-pub record IsLeftOpen (kept : Decider) (stack : Stacked) : Type 0 where
-  pub decided : list_all is_decided (live (state_of stack)) ≡ true
-  pub not_plain : is_plain (state_of stack) ≡ false
-  pub all : length kept.members.items ≡ length stack.assertions
-  pub named : list_all (speaks_of (live_constants stack)) (live_terms (state_of stack)) ≡ true
-  pub taken : IsTaken kept stack.table stack.assertions
-  pub keeps : (v : Verdict) → MayBeKept v stack → Knows kept (found v stack)

@@ -11,7 +11,8 @@ use Rattle.sb_fragment.specs.declared.measure.Measure.{Measure}
 use Rattle.sb_fragment.specs.Measures.{AreMeasures}
 use Rattle.sb_stack.specs.Stacked.{Stacked, IsLonger}
 use Rattle.sb_decide.specs.declared.decide.Decider.{Decider}
-use Rattle.sb_decide.specs.Knowing.{Knows, IsLeftOpen}
+use Rattle.sb_decide.specs.Knowing.{Knows}
+use Rattle.sb_decide.specs.Ready.{IsLeftOpen}
 
 -- terms keep their numbers and assertions their places, and the words stay
 abbrev pub KnowsStays : Type 0

@@ -6,4 +6,6 @@ pub mod Members
 pub mod Places
 pub mod Knowing
 pub mod Taking
+pub mod Ready
+pub mod Speaking
 pub mod Laws

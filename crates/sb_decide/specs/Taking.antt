@@ -1,17 +1,19 @@
--- Private: what a check does on its way.
-use Rattle.std.specs.Prelude.{◌≡◌, ℕ, ◌<◌, ◌==◌, true, if◌then◌else◌, List, length, map, set, slice_index_or, Option, Some, None, unwrap_or}
+-- What a check does on its way, and what it finds of constants.
+use Rattle.std.specs.Prelude.{◌≡◌, ℕ, ◌<◌, Bool, ◌==◌, true, if◌then◌else◌, List, [], length, map, set, get_or, slice_index_or, Option, Some, None, unwrap_or}
 use Rattle.std.specs.List.{All}
+use Rattle.sb_word.specs.Words.{are_characters}
 use Rattle.sb_lang.specs.Regex.{Regex}
 use Rattle.sb_lang.specs.Least.{IsShortestLeast}
 use Rattle.sb_regex.specs.Numbered.{AllNumbers}
 use Rattle.sb_term.specs.declared.term.Serial.{Serial}
-use Rattle.sb_stack.specs.Stacked.{Stacked, are_words}
+use Rattle.sb_script.specs.State.{constants_of, fits}
+use Rattle.sb_stack.specs.Stacked.{Stacked, state_of, live_constants, values_at, are_words}
 use Rattle.sb_decide.specs.declared.conjuncts.Member.{Member}
 use Rattle.sb_decide.specs.declared.decide.Decider.{Decider}
 use Rattle.sb_decide.specs.declared.decide.Found.{Found}
 use Rattle.sb_decide.specs.declared.decide.Words.{Words}
 use Rattle.sb_decide.specs.declared.decide.Words.TheVariants as searched
-use Rattle.sb_decide.specs.Conjoined.{Conjoined, conjoined_at, is_settled, OthersSettled}
+use Rattle.sb_decide.specs.Conjoined.{Conjoined, conjoined_at, forgotten, is_settled, IsChangedAt, OthersSettled}
 use Rattle.sb_decide.specs.Deciding.{in_each, word_at}
 use Rattle.sb_decide.specs.Members.{IsEmptyAt, words_in}
 use Rattle.sb_decide.specs.Knowing.{AreKept}
@@ -26,6 +28,11 @@ StayKept old new = (words : List (List ℕ)) → AreKept old.arena old.members.i
 abbrev pub HasAll : Decider → Stacked → Type 0
 HasAll kept stack =
     (length kept.members.items ≡ length stack.assertions) × (length kept.constants.items ≡ length stack.scope.sorts)
+
+-- words fit the live constants
+abbrev pub Fit : Stacked → Type 0
+Fit stack = (words : List (List ℕ)) (truths : List Bool) → are_words words ≡ true
+    → fits (constants_of (state_of stack)) (values_at (live_constants stack) words truths) ≡ true
 
 -- the constant without a word, where it is not this one
 abbrev pub other_dead : Option Serial → ℕ → Option Serial
@@ -89,3 +96,38 @@ pub record IsTakingOver (rs : List Regex) (ms : List (Option Member)) (old new :
     pub places : (n : ℕ) → (conjoined_at new n).places ≡ (conjoined_at old n).places
     pub settled : OthersSettled (map (λ found. found.serial) fs) new
     pub least : (n : ℕ) → is_settled (conjoined_at new n) ≡ true → IsShortestLeast (words_in rs ms n) (word_at words n)
+
+-- All that was found is taken over: each constant has the least word of its memberships.
+pub record IsTakenOver (kept new : Decider) (words : List (List ℕ)) : Type 0 where
+  pub over : IsTakingOver kept.arena kept.members.items kept.constants.items new.constants.items words []
+  pub nothing : new.changed.items ≡ []
+  pub same : new ≡ record kept { constants = new.constants; changed = new.changed; found = new.found }
+
+-- the word that a search found of the constant, none past the last one
+abbrev pub found_at : List (Option (List ℕ)) → ℕ → Option (List ℕ)
+found_at found serial = get_or found serial None
+
+-- nothing is known of the kept word, where there is another one
+abbrev pub forgotten_for : Option (List ℕ) → Conjoined → Conjoined
+forgotten_for None c = c
+forgotten_for (Some w) c = forgotten c
+
+-- The constant at the place has this word, if there is one, and nothing else is known of it then.
+pub record IsPutAt (old new : List Conjoined) (words full : List (List ℕ)) (place : ℕ) (word : Option (List ℕ)) : Type 0
+  where
+    pub constants : IsChangedAt old new place (forgotten_for word (conjoined_at old place))
+    pub given : full ≡ with_word words place word
+
+-- Each constant of which a search found a word has this word, and nothing else is known of it; all others have what
+-- they had.
+pub record ArePut (old new : List Conjoined) (words full : List (List ℕ)) (found : List (Option (List ℕ))) : Type 0
+  where
+    pub same_length : length new ≡ length old
+    pub long : length full ≡ length words
+    pub places : (n : ℕ) → (conjoined_at new n).places ≡ (conjoined_at old n).places
+    pub given : (n : ℕ) (w : List ℕ) → found_at found n ≡ Some w
+        → (word_at full n ≡ w) × ((conjoined_at new n).known ≡ None)
+    pub others : (n : ℕ) → found_at found n ≡ None
+        → (word_at full n ≡ word_at words n) × (conjoined_at new n ≡ conjoined_at old n)
+    pub characters : are_words words ≡ true
+        → ((n : ℕ) (w : List ℕ) → found_at found n ≡ Some w → are_characters w ≡ true) → are_words full ≡ true

@@ -6,11 +6,11 @@
 //! What is known of the assertions so far is kept, so that a check takes in those that are new, and finds words of the
 //! constants that they speak of: a kept word that is in the regexes of the new memberships stays, and nothing is made
 //! for it. Memberships speak of no constant of sort Bool, so each of these is false. A decided assertion that is no
-//! membership is taken in too, by its place alone, and while there are such ones a check is left open. Assertions are
-//! taken in up to the first one that is not decided.
+//! membership is taken in too, by its place alone, and while there are such ones a check is left open, where the
+//! memberships alone don't refute it. Assertions are taken in up to the first one that is not decided.
 
-ghost use Rattle.std.specs.Prelude.{◌≡◌, ◌≢◌, ℕ, ◌+◌, ◌<◌, ◌≤◌, [], List, Option, Some, length, get_or, map, true, false};
-ghost use Rattle.std.specs.Prelude.{All, Contains, IfOk, OnOk, IfSome, IfNone, MatchOption};
+ghost use Rattle.std.specs.Prelude.{◌≡◌, ◌≢◌, ℕ, ◌+◌, ◌<◌, ◌≤◌, [], List, Option, Some, is_some, length, get_or, map, true, false};
+ghost use Rattle.std.specs.Prelude.{All, IfOk, OnOk, IfSome, IfNone, MatchOption};
 ghost use Rattle.std.specs.List.{list_all};
 ghost use Rattle.sb_lang.specs.Least.{IsShortestLeast};
 ghost use Rattle.sb_lang.specs.Regex.{Regex};
@@ -27,13 +27,14 @@ ghost use Rattle.sb_stack.specs.Speaking.{speaks_of};
 ghost use Rattle.sb_stack.specs.Steps.{verdict_in, found};
 ghost use Rattle.sb_term.specs.Numbered.{term_at};
 ghost use Rattle.sb_term.specs.Serials.{all_below};
-ghost use Rattle.sb_decide.specs.Conjoined.{conjoined_at, with_place, without_place, forgotten, OthersSettled, AreAllForgotten, HasRoom, IsChangedAt};
-ghost use Rattle.sb_decide.specs.Deciding.{AreFilled, word_at};
-ghost use Rattle.sb_decide.specs.Knowing.{IsTaken, IsLeastOf, AreKept, Knows, IsDecision, IsLeftOpen, places_of};
+ghost use Rattle.sb_decide.specs.Conjoined.{conjoined_at, with_place, without_place, OthersSettled, HasRoom, IsChangedAt};
+ghost use Rattle.sb_decide.specs.Deciding.{word_at};
+ghost use Rattle.sb_decide.specs.Knowing.{IsTaken, IsLeastOf, AreKept, Knows, IsDecision, places_of};
+ghost use Rattle.sb_decide.specs.Ready.{IsReady, IsLeftOpen};
 ghost use Rattle.sb_decide.specs.Laws.{LeavesKnown};
 ghost use Rattle.sb_decide.specs.Members.{AreRooted, IsEmptyAt, IsOther, IsRootOf, ids_in, places_in, words_in};
 ghost use Rattle.sb_decide.specs.Places.{HasNoWordAt, IsPlaceOf};
-ghost use Rattle.sb_decide.specs.Taking.{StayKept, HasAll, AreWords, IsFoundAt, IsTakingOver, other_dead, with_word};
+ghost use Rattle.sb_decide.specs.Taking.{StayKept, HasAll, AreWords, Fit, IsFoundAt, other_dead};
 
 use crate::conjuncts::{Conjuncts, Member, conjuncts_at};
 use crate::demand::{demand_of, regex_of};
@@ -69,19 +70,21 @@ pub struct Decider {
     pub others: Vec<usize>,
     /// By serial the memberships of each constant.
     pub constants: Vec<Conjuncts>,
-    /// The constants with memberships that came or went since the last check with a model that was decided here, and
-    /// all of them where a check was left open since: at least those whose kept words are not known to be the least
-    /// ones of all their memberships.
+    /// The constants with memberships that came or went since the last check with a model, and those whose words that
+    /// one had from a search: at least those whose kept words are not known to be the least ones of all their
+    /// memberships.
     pub changed: Vec<Serial>,
+    /// What the last check found of these constants, until a model takes it over.
+    pub found: Vec<Found>,
     /// A constant that is known to have no word.
     pub dead: Option<Serial>,
 }
 
-/// What a check finds of a constant: the word that a model gives, `None` where it is the kept one.
+/// What a check finds of a constant: the least word of its memberships, `None` where it is the kept one.
 #[derive(Drop)]
-struct Found {
-    serial: Serial,
-    word: Option<Word>,
+pub struct Found {
+    pub serial: Serial,
+    pub word: Option<Word>,
 }
 
 /// What a check finds of the constants that it asks for.
@@ -109,22 +112,23 @@ impl Decider {
             others: Vec::new(alloc),
             constants: Vec::new(alloc),
             changed: Vec::new(alloc),
+            found: Vec::new(alloc),
             dead: None,
         }
     }
 
     /// What a check of the live assertions finds; `None` where it is left open, since all assertions are decided ones,
-    /// but not all of them are memberships. Then whatever verdict is found may be kept.
+    /// but not all of them are memberships, and each constant has a word by its memberships alone. Then
+    /// [`Decider::question`] says what a search is to be asked about, and [`Decider::close`] gives the words of a model.
     ///
     /// Linear in the assertions and constants that are new since the last check with a model, and in the constants that
-    /// the new ones, and those that were taken back, speak of. The kept word of such a constant is matched with the
-    /// regexes of the memberships behind those that it is known to be the least word of ([`Plain::matches`]), and stays
-    /// where it is in all of them. Else, and where one of those was taken back, the check is linear in the constant's
-    /// memberships and in what is explored; a regex that was explored before is not expanded again. A check that is
-    /// left open, and the next one that is not, are linear in all constants and memberships besides; an assertion that
-    /// is no membership is looked at once, in the time of [`Measures::fits_structure`]. Where it finds `Unsat`,
-    /// [`Decider::dead`] is a constant without a word. Of the script's state it changes the mode and the kept words
-    /// alone. `AllocError` only for want of memory.
+    /// the new ones, those that were taken back, and the search of that check spoke of. The kept word of such a constant
+    /// is matched with the regexes of the memberships behind those that it is known to be the least word of
+    /// ([`Plain::matches`]), and stays where it is in all of them. Else, and where one of those was taken back, the check
+    /// is linear in the constant's memberships and in what is explored; a regex that was explored before is not expanded
+    /// again. An assertion that is no membership is looked at once, in the time of [`Measures::fits_structure`]. Where it
+    /// finds `Unsat`, [`Decider::dead`] is a constant without a word. Of the script's state it changes the mode and the
+    /// kept words alone. `AllocError` only for want of memory.
     pub fn decide(
         &mut self,
         alloc: Global,
@@ -144,47 +148,42 @@ impl Decider {
         ensures extends { OnOk result (Extends self.old.arena self.new.arena) }
         ensures derivatives_stay { OnOk result (KeepsEntries self.old.graph.memo self.new.graph.memo) }
     {
+        normal_has_terms_words();
         fragment_is_of_each();
         if !self.take_in(alloc, stack)? {
             return Ok(Some(Verdict::Outside));
         }
-        if self.others.is_empty() {
-            let verdict = self.decide_memberships(alloc, stack)?;
-            return Ok(Some(verdict));
+        if !self.find_words(alloc, stack)? {
+            return Ok(Some(Verdict::Unsat));
         }
-        self.leave_open()?;
-        Ok(None)
+        if !self.others.is_empty() {
+            return Ok(None);
+        }
+        let words = self.close(alloc, stack, Vec::new(alloc))?;
+        Ok(Some(Verdict::Sat {
+            words,
+            truths: Vec::new(alloc),
+        }))
     }
 
-    /// What a check finds where all live assertions are taken in, and each is a membership.
-    fn decide_memberships(
-        &mut self,
-        alloc: Global,
-        stack: &mut Stack,
-    ) -> Result<Verdict, AllocError>
-        requires knows { Knows self.old stack.old }
-        requires all { HasAll self.old stack.old }
-        requires alone { self.old.others.items ≡ [] }
-        requires named { list_all (speaks_of (live_constants stack.old)) (live_terms (state_of stack.old)) ≡ true }
-        ensures verdict { IfOk result
-            (λ verdict. IsVerdict (state_of stack.old) [] (verdict_in (live_constants stack.old) verdict)) }
-        ensures knows { IfOk result (λ verdict. Knows self.new (found verdict stack.new)) }
-        ensures state { IfOk result
-            (λ verdict. settled (verdict_in (live_constants stack.old) verdict) (state_of stack.new)
-            ≡ settled (verdict_in (live_constants stack.old) verdict) (state_of stack.old)) }
-        ensures rest { without_words stack.new ≡ without_words stack.old }
-        ensures decided { IfOk result (λ verdict. IsDecision verdict self.new) }
+    /// Finds the words that the constants which changed have by their memberships, where all live assertions are taken
+    /// in, and answers whether each has one.
+    fn find_words(&mut self, alloc: Global, stack: &Stack) -> Result<bool, AllocError>
+        requires knows { Knows self.old stack.now }
+        requires all { HasAll self.old stack.now }
+        requires named { list_all (speaks_of (live_constants stack.now)) (live_terms (state_of stack.now)) ≡ true }
+        ensures knows { OnOk result (Knows self.new stack.now) }
+        ensures all { HasAll self.new stack.now }
+        ensures ready { IfOk result (λ found. found ≡ true → IsReady self.new stack.now) }
+        ensures dead { IfOk result (λ found. found ≡ false → is_some self.new.dead ≡ true) }
+        ensures others { self.new.others ≡ self.old.others }
         ensures extends { OnOk result (Extends self.old.arena self.new.arena) }
         ensures derivatives_stay { OnOk result (KeepsEntries self.old.graph.memo self.new.graph.memo) }
     {
         normals_stay();
-        normal_has_terms_words();
-        fragment_is_of_each();
-        let declared = stack.declared();
         if self.dead.is_some() {
-            return Ok(Verdict::Unsat);
+            return Ok(false);
         }
-        let kept = stack.words();
         match least_words(
             alloc,
             &mut self.arena,
@@ -193,39 +192,18 @@ impl Decider {
             &mut self.roots,
             &self.members,
             &self.constants,
-            kept,
+            stack.words(),
             &self.changed,
         )? {
             Words::Dead(serial) => {
                 self.dead = Some(serial);
-                Ok(Verdict::Unsat)
+                Ok(false)
             }
             Words::Found(found) => {
-                let mut words = stack.take_words();
-                fill(alloc, &mut words, declared)?;
-                take_over(&mut self.constants, &mut words, found);
-                self.changed.clear();
-                Ok(Verdict::Sat {
-                    words,
-                    truths: Vec::new(alloc),
-                })
+                self.found = found;
+                Ok(true)
             }
         }
-    }
-
-    /// Nothing is known of any constant's word, since a check is left open. Linear in them.
-    fn leave_open(&mut self) -> Result<(), AllocError>
-        requires settled { OthersSettled self.old.changed.items self.old.constants.items }
-        requires listed { All (λ other. other.0 < length self.old.constants.items) self.old.changed.items }
-        requires some { 0 < length self.old.others.items }
-        ensures left { OnOk result ((stack : Stacked) → Knows self.old stack → HasAll self.old stack
-            → list_all (speaks_of (live_constants stack)) (live_terms (state_of stack)) ≡ true
-            → IsLeftOpen self.new stack) }
-        ensures arena { self.new.arena ≡ self.old.arena }
-        ensures graph { self.new.graph ≡ self.old.graph }
-    {
-        forget_all(&mut self.constants, &mut self.changed)?;
-        Ok(())
     }
 
     /// Takes assertions back from the end: the first `count` stay, and what is known of them, as what is known of terms
@@ -270,15 +248,6 @@ impl Decider {
         }
     }
 
-    /// The places of the assertions that were taken in and are no memberships, ascending. Constant time.
-    pub fn others(&self) -> &[usize]
-        ensures value { result.now ≡ self.now.others.items }
-        ensures are { (stack : Stacked) → Knows self.now stack
-            → (place : ℕ) → Contains result.now place → place < length stack.assertions }
-    {
-        self.others.as_slice()
-    }
-
     /// Takes in the assertions that are new, up to one that is not decided, and answers whether that are all of them.
     /// Linear in them, and in the constants that are new.
     fn take_in(&mut self, alloc: Global, stack: &Stack) -> Result<bool, AllocError>
@@ -289,6 +258,7 @@ impl Decider {
             → list_all is_decided (live (state_of stack.now)) ≡ false) }
         ensures named { OnOk result
             (list_all (speaks_of (live_constants stack.now)) (live_terms (state_of stack.now)) ≡ true) }
+        ensures fit { OnOk result (Fit stack.now) }
         ensures extends { OnOk result (Extends self.old.arena self.new.arena) }
         ensures graph { OnOk result (self.new.graph ≡ self.old.graph) }
     {
@@ -398,42 +368,6 @@ impl Decider {
         unlist(&self.constants, &mut self.changed, member.serial);
         Ok(())
     }
-}
-
-/// Says of each constant that nothing is known of its word.
-fn forget_all(constants: &mut [Conjuncts], changed: &mut Vec<Serial>) -> Result<(), AllocError>
-    requires settled { OthersSettled changed.old.items constants.old }
-    requires listed { All (λ other. other.0 < length constants.old) changed.old.items }
-    ensures all { OnOk result (AreAllForgotten constants.old constants.new) }
-    ensures settled { OnOk result (OthersSettled changed.new.items constants.new) }
-    ensures listed { OnOk result (All (λ other. other.0 < length constants.old) changed.new.items) }
-{
-    for place in 0..constants.len() {
-        forget(constants, changed, place)?;
-    }
-    Ok(())
-}
-
-/// Says of the constant at a place that nothing is known of its word.
-fn forget(
-    constants: &mut [Conjuncts],
-    changed: &mut Vec<Serial>,
-    place: usize,
-) -> Result<(), AllocError>
-    requires within { place < length constants.old }
-    requires settled { OthersSettled changed.old.items constants.old }
-    requires listed { All (λ other. other.0 < length constants.old) changed.old.items }
-    ensures put { OnOk result
-        (IsChangedAt constants.old constants.new place (forgotten (conjoined_at constants.old place))) }
-    ensures settled { OnOk result (OthersSettled changed.new.items constants.new) }
-    ensures listed { OnOk result (All (λ other. other.0 < length constants.old) changed.new.items) }
-{
-    let conjuncts = &mut constants[place];
-    if conjuncts.is_settled() {
-        changed.push(Serial(place as u64))?;
-    }
-    conjuncts.forget();
-    Ok(())
 }
 
 /// The constant without a word, where it is not this one.
@@ -649,50 +583,4 @@ fn keep_root(roots: &mut Vec<Option<RegexId>>, places: &[usize], root: RegexId)
         return;
     };
     roots[*place] = Some(root);
-}
-
-/// Words for so many constants, of which those that are new have the empty one.
-fn fill(alloc: Global, words: &mut Vec<Word>, count: usize) -> Result<(), AllocError>
-    requires { length words.old.items ≤ count }
-    ensures { OnOk result (AreFilled count words.old.items words.new.items) }
-{
-    while words.len() < count {
-        words.push(empty_word(alloc)?)?;
-    }
-    Ok(())
-}
-
-fn empty_word(alloc: Global) -> Result<Word, AllocError>
-    ensures { IfOk result (λ word. word ≡ []) }
-{
-    match Word::from_codes(alloc, &[]) {
-        Ok(word) => Ok(word),
-        Err(_) => Err(AllocError),
-    }
-}
-
-/// Gives each constant of which something was found its word. Takes no memory.
-fn take_over(constants: &mut [Conjuncts], words: &mut [Word], mut found: Vec<Found>)
-    requires long { length words.old ≡ length constants.old }
-    requires within { All (λ one. one.serial.0 < length constants.old) found.items }
-    ensures { (rs : List Regex) (ms : List (Option Member))
-        → IsTakingOver rs ms constants.old constants.old words.old found.items
-        → IsTakingOver rs ms constants.old constants.new words.new [] }
-{
-    while let Some(one) = found.pop() {
-        let place = one.serial.0 as usize;
-        constants[place].settle();
-        put_word(words, place, one.word);
-    }
-}
-
-/// Puts a word at a place, if there is one.
-fn put_word(words: &mut [Word], place: usize, word: Option<Word>)
-    requires { place < length words.old }
-    ensures { words.new ≡ with_word words.old place word }
-{
-    let Some(word) = word else {
-        return;
-    };
-    words[place] = word;
 }

@@ -55,6 +55,7 @@ returns-then-not-branch c =
           c.table-table.ensures c.assertions-assertions.ensures.value
           (c.in_ok-take_one.ensures.outside c.if-not-branch.true);
       named = c.assertions-assertions.ensures.named;
+      fit = c.declared.ensures.fit;
       extends = extends_more c.args.self.now.arena c.loop-assertions.self.arena c.take_one.new.self.arena before.2
           c.in_ok-take_one.ensures.extends;
       graph = c.in_ok-take_one.ensures.graph ∙ before.3;
@@ -88,6 +89,7 @@ returns c =
       );
       outside = λ t. absurd (false≢true (sym t));
       named = c.assertions-assertions.ensures.named;
+      fit = c.declared.ensures.fit;
       extends = now.2;
       graph = now.3;
     }
@@ -100,6 +102,7 @@ returns-in_err-make_room c =
       all = IfOk-from_err x.result _ x.ensures.0;
       outside = IfOk-from_err x.result _ x.ensures.0;
       named = IfOk-from_err x.result _ x.ensures.0;
+      fit = IfOk-from_err x.result _ x.ensures.0;
       extends = IfOk-from_err x.result _ x.ensures.0;
       graph = IfOk-from_err x.result _ x.ensures.0;
     }
@@ -112,6 +115,7 @@ returns-in_err-take_one c =
       all = IfOk-from_err x.result _ x.ensures.0;
       outside = IfOk-from_err x.result _ x.ensures.0;
       named = IfOk-from_err x.result _ x.ensures.0;
+      fit = IfOk-from_err x.result _ x.ensures.0;
       extends = IfOk-from_err x.result _ x.ensures.0;
       graph = IfOk-from_err x.result _ x.ensures.0;
     }

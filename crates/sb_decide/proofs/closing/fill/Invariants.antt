@@ -1,6 +1,6 @@
 use Rattle.std.proofs.Common.{◌-◌, length}
 use Rattle.sb_decide.proofs.Constants.{Filling}
-use Rattle.sb_decide.proofs.decide.fill.Given as goal
+use Rattle.sb_decide.proofs.closing.fill.Given as goal
 
 abbrev pub invariant-loop-alloc : goal.invariant-loop-alloc
 invariant-loop-alloc l = Filling l.fn.words.items l.words.items l.fn.count

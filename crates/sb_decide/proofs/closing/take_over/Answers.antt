@@ -2,7 +2,7 @@ use Rattle.std.proofs.Common.{length, ap, set, ◌∙◌, arith}
 use Rattle.std.proofs.lemmas.List.{length-set}
 use Rattle.sb_decide.proofs.KeptWords.{length-with_word}
 use Rattle.sb_decide.proofs.TakingOver.{goes_on, front_within, last_within, no_items, over_all, settles}
-use Rattle.sb_decide.proofs.decide.take_over.Goals as goal
+use Rattle.sb_decide.proofs.closing.take_over.Goals as goal
 
 pub put_word-requires : goal.put_word-requires
 put_word-requires c =

@@ -1,7 +1,7 @@
 use Rattle.std.proofs.Common.{◌<◌, length, arith}
 use Rattle.std.proofs.lemmas.Bool.Decides.{nat_tests}
 use Rattle.sb_decide.proofs.Constants.{filling_more}
-use Rattle.sb_decide.proofs.decide.fill.Goals as goal
+use Rattle.sb_decide.proofs.closing.fill.Goals as goal
 
 pub loop-alloc-preserved : goal.loop-alloc-preserved
 loop-alloc-preserved c =

@@ -1,6 +1,6 @@
 use Rattle.std.proofs.Common.{sym, ap}
 use Rattle.sb_decide.specs.Taking.{with_word}
-use Rattle.sb_decide.proofs.decide.put_word.Goals as goal
+use Rattle.sb_decide.proofs.closing.put_word.Goals as goal
 
 pub returns-in_default : goal.returns-in_default
 returns-in_default c = sym (ap (with_word c.args.words.now c.args.place) c.in_default.is)

@@ -3,7 +3,7 @@ use Rattle.std.specs.List.{All}
 use Rattle.sb_lang.specs.Regex.{Regex}
 use Rattle.sb_decide.specs.declared.conjuncts.Member.{Member}
 use Rattle.sb_decide.specs.Taking.{IsTakingOver}
-use Rattle.sb_decide.proofs.decide.take_over.Given as goal
+use Rattle.sb_decide.proofs.closing.take_over.Given as goal
 
 abbrev pub invariant-loop-one : goal.invariant-loop-one
 invariant-loop-one l =

@@ -1,0 +1,21 @@
+use Rattle.std.proofs.Common.{◌++◌, ap, ◌∙◌}
+use Rattle.sb_decide.specs.Speaking.{places_of_all}
+use Rattle.sb_decide.proofs.Questions.{gathered_next, gathered_done}
+use Rattle.sb_decide.proofs.decide.Decider.asked.Goals as goal
+
+pub loop-serial-init : goal.loop-serial-init
+loop-serial-init c =
+    ap (λ ps. ps ++ places_of_all c.args.self.now.constants.items c.args.serials.now)
+    (c.in_ok-places.ensures.items ∙ c.as_slice.ensures.value)
+
+pub loop-serial-preserved : goal.loop-serial-preserved
+loop-serial-preserved c =
+    gathered_next c.args.self.now.constants.items c.loop-serial.places.items c.extend_from_slice.new.self.items
+    c.places.result.now _ c.args.serials.now c.loop-serial.serial-index _ c.loop-serial-test.true
+    c.places.ensures.value c.in_ok-extend_from_slice.ensures.items c.loop-serial.invariant
+
+pub returns : goal.returns
+returns c =
+    gathered_done c.args.self.now.constants.items c.loop-serial.places.items c.sort_unstable.new.self.items _
+    c.args.serials.now c.loop-serial.serial-index c.loop-serial-test.false c.loop-serial.invariant
+    c.sort_unstable.ensures.permutation

@@ -1,0 +1,71 @@
+use Rattle.std.proofs.Common.{length, refl, sym, ap, ◌∙◌, arith}
+use Rattle.std.proofs.lemmas.Result.{IfOk-from_err}
+use Rattle.sb_decide.specs.Conjoined.{conjoined_at, is_settled}
+use Rattle.sb_decide.proofs.ModelWords.{closed_of, knows_through, put_over, settled_over}
+use Rattle.sb_decide.proofs.decide.Decider.close.Goals as goal
+
+pub put_found-requires : goal.put_found-requires
+put_found-requires c =
+    let o = c.in_ok-words.ensures.over in
+    record {
+      long = ap length c.deref_mut-2.ensures.value ∙ o.over.long ∙ sym o.over.same_length
+          ∙ sym (ap length c.deref_mut.ensures.value);
+      few = omega (
+        arith,
+        c.requires.few,
+        c.requires.ready.all.1,
+        o.over.same_length,
+        ap length c.deref_mut.ensures.value,
+      );
+      settled = λ n h.
+          ap (λ cs. is_settled (conjoined_at cs n)) c.deref_mut.ensures.value ∙ o.over.settled n refl;
+      listed = λ k d l. absurd (omega (arith, l, ap length o.nothing));
+    }
+
+pub returns-in_err-words : goal.returns-in_err-words
+returns-in_err-words c =
+    let x = c.from_residual in
+    record {
+      closed = IfOk-from_err x.result _ x.ensures.0;
+      knows = IfOk-from_err x.result _ x.ensures.0;
+      taken = IfOk-from_err x.result _ x.ensures.0;
+      rest = c.take_found.ensures.rest;
+      arena = c.take_found.ensures.arena;
+      graph = c.take_found.ensures.graph;
+    }
+
+pub returns-in_err-put_found : goal.returns-in_err-put_found
+returns-in_err-put_found c =
+    let x = c.from_residual-in_err-put_found in
+    record {
+      closed = IfOk-from_err x.result _ x.ensures.0;
+      knows = IfOk-from_err x.result _ x.ensures.0;
+      taken = IfOk-from_err x.result _ x.ensures.0;
+      rest = c.take_found.ensures.rest;
+      arena = c.take_found.ensures.arena;
+      graph = c.take_found.ensures.graph;
+    }
+
+pub returns : goal.returns
+returns c =
+    let o = c.in_ok-words.ensures.over in
+    let self = c.take_found.new.self in
+    let e = c.in_ok-put_found.ensures in
+    let put = put_over self.constants c.in_ok-words.words c.deref_mut.result.now c.put_found.new.constants
+    c.deref_mut-2.result.now c.put_found.new.words c.args.found.items c.deref_mut.ensures.value
+    c.deref_mut-2.ensures.value e.put in
+    let settled = settled_over self.constants c.deref_mut.result.now c.put_found.new.constants c.deref_mut-2.result.now
+    c.put_found.new.words c.args.found.items c.put_found.new.changed.items c.deref_mut.ensures.value e.put e.settled in
+    record {
+      closed = closed_of c.normal_has_terms_words.ensures c.args.self.now c.args.stack.now self.constants.items _
+          c.in_ok-words.words.items _ c.args.found.items c.requires.ready o.over put c.requires.characters;
+      knows = λ truths.
+          knows_through c.args.self.now self c.args.stack.now c.take_found.new.stack c.put_found.new.changed
+          c.in_ok-words.words c.put_found.new.constants c.put_found.new.words c.args.found.items truths
+          c.requires.ready o c.in_ok-words.ensures.taken put c.requires.characters settled
+          (λ k d l. let one = e.listed k d l in omega (arith, one, ap length c.deref_mut.ensures.value));
+      taken = c.in_ok-words.ensures.taken;
+      rest = c.take_found.ensures.rest;
+      arena = c.take_found.ensures.arena;
+      graph = c.take_found.ensures.graph;
+    }
