@@ -1,32 +1,24 @@
--- A term that demands something of one constant's word: what it looks like, and its literal.
-use Rattle.std.proofs.Common.{◌≡◌, ℕ, Bool, true, false, ◌&&◌, if◌then◌else◌, List, [], ◌∷◌, Option, Some, None, option_map, refl, sym, ap, ◌∙◌}
-use Rattle.std.specs.Prelude.{option_and_then}
-use Rattle.std.specs.List.{position_from}
+-- A term that demands something of one constant's word: what it looks like, and when it is true.
+use Rattle.std.proofs.Common.{◌≡◌, ℕ, Bool, true, false, not, ◌&&◌, List, [], ◌∷◌, Option, Some, None, option_map, refl, sym, ap, ◌∙◌}
 use Rattle.std.proofs.lemmas.Bool.{and_parts, and_from}
 use Rattle.std.proofs.lemmas.Option.{none-some, same_Some}
-use Rattle.sb_facts.proofs.CallerLemmas.{some-none}
-use Rattle.sb_lit.specs.Clauses.{negation}
-use Rattle.sb_lit.specs.declared.clause.Lit.{Lit}
-use Rattle.sb_lang.specs.Normal.{normal}
-use Rattle.sb_lang.specs.OrderLaws.{OrderTellsApart}
-use Rattle.sb_lang.specs.RegLan.{RegLan}
-use Rattle.sb_meaning.specs.Terms.{Term, text, constant, apply, no_terms, with_term}
+use Rattle.std.proofs.Math.Bool.{and-true}
+use Rattle.sb_lang.specs.Membership.{in_re}
+use Rattle.sb_lang.specs.RegLan.{RegLan, re_comp}
+use Rattle.sb_meaning.specs.Terms.{Sort, Term, text, apply, no_terms, with_term}
 use Rattle.sb_meaning.specs.Terms as symbol
-use Rattle.sb_meaning.specs.Truth.{meaning_of, means_reglan}
-use Rattle.sb_script.specs.Brought.{asked, is_regex, is_structure}
+use Rattle.sb_meaning.specs.Truth.{Meaning, means_word, means_number, means_truth, means_reglan, all_true, truth_in, applied, meaning_of, holds}
+use Rattle.sb_meaning.specs.Values.{Valuation, Text, value_in}
+use Rattle.sb_script.specs.Brought.{asked, membership_of, is_regex, is_structure}
 use Rattle.sb_script.specs.Fragment.{fits}
-use Rattle.sb_script.specs.Pieces.{constant_piece}
 use Rattle.sb_script.specs.Sizes.{is_regular}
 use Rattle.sb_script.specs.State.{asserted}
+use Rattle.sb_script.proofs.CallerLemmas.{IsAsking, a_membership, a_word_behind, a_word_in_front, asked_looks, asked_holds}
 use Rattle.sb_fragment.specs.Rules.{is_decided}
 use Rattle.sb_fragment.proofs.CallerLemmas.{asked_decided}
-use Rattle.sb_rulebook.specs.Atoms.{Atom, in_atom, is_same_atom}
-use Rattle.sb_rulebook.specs.Parts.{regex_of, together}
-use Rattle.sb_rulebook.specs.Translation.{translation, membership, positive, negated, only_one}
-use Rattle.sb_rulebook.proofs.CallerLemmas.{atom_itself, asked_translation}
-use Rattle.sb_atoms.specs.Translated.{brought_translation, HasNoLiteral}
+use Rattle.sb_stack.specs.Speaking.{is_one_of, speaks_of}
 use Rattle.sb_decide.specs.Demands.{negation_of, complement_of, demanded}
-use Rattle.sb_prover.proofs.Meant.{meant, wanted}
+use Rattle.sb_prover.proofs.Meant.{wanted, wanted-reglan}
 
 -- that a term is true, or that it is not
 abbrev said : Bool → Term → Term
@@ -77,71 +69,60 @@ decided-parts t serial E d h =
     (sym (asked_decided d.term serial d.expression d.asks)
     ∙ decided-said d.sign d.term (ap (λ u. is_decided (asserted u)) (sym d.is) ∙ h))
 
--- Its literal.
+-- The constant is one of those of which it speaks.
 
--- the literal itself, or its negation
-abbrev pub signed : Bool → Option Lit → Option Lit
-signed true o = o
-signed false o = negated o
+asking-speaks : (cs : List (ℕ × Sort)) (t : Term) (serial : ℕ) (R : Term) → asked t ≡ Some (serial, R)
+    → speaks_of cs t ≡ true → is_one_of cs serial text ≡ true
+asking-speaks cs t serial R asks named = step (asked_looks t serial R asks)
+  where
+    step : IsAsking serial t R → is_one_of cs serial text ≡ true
+    step (a_membership is) =
+        (and_parts (is_one_of cs serial text) (speaks_of cs R && true) (sym (ap (speaks_of cs) is) ∙ named)).0
+    step (a_word_behind w is S) =
+        (and_parts (is_one_of cs serial text) true (sym (ap (speaks_of cs) is) ∙ named)).0
+    step (a_word_in_front w is S) =
+        (and_parts (is_one_of cs serial text) true (sym (ap (speaks_of cs) is) ∙ named)).0
 
-alone : (o : Option Lit) → option_and_then only_one (together (o ∷ [])) ≡ o
-alone None = refl
-alone (Some l) = refl
+said-speaks : (cs : List (ℕ × Sort)) (b : Bool) (t : Term) → speaks_of cs (said b t) ≡ true → speaks_of cs t ≡ true
+said-speaks cs true t h = h
+said-speaks cs false t h = (and_parts (speaks_of cs t) true h).0
 
-translation-said : (atoms : List Atom) (b : Bool) (u : Term)
-    → translation atoms (said b u) ≡ signed b (translation atoms u)
-translation-said atoms true u = refl
-translation-said atoms false u = ap negated (alone (translation atoms u))
+pub demanded-speaks : (cs : List (ℕ × Sort)) (t : Term) (serial : ℕ) (E : Term) → IsDemanding serial t E
+    → speaks_of cs t ≡ true → is_one_of cs serial text ≡ true
+demanded-speaks cs t serial E d named =
+    asking-speaks cs d.term serial d.expression d.asks
+    (said-speaks cs d.sign d.term (sym (ap (speaks_of cs) d.is) ∙ named))
 
-of-membership : (atoms : List Atom) (serial : ℕ) (R : Term) (r : RegLan) → is_regular R ≡ true
-    → meaning_of [] R ≡ means_reglan r
-    → membership atoms (constant serial text) (regex_of R)
-    ≡ positive atoms (in_atom (constant_piece serial ∷ []) (normal r))
-of-membership atoms serial R r regular means = rw (regular, means) refl
+-- Its truth.
 
-pub literal-of : (atoms : List Atom) (t : Term) (serial : ℕ) (E : Term) (r : RegLan) → (d : IsDemanding serial t E)
-    → is_decided (asserted t) ≡ true → meaning_of [] d.expression ≡ means_reglan r
-    → brought_translation atoms t
-    ≡ signed d.sign (positive atoms (in_atom (constant_piece serial ∷ []) (normal r)))
-literal-of atoms t serial E r d decided means =
-    ap (λ (b : Bool). if b then translation atoms t else None) (and_parts (is_structure t) (fits t) decided).0
-    ∙ ap (translation atoms) d.is
-    ∙ translation-said atoms d.sign d.term
-    ∙ ap (signed d.sign)
-    (asked_translation d.term serial d.expression d.asks atoms
-    ∙ of-membership atoms serial d.expression r (decided-parts t serial E d decided).1 means)
+membership-holds : (v : Valuation) (serial : ℕ) (R : Term) (r : RegLan) (w : List ℕ) → meaning_of v R ≡ means_reglan r
+    → value_in v serial text ≡ Text w → holds (membership_of serial R) v ≡ in_re r w
+membership-holds v serial R r w means value = rw (means, value) (and-true (in_re r w))
 
-first-there : (test : Atom → Bool) (a : Atom) → test a ≡ true → position_from test 0 (a ∷ []) ≡ Some 0
-first-there test a h = rw h refl
+denied-holds : (m : Meaning) → all_true (truth_in (applied symbol.core_not (m ∷ []))) ≡ not (all_true (truth_in m))
+denied-holds (means_word w) = refl
+denied-holds (means_number n) = refl
+denied-holds (means_truth true) = refl
+denied-holds (means_truth false) = refl
+denied-holds (means_reglan R) = refl
 
-some-signed : (b : Bool) (l : Lit) → (m : Lit) × (signed b (Some l) ≡ Some m)
-some-signed true l = (l, refl)
-some-signed false l = (negation l, refl)
+in-complement : (r : RegLan) (w : List ℕ) → in_re (re_comp r) w ≡ not (in_re r w)
+unfolding in_re
+in-complement r w = refl
 
--- there is one over some table
-pub has-literal : OrderTellsApart → (t : Term) (serial : ℕ) (E : Term) → IsDemanding serial t E
-    → is_decided (asserted t) ≡ true → HasNoLiteral t → ⊥
-has-literal apart t serial E d decided none =
-    let parts = decided-parts t serial E d decided in
-    let m = meant d.expression parts.0 parts.1 in
-    let only : Atom = in_atom (constant_piece serial ∷ []) (normal m.reglan) in
-    let some = some-signed d.sign (record { atom = 0; positive = true }) in
-    some-none some.0
-    (sym (literal-of (only ∷ []) t serial E m.reglan d decided (m.means [])
-    ∙ ap (λ (o : Option ℕ). signed d.sign (option_map (λ (n : ℕ). record { atom = n; positive = true }) o))
-    (first-there (is_same_atom only) only (atom_itself apart only))
-    ∙ some.1)
-    ∙ none (only ∷ []))
+said-holds : (b : Bool) (v : Valuation) (t : Term) (serial : ℕ) (R : Term) (r : RegLan) (w : List ℕ)
+    → asked t ≡ Some (serial, R) → meaning_of v R ≡ means_reglan r → value_in v serial text ≡ Text w
+    → holds (said b t) v ≡ in_re (wanted-reglan b r) w
+said-holds true v t serial R r w asks means value =
+    asked_holds t serial R asks v ∙ membership-holds v serial R r w means value
+said-holds false v t serial R r w asks means value =
+    denied-holds (meaning_of v t)
+    ∙ ap not (asked_holds t serial R asks v ∙ membership-holds v serial R r w means value)
+    ∙ sym (in-complement r w)
 
--- the number of its atom, and its sign
-pub literal-parts : (b : Bool) (o : Option ℕ) (l : Lit)
-    → signed b (option_map (λ (n : ℕ). record { atom = n; positive = true }) o) ≡ Some l
-    → (o ≡ Some l.atom) × (l.positive ≡ b)
-literal-parts true None l h = absurd (none-some l h)
-literal-parts false None l h = absurd (none-some l h)
-literal-parts true (Some n) l h =
-    let same = same_Some (record { atom = n; positive = true }) l h in
-    (ap (λ (m : Lit). Some m.atom) same, sym (ap (λ (m : Lit). m.positive) same))
-literal-parts false (Some n) l h =
-    let same = same_Some (record { atom = n; positive = false }) l h in
-    (ap (λ (m : Lit). Some m.atom) same, sym (ap (λ (m : Lit). m.positive) same))
+-- it is true where the constant's word is in what is demanded
+pub demanded-holds : (v : Valuation) (t : Term) (serial : ℕ) (E : Term) (r : RegLan) (w : List ℕ)
+    → (d : IsDemanding serial t E) → meaning_of v d.expression ≡ means_reglan r → value_in v serial text ≡ Text w
+    → holds t v ≡ in_re (wanted-reglan d.sign r) w
+demanded-holds v t serial E r w d means value =
+    ap (λ u. holds u v) d.is ∙ said-holds d.sign v d.term serial d.expression r w d.asks means value

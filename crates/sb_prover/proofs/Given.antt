@@ -1,6 +1,6 @@
--- Where the live assertions are true of words and truth values of some constants, a check may give these values, with
--- the empty word for each other constant.
-use Rattle.std.proofs.Common.{◌≡◌, ℕ, zero, suc, ◌<◌, Bool, true, false, not, ◌||◌, ◌==◌, if◌then◌else◌, List, [], ◌∷◌, length, slice_get, Option, Some, None, refl, sym, ap, ◌∙◌, arith}
+-- Where the live assertions that a search was asked about are true of words and truth values of their constants, a
+-- check may give these values, with the words that memberships give each other constant.
+use Rattle.std.proofs.Common.{◌≡◌, ◌⊎◌, ℕ, zero, suc, ◌<◌, Bool, true, false, not, ◌||◌, ◌==◌, if◌then◌else◌, List, [], ◌∷◌, length, slice_get, Option, Some, None, inl, inr, refl, sym, ap, subst, ◌∙◌, arith}
 use Rattle.std.specs.Prelude.{Contains, is_some}
 use Rattle.std.specs.List.{list_any}
 use Rattle.std.proofs.lemmas.Bool.{false≢true, and_from, or_left, or_right, eqb-true}
@@ -12,11 +12,13 @@ use Rattle.sb_meaning.specs.Truth.{holds, all_hold}
 use Rattle.sb_script.specs.Models.{occurs, is_default, is_default_or_occurs, are_defaults, is_plain, IsGiven}
 use Rattle.sb_script.specs.Scopes.{Constant}
 use Rattle.sb_script.specs.State.{Assertion, asserted, a_mark, terms_in, live, live_terms, constants_of, fits}
-use Rattle.sb_stack.specs.Stacked.{Stacked, state_of, live_constants, value_at, values_at, are_words, assertion_in}
+use Rattle.sb_stack.specs.Stacked.{Stacked, state_of, live_constants, value_at, values_at, assertion_in}
 use Rattle.sb_stack.proofs.CallerLemmas.{live_laid}
-use Rattle.sb_solve.specs.Solved.{AreIn, AreTrueAt, OccursAt}
-use Rattle.sb_solve.specs.Values.{truth_in, word_in, word_or_empty, word_there, is_valued}
-use Rattle.sb_prover.specs.Filled.{IsFilled}
+use Rattle.sb_decide.specs.declared.decide.Decider.{Decider}
+use Rattle.sb_decide.specs.Places.{asks_of}
+use Rattle.sb_decide.specs.Ready.{IsAbout, OccursNowhereAt, IsQuestion, IsClosed}
+use Rattle.sb_solve.specs.Solved.{AreTrueAt, OccursAt}
+use Rattle.sb_solve.specs.Values.{truth_in, word_in, word_there, is_valued}
 
 -- Values by default.
 
@@ -96,27 +98,43 @@ not_true : (b : Bool) → (b ≡ true → ⊥) → b ≡ false
 not_true true h = absurd (h refl)
 not_true false h = refl
 
--- the words that were filled up are those that are there
-are_in : (words : List (Option (List ℕ))) (full : List (List ℕ)) → IsFilled words full → AreIn words full
-are_in words full filled = λ serial word there. filled serial ∙ ap word_or_empty there
+-- a constant has neither where it is not among those that are valued
+unvalued_at : (words : List (Option (List ℕ))) (truths : List Bool) (n : ℕ) → (is_valued words truths n ≡ true → ⊥)
+    → (word_there words n ≡ None) × (truth_in truths n ≡ false)
+unvalued_at words truths n none =
+    unvalued (word_there words n) (truth_in truths n) (not_true (is_valued words truths n) none)
 
--- where the search was asked about all live assertions, and one of them is no membership of one constant
-pub given_by : (s : Stacked) (places : List ℕ) (words : List (Option (List ℕ))) (truths : List Bool)
-    (full : List (List ℕ)) → fits (constants_of (state_of s)) (values_at (live_constants s) full truths) ≡ true
-    → ((place : ℕ) → place < length s.assertions → Contains places place) → is_plain (state_of s) ≡ false
-    → are_words full ≡ true → IsFilled words full → AreTrueAt s places words truths
-    → IsGiven (state_of s) [] (values_at (live_constants s) full truths)
-given_by s places words truths full fitting all not_plain characters filled h = record {
-  model = and_from (fits (constants_of (state_of s)) (values_at (live_constants s) full truths))
-      (all_hold (live_terms (state_of s)) (values_at (live_constants s) full truths)) fitting
-      (all_live (values_at (live_constants s) full truths) (live (state_of s))
-      (λ place t there. h.hold full characters (are_in words full filled) place t
-      (all place (within place (asserted t) there)) there));
-  defaults = defaults_are (constants_of (state_of s)) (live_terms (state_of s)) (live_constants s) full truths
+-- where it occurs nowhere at the places
+nowhere_there : (s : Stacked) (places : List ℕ) (n : ℕ) → OccursNowhereAt s places n → OccursAt s places n → ⊥
+nowhere_there s places n nowhere o = false≢true (sym (nowhere o.place o.term o.listed o.stands) ∙ o.there)
+
+-- where it occurs in no live term
+none_there : (s : Stacked) (places : List ℕ) (n : ℕ) → list_any (occurs n) (live_terms (state_of s)) ≡ false
+    → OccursAt s places n → ⊥
+none_there s places n none o =
+    false≢true (sym none ∙ any_live (occurs n) (live (state_of s)) o.place o.term o.stands o.there)
+
+-- the assertion about a constant alone is the one that stands at the place
+about_this : (s : Stacked) (place n : ℕ) (t : Term) → IsAbout s place n
+    → slice_get (live (state_of s)) place ≡ Some (asserted t) → asks_of n t ≡ true
+about_this s place n t a there =
+    subst (λ (u : Term). asks_of n u ≡ true)
+    (same_term a.term t (same_Some (asserted a.term) (asserted t) (sym a.there ∙ there))) a.asks
+
+-- where a search was asked about the assertions at these places, and not each live one is a membership of one constant
+pub given_by : (kept : Decider) (s : Stacked) (places : List ℕ) (found : List (Option (List ℕ))) (truths : List Bool)
+    (words : List (List ℕ)) → fits (constants_of (state_of s)) (values_at (live_constants s) words truths) ≡ true
+    → is_plain (state_of s) ≡ false → IsQuestion s places → IsClosed kept s found words
+    → AreTrueAt s places found truths → IsGiven (state_of s) [] (values_at (live_constants s) words truths)
+given_by kept s places found truths words fitting not_plain question closed h = record {
+  model = and_from (fits (constants_of (state_of s)) (values_at (live_constants s) words truths))
+      (all_hold (live_terms (state_of s)) (values_at (live_constants s) words truths)) fitting
+      (all_live (values_at (live_constants s) words truths) (live (state_of s))
+      (λ place t there. true_at place t there (question.rest place (within place (asserted t) there))));
+  defaults = defaults_are (constants_of (state_of s)) (live_terms (state_of s)) (live_constants s) words truths
       (λ n none.
-      let o = unvalued (word_there words n) (truth_in truths n)
-      (not_true (is_valued words truths n) (λ valued. false≢true (sym none ∙ occurring n (h.occur n valued)))) in
-      (filled n ∙ ap word_or_empty o.0, o.1));
+      let o = unvalued_at found truths n (λ valued. none_there s places n none (h.occur n valued)) in
+      (closed.defaults n o.0 none, o.1));
   least = λ plain. absurd (false≢true (sym not_plain ∙ plain));
 }
   where
@@ -125,5 +143,11 @@ given_by s places words truths full fitting all not_plain characters filled h = 
         let low = slice_get_within (live (state_of s)) place a there in
         omega (arith, low, ap length (live_laid s), length-map s.assertions (assertion_in s.table))
 
-    occurring : (n : ℕ) → OccursAt s places n → list_any (occurs n) (live_terms (state_of s)) ≡ true
-    occurring n o = any_live (occurs n) (live (state_of s)) o.place o.term o.stands o.there
+    true_at : (place : ℕ) (t : Term) → slice_get (live (state_of s)) place ≡ Some (asserted t)
+        → Contains places place ⊎ ((n : ℕ) × IsAbout s place n × OccursNowhereAt s places n)
+        → holds t (values_at (live_constants s) words truths) ≡ true
+    true_at place t there (inl listed) = h.hold words closed.characters closed.given place t listed there
+    true_at place t there (inr other) =
+        let none = unvalued_at found truths other.0
+        (λ valued. nowhere_there s places other.0 other.2 (h.occur other.0 valued)) in
+        closed.demands other.0 place t truths none.0 there (about_this s place other.0 t other.1 there)

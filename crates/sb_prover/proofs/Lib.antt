@@ -7,13 +7,11 @@ mod SatValues
 mod Growing
 mod Proved
 mod Refutations
-mod ClaimedPlaces
 mod Meant
 mod Demanding
-mod Claims
+mod NoWord
 mod Leaving
 mod TrueEvidence
 mod FitSteps
 mod Solutions
-mod FilledWords
 mod Given

@@ -1,19 +1,11 @@
 -- The live assertions with their levels.
-use Rattle.std.proofs.Common.{◌≡◌, ℕ, zero, suc, ◌+◌, Bool, true, false, ◌==◌, List, [], ◌∷◌, ◌++◌, map, length, take, drop, replicate, Option, Some, None, option_map, refl, sym, ap, ap₂, ◌∙◌, arith}
-use Rattle.std.specs.List.{list_all}
+use Rattle.std.proofs.Common.{◌≡◌, ℕ, zero, suc, ◌+◌, Bool, true, false, List, [], ◌∷◌, ◌++◌, map, length, take, drop, replicate, Option, Some, None, refl, sym, ap, ap₂, ◌∙◌, arith}
 use Rattle.std.proofs.Math.Seq.{take-append_seam}
-use Rattle.std.proofs.lemmas.Bool.{and_parts}
-use Rattle.std.proofs.lemmas.List.{append-nil, append_assoc, map-append, take-map, drop-map, take-append-drop, length-map}
-use Rattle.sb_facts.proofs.CallerLemmas.{same_number}
+use Rattle.std.proofs.lemmas.List.{append-nil, append_assoc, map-append, length-map}
 use Rattle.sb_meaning.specs.Terms.{Term}
-use Rattle.sb_term.specs.Numbered.{term_at}
-use Rattle.sb_term.specs.declared.assertion.Assertion as code
 use Rattle.sb_script.specs.Scopes.{Naming}
-use Rattle.sb_script.specs.State.{Assertion, Level, empty_level, over_levels, in_level, in_level_of_names, live}
-use Rattle.sb_rulebook.specs.Accepted.{term_of, at_level, live_by_level, asked_in}
-use Rattle.sb_sorts.specs.Scopes.{names_in}
-use Rattle.sb_stack.specs.declared.level.Level as levels
-use Rattle.sb_stack.specs.Stacked.{Stacked, state_of, assertion_of, assertion_in, front_names, first_level, levels_above, have_levels}
+use Rattle.sb_script.specs.State.{Assertion, Level, empty_level, over_levels, in_level, in_level_of_names}
+use Rattle.sb_rulebook.specs.Accepted.{term_of, at_level, live_by_level}
 use Rattle.sb_prover.specs.Proving.{AreLow, level_at, LevelsStay}
 
 abbrev pub Row : Type 0
@@ -137,55 +129,3 @@ more-behind (x ∷ live) more (suc place) n h = more-behind live more place n h
 
 pub levels-stay : LevelsStay
 levels-stay live more e h place a there = more-behind live more place a.level (h place a there)
-
--- By the levels that are kept with assertions.
-
--- the assertion's term and its level
-abbrev pub row_of : List Term → code.Assertion → Row
-row_of ts a = (option_map (term_at ts) a.term, a.level)
-
-term-as : (ts : List Term) (t : Option ℕ) → term_of (assertion_of ts t) ≡ option_map (term_at ts) t
-term-as ts None = refl
-term-as ts (Some id) = refl
-
-rows-at : (ts : List Term) (n : ℕ) (xs : List code.Assertion) → list_all (λ a. a.level == n) xs ≡ true
-    → at_level n (map (assertion_in ts) xs) ≡ map (row_of ts) xs
-rows-at ts n [] h = refl
-rows-at ts n (a ∷ xs) h =
-    let parts = and_parts (a.level == n) (list_all (λ a. a.level == n) xs) h in
-    ap₂ (λ row rows. row ∷ rows) (ap₂ (λ t m. (t, m)) (term-as ts a.term) (same_number a.level n parts.0))
-    (rows-at ts n xs parts.1)
-
-levels-kept : (global : Bool) (ls : List levels.Level) (names : List Naming) (xs : List Assertion)
-    → length (levels_above global ls names xs) ≡ length ls
-levels-kept global [] names xs = refl
-levels-kept global (l ∷ ls) names xs =
-    ap suc (levels-kept global ls (front_names global l.names names) (take l.assertions xs))
-
-next-level : (global : Bool) (ls : List levels.Level) (names : List Naming) (xs : List Assertion)
-    → length (levels_above global ls names xs) + 1 ≡ suc (length ls)
-next-level global ls names xs = let kept = levels-kept global ls names xs in omega (arith, kept)
-
-rows-by-level : (global : Bool) (ts : List Term) (ls : List levels.Level) (names : List Naming)
-    (xs : List code.Assertion) → have_levels ls xs ≡ true
-    → live_by_level (first_level global ls names (map (assertion_in ts) xs))
-    (levels_above global ls names (map (assertion_in ts) xs)) ≡ map (row_of ts) xs
-rows-by-level global ts [] names xs h = rows-at ts 0 xs h
-rows-by-level global ts (l ∷ ls) names xs h =
-    let front : List Naming = front_names global l.names names in
-    let parts = and_parts (list_all (λ a. a.level == suc (length ls)) (drop l.assertions xs))
-    (have_levels ls (take l.assertions xs)) h in
-    ap₂ (λ a b. a ++ b)
-    (ap (λ ys. live_by_level (first_level global ls front ys) (levels_above global ls front ys))
-    (take-map (assertion_in ts) l.assertions xs)
-    ∙ rows-by-level global ts ls front (take l.assertions xs) parts.1)
-    (ap₂ (λ m ys. at_level m ys)
-    (next-level global ls front (take l.assertions (map (assertion_in ts) xs)))
-    (drop-map (assertion_in ts) l.assertions xs)
-    ∙ rows-at ts (suc (length ls)) (drop l.assertions xs) parts.0)
-    ∙ (sym (map-append (row_of ts) (take l.assertions xs) (drop l.assertions xs))
-    ∙ ap (map (row_of ts)) (take-append-drop l.assertions xs))
-
-pub live-rows : (s : Stacked) → have_levels s.levels s.assertions ≡ true
-    → (asked_in (state_of s)).live ≡ map (row_of s.table) s.assertions
-live-rows s h = rows-by-level s.scope.global s.table s.levels (names_in s.table s.scope) s.assertions h

@@ -1,12 +1,9 @@
 -- What a regular expression over literals means: the same one under every valuation, and its complement the complement.
-use Rattle.std.proofs.Common.{◌≡◌, Bool, true, false, ◌&&◌, nat_le, if◌then◌else◌, [], ◌∷◌, refl, sym, ap, ap₂, ◌∙◌}
+use Rattle.std.proofs.Common.{◌≡◌, Bool, true, false, ◌&&◌, nat_le, if◌then◌else◌, [], ◌∷◌, refl, ap, ap₂, ◌∙◌}
 use Rattle.std.specs.List.{flat_map}
 use Rattle.std.proofs.lemmas.Bool.{and_parts, false≢true}
-use Rattle.sb_lang.specs.Constructors.{mknot}
-use Rattle.sb_lang.specs.Normal.{normal}
 use Rattle.sb_lang.specs.RegLan.{RegLan}
 use Rattle.sb_lang.specs.RegLan as reglan
-use Rattle.sb_lang.specs.Regex.{Regex}
 use Rattle.sb_meaning.specs.Terms.{Term, Terms, constant, word, numeral, apply, parameter, no_terms, with_term}
 use Rattle.sb_meaning.specs.Terms as symbol
 use Rattle.sb_meaning.specs.Truth.{Meaning, applied, meaning_of, meanings_of, means_reglan, of_one, reglan_in}
@@ -73,12 +70,3 @@ pub wanted-means : (positive : Bool) (R : Term) (r : RegLan) (v : Valuation) →
 wanted-means true R r v h = h
 wanted-means false R r v h =
     ap (λ (m : Meaning). means_reglan (of_one reglan.re_comp (flat_map reglan_in (m ∷ [])))) h
-
-comp-normal : (r : RegLan) → normal (reglan.re_comp r) ≡ mknot (normal r)
-unfolding normal
-comp-normal r = refl
-
-pub wanted-normal : (positive : Bool) (r : RegLan) (q : Regex) → q ≡ normal r
-    → (if positive then q else mknot q) ≡ normal (wanted-reglan positive r)
-wanted-normal true r q h = h
-wanted-normal false r q h = ap mknot h ∙ sym (comp-normal r)

@@ -21,7 +21,7 @@ use Rattle.sb_trace.specs.Putting.{Puts}
 use Rattle.sb_trace.proofs.CallerLemmas.{puts_none}
 use Rattle.sb_sound.specs.Certified.{SaysVerdict, last_lines}
 use Rattle.sb_refute.specs.Backing.{Backing, Backs}
-use Rattle.sb_refute.specs.declared.refute.Refuted.TheVariants as refuted
+use Rattle.sb_prover.specs.declared.refutation.Refuted.TheVariants as refuted
 use Rattle.sb_solve.proofs.CallerLemmas.{backs-again}
 use Rattle.sb_script.specs.Fragment.{in_fragment}
 use Rattle.sb_prover.specs.Proving.{Proving, IsAbreast, IsProved}
@@ -77,9 +77,9 @@ pub sat-proved : TextIsRead → TextIsOneLine → TextsAreLines → (s : Stacked
 sat-proved law one many s words truths said before rs memo p old begun new verdict is h told told-last =
     let right = sat-said s words truths verdict.0 verdict.1.model in
     let values = values_at (live_constants s) words truths in
-    alone law one many (question_in (state_of s) []) (said_sat (map (said_value words truths) (live_constants s))) (is_sat values)
-    before rs memo p old begun new h told right.small (right.right before.kept) (values, right.valued_as, refl)
-    (told-last ∙ ap (λ said. with_bytes (line (text_of (verdict_line said))) begun) is)
+    alone law one many (question_in (state_of s) []) (said_sat (map (said_value words truths) (live_constants s)))
+    (is_sat values) before rs memo p old begun new h told right.small (right.right before.kept)
+    (values, right.valued_as, refl) (told-last ∙ ap (λ said. with_bytes (line (text_of (verdict_line said))) begun) is)
 
 pub outside-proved : TextIsRead → TextIsOneLine → TextsAreLines → (s : Stacked) (before : Progress) (rs : List Regex)
     (memo : Memo) (p : Proving) (old begun new : Option (List ℕ)) → IsVerdict (state_of s) [] is_outside
@@ -108,8 +108,8 @@ finished rs memo p before old begun new h told told-last = step before.begun p.b
 
 -- Where the live assertions are refuted, or a check may have no more lines.
 
-pub reached-format : (asked : Asked) (before after : AllKept) (old new : Option (List ℕ)) → Puts asked before after old new
-    → before.format ≡ newest_format → after.format ≡ newest_format
+pub reached-format : (asked : Asked) (before after : AllKept) (old new : Option (List ℕ))
+    → Puts asked before after old new → before.format ≡ newest_format → after.format ≡ newest_format
 reached-format asked before after old new puts h = format-stays asked before after puts.lines puts.follow ∙ h
 
 pub unsat-proved : TextIsRead → TextIsOneLine → TextsAreLines → (s : Stacked) (before : Progress) (rs more : List Regex)

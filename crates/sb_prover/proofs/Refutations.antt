@@ -11,11 +11,11 @@ use Rattle.sb_trace.specs.Putting.{IsCounted}
 use Rattle.sb_trace.proofs.CallerLemmas.{puts_none}
 use Rattle.sb_lit.specs.Kept.{Kept, kept_at}
 use Rattle.sb_refute.specs.declared.evidence.EmptyClause.{EmptyClause}
-use Rattle.sb_refute.specs.Backing.{Backing, Backs, Evidences, empty_at}
-use Rattle.sb_refute.specs.Refuting.{IsEmptyAt, IsRefutation}
-use Rattle.sb_refute.specs.declared.refute.Refuted.{Refuted}
-use Rattle.sb_refute.specs.declared.refute.Refuted.TheVariants as refuted
+use Rattle.sb_refute.specs.Backing.{Backing, Backs, Evidences, IsEmptyAt, empty_at}
+use Rattle.sb_prover.specs.declared.refutation.Refuted.{Refuted}
+use Rattle.sb_prover.specs.declared.refutation.Refuted.TheVariants as refuted
 use Rattle.sb_prover.specs.Proving.{Proving}
+use Rattle.sb_prover.specs.Refuting.{IsRefutation}
 use Rattle.sb_prover.specs.Saying.{IsRefuted, SaysRefuted}
 
 -- the empty clause is kept
@@ -69,7 +69,7 @@ pub says-refuted : (asked : Asked) (after : AllKept) (rs : List Regex) (memo : M
     (r : Refuted) → most_counted asked ≡ 2 ^ 64 - 1 → Backs rs memo e after → IsCounted asked after budget
     → IsRefutation e budget r → SaysRefuted asked after r
 says-refuted asked after rs memo e budget (refuted.Clause id) limit backs counts is =
-    says-kept asked after rs memo e id backs is.1
+    says-kept asked after rs memo e id backs is
 says-refuted asked after rs memo e budget refuted.Spent limit backs counts is =
     (limit, counts.spent ∙ is ∙ sym counts.limit ∙ limit)
 

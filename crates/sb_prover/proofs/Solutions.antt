@@ -1,5 +1,7 @@
 -- What a check comes to that the decider left open.
-use Rattle.std.proofs.Common.{◌≡◌, ◌⊎◌, ℕ, ◌<◌, Bool, true, false, List, [], map, length, Option, Some, IfSome, inl, inr, refl, sym, subst, Contains}
+use Rattle.std.proofs.Common.{◌≡◌, ◌⊎◌, ℕ, zero, suc, Bool, true, false, List, [], ◌∷◌, map, length, Option, Some, None, IfSome, inl, inr, refl, sym, ap, subst}
+use Rattle.std.proofs.lemmas.Bool.{and_parts}
+use Rattle.sb_word.specs.Words.{are_characters}
 use Rattle.sb_lang.specs.Regex.{Regex}
 use Rattle.sb_lit.specs.Kept.{kept_at}
 use Rattle.sb_lit.specs.Budgets.{Spending}
@@ -17,7 +19,7 @@ use Rattle.sb_rulebook.specs.Kept.{AllKept}
 use Rattle.sb_rulebook.specs.Judging.{Progress}
 use Rattle.sb_rulebook.specs.Accepted.{question_in, asked_in}
 use Rattle.sb_proof.specs.Tapes.{with_bytes}
-use Rattle.sb_stack.specs.Stacked.{Stacked, are_words, state_of, live_constants, values_at}
+use Rattle.sb_stack.specs.Stacked.{Stacked, state_of, live_constants, values_at, without_words}
 use Rattle.sb_stack.specs.Steps.{verdict_in}
 use Rattle.sb_atoms.specs.Numbered.{HaveRegexesBelow}
 use Rattle.sb_trace.specs.Putting.{IsCounted}
@@ -25,20 +27,22 @@ use Rattle.sb_trace.proofs.CallerLemmas.{puts_none}
 use Rattle.sb_sound.specs.SoundLaws.{AreTerms, FollowsByRule, LineStaysSound, CountedAgainStaysSound}
 use Rattle.sb_sound.specs.ScriptLaws.{IsFit, EmptyClauseRefutes}
 use Rattle.sb_refute.specs.declared.evidence.EmptyClause.{EmptyClause}
-use Rattle.sb_refute.specs.declared.refute.Refuted.TheVariants as refuted
-use Rattle.sb_refute.specs.Backing.{Backing, Backs, Evidences, asserted_at, empty_at}
-use Rattle.sb_refute.specs.Refuting.{IsEmptyAt}
+use Rattle.sb_prover.specs.declared.refutation.Refuted.TheVariants as refuted
+use Rattle.sb_refute.specs.Backing.{Backing, Backs, Evidences, IsEmptyAt, asserted_at, empty_at}
 use Rattle.sb_solve.specs.Solved.{AreOfLevels, IsSolved}
 use Rattle.sb_solve.specs.Truth.{IsTrue}
+use Rattle.sb_solve.specs.Values.{is_word_there, are_words_there}
 use Rattle.sb_solve.proofs.CallerLemmas.{true-behind}
 use Rattle.sb_solve.specs.declared.check.Solved.{Solved}
 use Rattle.sb_solve.specs.declared.check.Solved.TheVariants as solved
-use Rattle.sb_decide.specs.Knowing.{MayBeKept}
+use Rattle.sb_decide.specs.declared.decide.Decider.{Decider}
+use Rattle.sb_decide.specs.Ready.{IsQuestion, IsClosed}
+use Rattle.sb_decide.specs.Taking.{found_at}
 use Rattle.sb_prover.specs.Proving.{Proving, IsAbreast, IsProved, HaveLevels, level_at}
 use Rattle.sb_prover.specs.Saying.{first_lines, Tells, said_value}
 use Rattle.sb_prover.specs.declared.solving.Solution.{Solution}
 use Rattle.sb_prover.specs.declared.solving.Solution.TheVariants as solution
-use Rattle.sb_prover.specs.Solving.{AreFew, IsCompleted, IsFound, IsSolution, SaysTrue, verdict_of, said_by, IsNumbered}
+use Rattle.sb_prover.specs.Solving.{AreValues, Finds, AreFew, IsCompleted, IsSolution, SaysTrue, verdict_of, said_by, IsNumbered}
 use Rattle.sb_prover.proofs.LinesTaken.{verdict-said}
 use Rattle.sb_prover.proofs.Proved.{said-proved, reached-format, unsat-proved, unknown-proved}
 use Rattle.sb_prover.proofs.Refutations.{empty-found, says-kept, says-refuted}
@@ -55,40 +59,54 @@ levels-known live e f of h place a there = by (of place a there)
     by (inl same) = h place a same
     by (inr is) = is
 
+-- where tables are others that are the same
+pub over : (P : List Regex → Memo → Type 0) (rs more : List Regex) (memo memos : Memo) → more ≡ rs → memos ≡ memo
+    → P rs memo → P more memos
+over P rs more memo memos same same-memo h =
+    subst (λ (ms : Memo). P more ms) (sym same-memo) (subst (λ (xs : List Regex). P xs memo) (sym same) h)
+
 -- What a search found.
 
 pub found-by : (s : Stacked) (places : List ℕ) (rs : List Regex) (memo : Memo) (e f : Backing) (budget : Spending)
-    (r : Solved) (x : Solution) (o : Option EmptyClause)
-    → ((place : ℕ) → place < length s.assertions → Contains places place) → is_plain (state_of s) ≡ false
-    → ((ws : List (List ℕ)) (truths : List Bool) → are_words ws ≡ true
-    → fits (constants_of (state_of s)) (values_at (live_constants s) ws truths) ≡ true)
-    → IsCompleted (length s.scope.sorts) r x → IsSolved s places rs memo e f budget r → o ≡ f.refuted
-    → IfSome o (λ empty. kept_at f.kept empty.clause.0 ≡ Some (empty_at empty)) → IsFound s rs memo e f budget x
-found-by s places rs memo e f budget (solved.Sat words truths) (solution.Sat full others) o all not_plain fit is h same
-    kept = record {
-      words = is.1;
-      long = is.2;
-      given = λ before backs terms.
-          subst (λ (ts : List Bool). IsGiven (state_of s) [] (values_at (live_constants s) full.items ts)) (sym is.3)
-          (given_by s places words.items truths.items full.items (fit full.items truths.items is.1) all not_plain is.1
-          is.0 (h.given before backs terms));
-    }
-found-by s places rs memo e f budget (solved.Unsat id) (solution.Unsat found) o all not_plain fit is h same kept =
-    subst (λ (c : ClauseId). IsEmptyAt f.kept c.0) (sym is) (empty-found f id o h same kept)
-found-by s places rs memo e f budget solved.Spent solution.Spent o all not_plain fit is h same kept = h
-found-by s places rs memo e f budget _ _ o all not_plain fit is h same kept = absurd is
+    (r : Solved) (o : Option EmptyClause) → IsQuestion s places → IsSolved s places rs memo e f budget r
+    → o ≡ f.refuted → IfSome o (λ empty. kept_at f.kept empty.clause.0 ≡ Some (empty_at empty))
+    → Finds s rs memo e f budget r
+found-by s places rs memo e f budget (solved.Sat words truths) o question h same kept =
+    record { places = places; question = question; valued = h }
+found-by s places rs memo e f budget (solved.Unsat id) o question h same kept = empty-found f id o h same kept
+found-by s places rs memo e f budget solved.Spent o question h same kept = h
 
-pub few-words : (s : Stacked) (places : List ℕ) (rs : List Regex) (memo : Memo) (e f : Backing) (budget : Spending)
-    (r : Solved) → IsSolved s places rs memo e f budget r → AreFew (length s.scope.sorts) r
-few-words s places rs memo e f budget (solved.Sat words truths) h = h.few
-few-words s places rs memo e f budget (solved.Unsat id) h = tt
-few-words s places rs memo e f budget solved.Spent h = tt
+pub few-words : (s : Stacked) (rs : List Regex) (memo : Memo) (e f : Backing) (budget : Spending) (r : Solved)
+    → Finds s rs memo e f budget r → AreFew s r
+few-words s rs memo e f budget (solved.Sat words truths) h = (h.valued.few, h.valued.characters)
+few-words s rs memo e f budget (solved.Unsat id) h = tt
+few-words s rs memo e f budget solved.Spent h = tt
 
-pub found-may : (s : Stacked) (rs : List Regex) (memo : Memo) (e f : Backing) (budget : Spending) (r : Solution)
-    → IsFound s rs memo e f budget r → MayBeKept (verdict_of r) s
-found-may s rs memo e f budget (solution.Sat words truths) h = (h.words, h.long)
-found-may s rs memo e f budget (solution.Unsat id) h = tt
-found-may s rs memo e f budget solution.Spent h = tt
+none-some : (w : List ℕ) → None ≡ Some w → ⊥
+none-some w h = cc
+
+-- each word that was found is one of characters
+pub found-characters : (words : List (Option (List ℕ))) → are_words_there words ≡ true → (serial : ℕ) (w : List ℕ)
+    → found_at words serial ≡ Some w → are_characters w ≡ true
+found-characters [] h zero w there = absurd (none-some w there)
+found-characters [] h (suc serial) w there = absurd (none-some w there)
+found-characters (word ∷ words) h zero w there =
+    subst (λ (o : Option (List ℕ)). is_word_there o ≡ true) there
+    (and_parts (is_word_there word) (are_words_there words) h).0
+found-characters (word ∷ words) h (suc serial) w there =
+    found-characters words (and_parts (is_word_there word) (are_words_there words) h).1 serial w there
+
+-- Values that were completed may be given, where a reader of the proof kept what the evidence knew before.
+given : (s : Stacked) → AreTerms (asked_in (state_of s)) → is_plain (state_of s) ≡ false → (kept : Decider)
+    (rs : List Regex) (memo : Memo) (e : Backing) (before : AllKept) (found : List (Option (List ℕ)))
+    (truths others : List Bool) (words : List (List ℕ)) → AreValues s rs memo e found truths
+    → IsClosed kept s found words → others ≡ truths
+    → fits (constants_of (state_of s)) (values_at (live_constants s) words truths) ≡ true → Backs rs memo e before
+    → IsGiven (state_of s) [] (values_at (live_constants s) words others)
+given s terms not_plain kept rs memo e before found truths others words h closed same fit backs =
+    subst (λ (ts : List Bool). IsGiven (state_of s) [] (values_at (live_constants s) words ts)) (sym same)
+    (given_by kept s h.places found truths words fit not_plain h.question closed
+    (h.valued.given before backs terms))
 
 -- The empty clause is kept already: no line is put.
 pub solved-again : (s : Stacked) (before : AllKept) (rs : List Regex) (memo : Memo) (e : Backing) (id : ClauseId)
@@ -102,28 +120,35 @@ solved-again s before rs memo e id told backs is = record {
 }
 
 -- Lines were put for it.
-pub solved-now : (s : Stacked) → AreTerms (asked_in (state_of s)) → (before : AllKept) (rs more : List Regex)
-    (memo memos : Memo) (e f : Backing) (budget : Spending) (r : Solution) (old new : Option (List ℕ))
-    → Backs rs memo e before → Evidences (asked_in (state_of s)) before more memos f budget old new
-    → IsFound s rs memo e f budget r → IsSolution s before more memos f r old new
-solved-now s terms before rs more memo memos e f budget (solution.Sat words truths) old new backs h is = record {
-  after = h.after;
-  puts = h.puts;
-  backs = h.backs;
-  says = is.given before backs terms;
-}
-solved-now s terms before rs more memo memos e f budget (solution.Unsat id) old new backs h is = record {
-  after = h.after;
-  puts = h.puts;
-  backs = h.backs;
-  says = says-kept (asked_in (state_of s)) h.after more memos f id h.backs is;
-}
-solved-now s terms before rs more memo memos e f budget solution.Spent old new backs h is = record {
-  after = h.after;
-  puts = h.puts;
-  backs = h.backs;
-  says = says-refuted (asked_in (state_of s)) h.after more memos f budget refuted.Spent refl h.backs h.counts is;
-}
+pub solved-now : (s : Stacked) → AreTerms (asked_in (state_of s)) → is_plain (state_of s) ≡ false → (kept : Decider)
+    (before : AllKept) (rs more : List Regex) (memo memos : Memo) (e f : Backing) (budget : Spending) (r : Solved)
+    (x : Solution) (old new : Option (List ℕ)) → Backs rs memo e before
+    → Evidences (asked_in (state_of s)) before more memos f budget old new → Finds s rs memo e f budget r
+    → IsCompleted kept s r x → IsSolution s before more memos f x old new
+solved-now s terms not_plain kept before rs more memo memos e f budget (solved.Sat words truths)
+    (solution.Sat full others) old new backs h found is = record {
+      after = h.after;
+      puts = h.puts;
+      backs = h.backs;
+      says = given s terms not_plain kept rs memo e before words.items truths.items others.items full.items found is.0
+          is.1 is.2 backs;
+    }
+solved-now s terms not_plain kept before rs more memo memos e f budget (solved.Unsat id) (solution.Unsat other) old new
+    backs h found is = record {
+      after = h.after;
+      puts = h.puts;
+      backs = h.backs;
+      says = says-kept (asked_in (state_of s)) h.after more memos f other h.backs
+          (subst (λ (c : ClauseId). IsEmptyAt f.kept c.0) (sym is) found);
+    }
+solved-now s terms not_plain kept before rs more memo memos e f budget solved.Spent solution.Spent old new backs h
+    found is = record {
+      after = h.after;
+      puts = h.puts;
+      backs = h.backs;
+      says = says-refuted (asked_in (state_of s)) h.after more memos f budget refuted.Spent refl h.backs h.counts found;
+    }
+solved-now s terms not_plain kept before rs more memo memos e f budget _ _ old new backs h found is = absurd is
 
 -- What the evidence knows then is true: by the lines that were put, or by what the search says without them.
 pub solved-true : FollowsByRule → LineStaysSound → CountedAgainStaysSound → (s : Stacked)
@@ -142,12 +167,24 @@ solved-true rule by again s terms false rs more memo memos e f budget behind old
     sound refl terms t
 
 -- What was found may be answered.
-pub says-true : (s : Stacked) → AreTerms (asked_in (state_of s)) → (rs : List Regex) (memo : Memo) (e f : Backing)
-    (budget : Spending) (r : Solution) → IsTrue (asked_in (state_of s)) rs memo e → IsFound s rs memo e f budget r
-    → SaysTrue s f r
-says-true s terms rs memo e f budget (solution.Sat words truths) t is = is.given t.kept t.backs terms
-says-true s terms rs memo e f budget (solution.Unsat id) t is = is
-says-true s terms rs memo e f budget solution.Spent t is = tt
+pub says-true : (s : Stacked) → AreTerms (asked_in (state_of s)) → is_plain (state_of s) ≡ false → (kept : Decider)
+    (rs : List Regex) (memo : Memo) (e f : Backing) (budget : Spending) (r : Solved) (x : Solution)
+    → IsTrue (asked_in (state_of s)) rs memo e → Finds s rs memo e f budget r → IsCompleted kept s r x → SaysTrue s f x
+says-true s terms not_plain kept rs memo e f budget (solved.Sat words truths) (solution.Sat full others) t found is =
+    given s terms not_plain kept rs memo e t.kept words.items truths.items others.items full.items found is.0 is.1 is.2
+    t.backs
+says-true s terms not_plain kept rs memo e f budget (solved.Unsat id) (solution.Unsat other) t found is =
+    subst (λ (c : ClauseId). IsEmptyAt f.kept c.0) (sym is) found
+says-true s terms not_plain kept rs memo e f budget solved.Spent solution.Spent t found is = tt
+says-true s terms not_plain kept rs memo e f budget _ _ t found is = absurd is
+
+-- what the verdict's line says is the same where the states differ in their mode and words alone
+pub said-same : (r : Solution) (new old : Stacked) → without_words new ≡ without_words old
+    → said_by new r ≡ said_by old r
+said-same (solution.Sat words truths) new old same =
+    ap (λ (s : Stacked). said_by s (solution.Sat words truths)) same
+said-same (solution.Unsat id) new old same = refl
+said-same solution.Spent new old same = refl
 
 -- The verdict may be given, where what the evidence knows is true.
 pub solved-verdict : EmptyClauseRefutes → (s : Stacked) → in_fragment (state_of s) ≡ true → IsFit (state_of s)
@@ -165,8 +202,8 @@ solved-verdict refutes s inside fit rs memo e solution.Spent t h = inside
 pub solved-proved : TextIsRead → TextIsOneLine → TextsAreLines → (s : Stacked) (r : Solution) (before : Progress)
     (rs more : List Regex) (memo memos : Memo) (p : Proving) (e : Backing) (old begun mid new : Option (List ℕ))
     → in_fragment (state_of s) ≡ true → IsNumbered r → IsAbreast rs memo p before
-    → Tells (first_lines p.begun) old begun → IsSolution s before.kept more memos e r begun mid → HaveRegexesBelow (length more) e.atoms
-    → new ≡ with_bytes (line (text_of (verdict_line (said_by s r)))) mid
+    → Tells (first_lines p.begun) old begun → IsSolution s before.kept more memos e r begun mid
+    → HaveRegexesBelow (length more) e.atoms → new ≡ with_bytes (line (text_of (verdict_line (said_by s r)))) mid
     → IsProved (question_in (state_of s) []) (verdict_in (live_constants s) (verdict_of r)) before more memos
     (record { evidence = e; begun = true }) old new
 solved-proved law one many s (solution.Sat words truths) before rs more memo memos p e old begun mid new inside small h

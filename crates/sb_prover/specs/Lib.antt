@@ -1,5 +1,4 @@
 pub mod Proving
 pub mod Saying
-pub mod Claiming
+pub mod Refuting
 pub mod Solving
-pub mod Filled

@@ -99,7 +99,8 @@ abbrev pub LeadsTo : Step → State → State → Type 0
 LeadsTo (code.Left text level) old new = GoesDown level (asked_in old) (asked_in new)
 LeadsTo _ old new = Continues (asked_in old) (asked_in new)
 
--- Behind each entry of a script the terms fit the sorts of the constants, where they did before, and the script goes on.
+-- Behind each entry of a script the terms fit the sorts of the constants, where they did before, and the script goes
+-- on.
 abbrev pub EntriesStayFit : Type 0
 EntriesStayFit = (entry : Entry) (old new : State) (step : Step) → IsStep (step_of entry old) step old new
     → IsFit old → IsFit new × LeadsTo step old new

@@ -17,8 +17,8 @@ use Rattle.sb_lit.specs.Kept.{kept_at}
 use Rattle.sb_deriv.specs.Faithful.{Memo}
 use Rattle.sb_trace.specs.Putting.{Puts}
 use Rattle.sb_refute.specs.Backing.{Backing, Backs}
-use Rattle.sb_refute.specs.declared.refute.Refuted.{Refuted}
-use Rattle.sb_refute.specs.declared.refute.Refuted.TheVariants as refuted
+use Rattle.sb_prover.specs.declared.refutation.Refuted.{Refuted}
+use Rattle.sb_prover.specs.declared.refutation.Refuted.TheVariants as refuted
 
 -- the first line, where it does not stand there
 abbrev pub first_lines : Bool → List Line

@@ -4,53 +4,55 @@ use Rattle.sb_lang.specs.Regex.{Regex}
 use Rattle.sb_lit.specs.Budgets.{Spending}
 use Rattle.sb_deriv.specs.Faithful.{Memo}
 use Rattle.sb_script.specs.Models.{IsGiven}
+use Rattle.sb_script.specs.State.{constants_of, fits}
 use Rattle.sb_rulebook.specs.Lines.{Said, said_sat, said_unsat, said_unknown}
 use Rattle.sb_rulebook.specs.Kept.{AllKept}
 use Rattle.sb_rulebook.specs.Accepted.{asked_in}
-use Rattle.sb_sound.specs.SoundLaws.{AreTerms}
-use Rattle.sb_stack.specs.Stacked.{Stacked, are_words, state_of, live_constants, values_at}
+use Rattle.sb_stack.specs.Stacked.{Stacked, state_of, live_constants, values_at}
 use Rattle.sb_stack.specs.declared.verdict.Verdict.{Verdict}
 use Rattle.sb_stack.specs.declared.verdict.Verdict.TheVariants as verdict
 use Rattle.sb_trace.specs.Putting.{Puts}
-use Rattle.sb_refute.specs.Backing.{Backing, Backs}
-use Rattle.sb_refute.specs.Refuting.{IsEmptyAt}
-use Rattle.sb_refute.specs.declared.refute.Refuted.TheVariants as refuted
+use Rattle.sb_refute.specs.Backing.{Backing, Backs, IsEmptyAt}
+use Rattle.sb_prover.specs.declared.refutation.Refuted.TheVariants as refuted
 use Rattle.sb_solve.specs.declared.check.Solved.{Solved}
 use Rattle.sb_solve.specs.declared.check.Solved.TheVariants as solved
 use Rattle.sb_prover.specs.declared.solving.Solution.{Solution}
 use Rattle.sb_prover.specs.declared.solving.Solution.TheVariants as solution
-use Rattle.sb_prover.specs.Filled.{IsFilled}
+use Rattle.sb_solve.specs.Solved.{IsValued}
+use Rattle.sb_solve.specs.Values.{are_words_there}
+use Rattle.sb_decide.specs.declared.decide.Decider.{Decider}
+use Rattle.sb_decide.specs.Ready.{IsQuestion, IsClosed}
 use Rattle.sb_prover.specs.Saying.{said_value, SaysRefuted}
 
--- The values are words, one for each constant that was declared, and truth values. Where a reader of the proof kept what
--- the evidence knew before, and the live assertions fit the sorts of constants, a check may give these values.
-pub record AreValues (s : Stacked) (rs : List Regex) (memo : Memo) (e : Backing) (ws : List (List ℕ))
+-- Words and truth values of the constants that a search was asked about, where it was asked a question about all of the
+-- live assertions.
+pub record AreValues (s : Stacked) (rs : List Regex) (memo : Memo) (e : Backing) (found : List (Option (List ℕ)))
     (truths : List Bool) : Type 0
   where
-    pub words : are_words ws ≡ true
-    pub long : length ws ≡ length s.scope.sorts
-    pub given : (before : AllKept) → Backs rs memo e before → AreTerms (asked_in (state_of s))
-        → IsGiven (state_of s) [] (values_at (live_constants s) ws truths)
+    pub places : List ℕ
+    pub question : IsQuestion s places
+    pub valued : IsValued s places rs memo e found truths
 
--- the words of what a search finds are no more than so many
-abbrev pub AreFew : ℕ → Solved → Type 0
-AreFew count (solved.Sat words truths) = length words.items ≤ count
-AreFew count _ = Unit {0}
+-- what a search says: there are values, or the empty clause is kept, or so many lines were counted as a check may have
+abbrev pub Finds : Stacked → List Regex → Memo → Backing → Backing → Spending → Solved → Type 0
+Finds s rs memo e f budget (solved.Sat words truths) = AreValues s rs memo e words.items truths.items
+Finds s rs memo e f budget (solved.Unsat id) = IsEmptyAt f.kept id.0
+Finds s rs memo e f budget solved.Spent = budget.spent ≡ budget.limit
 
--- it is what was found, with the words filled up to so many
-abbrev pub IsCompleted : ℕ → Solved → Solution → Type 0
-IsCompleted count (solved.Sat words truths) (solution.Sat full others) =
-    IsFilled words.items full.items × (are_words full.items ≡ true) × (length full.items ≡ count)
-    × (others.items ≡ truths.items)
-IsCompleted count (solved.Unsat id) (solution.Unsat found) = found ≡ id
-IsCompleted count solved.Spent solution.Spent = Unit {0}
-IsCompleted count _ _ = ⊥
+-- the words of what a search finds are words, and no more than the constants that were declared
+abbrev pub AreFew : Stacked → Solved → Type 0
+AreFew s (solved.Sat words truths) =
+    (length words.items ≤ length s.scope.sorts) × (are_words_there words.items ≡ true)
+AreFew s _ = Unit {0}
 
--- what the answer of a search says of the evidence before and behind it
-abbrev pub IsFound : Stacked → List Regex → Memo → Backing → Backing → Spending → Solution → Type 0
-IsFound s rs memo e f budget (solution.Sat words truths) = AreValues s rs memo e words.items truths.items
-IsFound s rs memo e f budget (solution.Unsat id) = IsEmptyAt f.kept id.0
-IsFound s rs memo e f budget solution.Spent = budget.spent ≡ budget.limit
+-- it is what was found, with the words that memberships give where none was found; the values are of the live constants
+abbrev pub IsCompleted : Decider → Stacked → Solved → Solution → Type 0
+IsCompleted kept s (solved.Sat words truths) (solution.Sat full others) =
+    IsClosed kept s words.items full.items × (others.items ≡ truths.items)
+    × (fits (constants_of (state_of s)) (values_at (live_constants s) full.items truths.items) ≡ true)
+IsCompleted kept s (solved.Unsat id) (solution.Unsat found) = found ≡ id
+IsCompleted kept s solved.Spent solution.Spent = Unit {0}
+IsCompleted kept s _ _ = ⊥
 
 -- a check may give these values, or the empty clause is kept, or so many lines were counted as a check may have
 abbrev pub SaysSolved : Stacked → AllKept → Solution → Type 0

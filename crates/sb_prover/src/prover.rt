@@ -12,6 +12,7 @@ ghost use Rattle.sb_rulebook.specs.LineLaws.{bytes_of};
 ghost use Rattle.sb_rulebook.specs.Lines.{text_of};
 ghost use Rattle.sb_sound.specs.Certified.{last_lines};
 ghost use Rattle.sb_sound.specs.SoundLaws.{AreTerms};
+ghost use Rattle.sb_sound.specs.ScriptLaws.{IsFit};
 ghost use Rattle.sb_proof.specs.Tapes.{with_bytes};
 ghost use Rattle.sb_stack.specs.Stacked.{Stacked, state_of, live_constants, values_at};
 ghost use Rattle.sb_stack.specs.Steps.{verdict_in, found};
@@ -24,12 +25,12 @@ ghost use Rattle.sb_prover.specs.Proving.{IsAbreast, IsProved, HaveLevels, AreLo
 ghost use Rattle.sb_solve.specs.Truth.{IsTrue};
 ghost use Rattle.sb_prover.specs.Saying.{first_lines, IsRefuted, Tells};
 
-use crate::refutation::refute;
+use crate::refutation::{Refuted, refute};
 use crate::verdict::{number_of, say, say_values};
 use sb_decide::Decider;
 use sb_lit::Budget;
 use sb_proof::{Line, Said, Tape, TapeFault};
-use sb_refute::{Evidence, Refuted};
+use sb_refute::Evidence;
 use sb_rulebook::laws::{text_is_one_line, text_is_read, texts_are_lines};
 use sb_sound::scripts::entries_lead_on;
 use sb_sound::steps::{
@@ -78,9 +79,9 @@ impl Prover {
     }
 
     /// Puts the lines that prove the verdict of a check, the verdict's own line as the last, and answers the verdict:
-    /// the one that was found, or `Unknown` where a check may have no more lines. Linear in the lines, for a `sat` in
-    /// the names in force, and for an `unsat` in what is explored that was not yet. After an error nothing more may be
-    /// put.
+    /// the one that was found, or `Unknown` where a check may have no more lines. Linear in the lines, and for a `sat` in
+    /// the names in force; for an `unsat` the time is that of a search over the live assertions of one constant, and of
+    /// what is explored that was not yet. After an error nothing more may be put, and nothing more asked of the decider.
     pub fn prove<L: Tape>(
         &mut self,
         decider: &mut Decider,
@@ -91,7 +92,10 @@ impl Prover {
         requires knows { Knows decider.old (found verdict stack.now) }
         requires verdict { IsVerdict (state_of stack.now) [] (verdict_in (live_constants stack.now) verdict) }
         requires decided { IsDecision verdict decider.old }
+        requires fit { IsFit (state_of stack.now) }
         requires regexes { HaveRegexesBelow (length decider.old.arena) self.old.evidence.atoms }
+        requires sound { IsTrue (asked_in (state_of stack.now)) decider.old.arena decider.old.graph.memo
+            self.old.evidence }
         ensures proves { IfOk result (λ v. (before : Progress)
             → IsAbreast decider.old.arena decider.old.graph.memo self.old before
             → IsProved (question_in (state_of stack.now) []) (verdict_in (live_constants stack.now) v) before
@@ -102,9 +106,8 @@ impl Prover {
         ensures knows { IfOk result (λ v. Knows decider.new (found v stack.now)) }
         ensures levels { OnOk result (HaveLevels (asked_in (state_of stack.now)).live self.old.evidence
             → HaveLevels (asked_in (state_of stack.now)).live self.new.evidence) }
-        ensures sound { OnOk result (AreTerms (asked_in (state_of stack.now))
-            → IsTrue (asked_in (state_of stack.now)) decider.old.arena decider.old.graph.memo self.old.evidence
-            → IsTrue (asked_in (state_of stack.now)) decider.new.arena decider.new.graph.memo self.new.evidence) }
+        ensures sound { OnOk result (IsTrue (asked_in (state_of stack.now)) decider.new.arena decider.new.graph.memo
+            self.new.evidence) }
         ensures counts { CountsTapeFault result (L.Tape.faults tape.old) (L.Tape.faults tape.new) }
     {
         match verdict {
@@ -182,7 +185,8 @@ impl Prover {
             → IsVerdict (state_of stack.now) [] (is_sat (values_at (live_constants stack.now) words.now truths.now))
             → IsAbreast rs memo self.old before
             → IsProved (question_in (state_of stack.now) [])
-            (is_sat (values_at (live_constants stack.now) words.now truths.now)) before rs memo self.new (L.Tape.told tape.old) (L.Tape.told tape.new)) }
+            (is_sat (values_at (live_constants stack.now) words.now truths.now)) before rs memo self.new
+            (L.Tape.told tape.old) (L.Tape.told tape.new)) }
         ensures evidence { OnOk result (self.new.evidence ≡ self.old.evidence) }
         ensures counts { CountsTapeFault result (L.Tape.faults tape.old) (L.Tape.faults tape.new) }
     {
@@ -221,7 +225,10 @@ impl Prover {
         requires knows { Knows decider.old (found verdicts.Unsat stack.now) }
         requires verdict { IsVerdict (state_of stack.now) [] (is_unsat []) }
         requires dead { IsSome decider.old.dead }
+        requires fit { IsFit (state_of stack.now) }
         requires regexes { HaveRegexesBelow (length decider.old.arena) self.old.evidence.atoms }
+        requires sound { IsTrue (asked_in (state_of stack.now)) decider.old.arena decider.old.graph.memo
+            self.old.evidence }
         ensures proves { IfOk result (λ v. (before : Progress)
             → IsAbreast decider.old.arena decider.old.graph.memo self.old before
             → IsProved (question_in (state_of stack.now) []) (verdict_in (live_constants stack.now) v) before
@@ -232,9 +239,8 @@ impl Prover {
         ensures knows { IfOk result (λ v. Knows decider.new (found v stack.now)) }
         ensures levels { OnOk result (HaveLevels (asked_in (state_of stack.now)).live self.old.evidence
             → HaveLevels (asked_in (state_of stack.now)).live self.new.evidence) }
-        ensures sound { OnOk result (AreTerms (asked_in (state_of stack.now))
-            → IsTrue (asked_in (state_of stack.now)) decider.old.arena decider.old.graph.memo self.old.evidence
-            → IsTrue (asked_in (state_of stack.now)) decider.new.arena decider.new.graph.memo self.new.evidence) }
+        ensures sound { OnOk result (IsTrue (asked_in (state_of stack.now)) decider.new.arena decider.new.graph.memo
+            self.new.evidence) }
         ensures counts { CountsTapeFault result (L.Tape.faults tape.old) (L.Tape.faults tape.new) }
     {
         text_is_read();
@@ -243,6 +249,7 @@ impl Prover {
         follows_by_rule();
         line_stays_sound();
         counted_again_stays_sound();
+        entries_lead_on();
         self.begin(tape)?;
         match self.refutation(decider, stack, tape)? {
             Refuted::Clause(id) => {
@@ -264,8 +271,12 @@ impl Prover {
         tape: &mut L,
     ) -> Result<Refuted, TapeFault>
         requires knows { Knows decider.old (found verdicts.Unsat stack.now) }
+        requires verdict { IsVerdict (state_of stack.now) [] (is_unsat []) }
         requires dead { IsSome decider.old.dead }
+        requires terms { AreTerms (asked_in (state_of stack.now)) }
         requires regexes { HaveRegexesBelow (length decider.old.arena) self.old.evidence.atoms }
+        requires sound { IsTrue (asked_in (state_of stack.now)) decider.old.arena decider.old.graph.memo
+            self.old.evidence }
         ensures refuted { IfOk result (λ r. (before : AllKept)
             → Backs decider.old.arena decider.old.graph.memo self.old.evidence before → before.counted ≡ 0
             → IsRefuted (asked_in (state_of stack.now)) before decider.new.arena decider.new.graph.memo
@@ -281,7 +292,14 @@ impl Prover {
             return Ok(Refuted::Clause(empty.clause));
         }
         let mut budget = Budget::new(u64::MAX);
-        let refuted = refute(&mut self.evidence, decider, stack, tape, &mut budget)?;
+        let refuted = refute(
+            self.alloc,
+            &mut self.evidence,
+            decider,
+            stack,
+            tape,
+            &mut budget,
+        )?;
         Ok(refuted)
     }
 }

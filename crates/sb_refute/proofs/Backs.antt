@@ -6,24 +6,21 @@ use Rattle.sb_lit.specs.Kept.{Kept, KeptClause, kept_at, kept_up_to}
 use Rattle.sb_lang.specs.Regex.{Regex}
 use Rattle.sb_regex.specs.Numbered as regex
 use Rattle.sb_deriv.specs.Faithful.{Memo, KeepsEntries}
-use Rattle.sb_rulebook.specs.Kept.{AllKept, dropped_above, all_dropped}
-use Rattle.sb_atoms.specs.Numbered.{atoms_in, HaveRegexesBelow}
+use Rattle.sb_rulebook.specs.Kept.{AllKept, with_clause, dropped_above, all_dropped}
+use Rattle.sb_atoms.specs.Numbered.{HaveRegexesBelow}
 use Rattle.sb_atoms.proofs.CallerLemmas.{atoms_kept}
-use Rattle.sb_trace.specs.Putting.{KeepsClauses}
 use Rattle.sb_trace.specs.Tracking.{Traced, Tracks}
 use Rattle.sb_trace.proofs.CallerLemmas.{tracks_grow}
 use Rattle.sb_refute.specs.declared.evidence.Asserted.{Asserted}
-use Rattle.sb_refute.specs.declared.evidence.EmptyClause.{EmptyClause}
-use Rattle.sb_refute.specs.Backing.{Backing, Backs, asserted_at, unit_at, empty_at, AreUpTo, left_above, left_all}
+use Rattle.sb_refute.specs.Backing.{Backing, Backs, asserted_at, unit_at, AreUpTo, left_above, left_all}
 use Rattle.sb_refute.specs.Lines.{placed}
 use Rattle.sb_refute.proofs.Clauses.{kept-stays, kept-last, stays}
-use Rattle.sb_refute.proofs.ClauseLines.{pushed}
 use Rattle.sb_refute.proofs.Places.{none-at, placed-cases, front}
 
 -- regexes stay as they are
-pub tracks-pushed : (rs : List Regex) (memo : Memo) (t : Traced) (kept : AllKept) (clause : List Lit) (level : ℕ)
-    (rests : List ℕ) (counted : ℕ) → Tracks rs memo t kept → Tracks rs memo t (pushed kept clause level rests counted)
-tracks-pushed rs memo t kept clause level rests counted h = record {
+tracks-clause : (rs : List Regex) (memo : Memo) (t : Traced) (kept : AllKept) (clause : List Lit) (level : ℕ)
+    (rests : List ℕ) → Tracks rs memo t kept → Tracks rs memo t (with_clause kept clause level rests)
+tracks-clause rs memo t kept clause level rests h = record {
   numbers = h.numbers;
   regexes = h.regexes;
   expansions_long = h.expansions_long;
@@ -34,12 +31,12 @@ tracks-pushed rs memo t kept clause level rests counted h = record {
 }
 
 -- the clauses of these assertions are kept
-abbrev pub AreKeptUnits : Kept → List (Option Asserted) → Type 0
+abbrev AreKeptUnits : Kept → List (Option Asserted) → Type 0
 AreKeptUnits kept asserted = (place : ℕ) (a : Asserted) → asserted_at asserted place ≡ Some a
     → kept_at kept a.clause.0 ≡ Some (unit_at a)
 
 -- they stay so with one clause more,
-pub units-stay : (kept : Kept) (c : KeptClause) (asserted : List (Option Asserted)) → AreKeptUnits kept asserted
+units-stay : (kept : Kept) (c : KeptClause) (asserted : List (Option Asserted)) → AreKeptUnits kept asserted
     → AreKeptUnits (kept ++ Some c ∷ []) asserted
 units-stay kept c asserted h = λ place a there. kept-stays kept (Some c) a.clause.0 (unit_at a) (h place a there)
 
@@ -56,47 +53,37 @@ units-placed kept asserted place a number h =
 
 -- with one more clause
 backs-clause : (rs : List Regex) (memo : Memo) (e : Backing) (kept : AllKept) (literals : List Lit) (level : ℕ)
-    (rests : List ℕ) (counted : ℕ) (asserted : List (Option Asserted)) (r : Option EmptyClause)
+    (rests : List ℕ) (asserted : List (Option Asserted))
     → AreKeptUnits (e.kept ++ Some (record { literals = literals; level = level }) ∷ []) asserted
     → Backs rs memo e kept
     → Backs rs memo (record e {
       kept = e.kept ++ Some (record { literals = literals; level = level }) ∷ [];
       asserted = asserted;
-      refuted = r;
-    }) (pushed kept literals level rests counted)
-backs-clause rs memo e kept literals level rests counted asserted r units b = record {
-  tracks = tracks-pushed rs memo e.trace kept literals level rests counted b.tracks;
+    }) (with_clause kept literals level rests)
+backs-clause rs memo e kept literals level rests asserted units b = record {
+  tracks = tracks-clause rs memo e.trace kept literals level rests b.tracks;
   atoms = b.atoms;
   clauses = ap (λ (k : Kept). k ++ Some (record { literals = literals; level = level }) ∷ []) b.clauses;
   asserted = units;
 }
 
--- with a denial
-pub backs-denial : (rs : List Regex) (memo : Memo) (e : Backing) (kept : AllKept) (literals : List Lit)
-    (rests : List ℕ) (counted : ℕ) → Backs rs memo e kept
+-- with a clause of gates
+pub backs-gate : (rs : List Regex) (memo : Memo) (e : Backing) (kept : AllKept) (literals : List Lit)
+    (rests : List ℕ) → Backs rs memo e kept
     → Backs rs memo (record e { kept = e.kept ++ Some (record { literals = literals; level = 0 }) ∷ [] })
-    (pushed kept literals 0 rests counted)
-backs-denial rs memo e kept literals rests counted b =
-    backs-clause rs memo e kept literals 0 rests counted e.asserted e.refuted
+    (with_clause kept literals 0 rests)
+backs-gate rs memo e kept literals rests b =
+    backs-clause rs memo e kept literals 0 rests e.asserted
     (units-stay e.kept (record { literals = literals; level = 0 }) e.asserted b.asserted) b
-
--- with the empty clause
-pub backs-empty : (rs : List Regex) (memo : Memo) (e : Backing) (kept : AllKept) (empty : EmptyClause)
-    (rests : List ℕ) (counted : ℕ) → Backs rs memo e kept
-    → Backs rs memo (record e { kept = e.kept ++ Some (empty_at empty) ∷ []; refuted = Some empty })
-    (pushed kept [] empty.level rests counted)
-backs-empty rs memo e kept empty rests counted b =
-    backs-clause rs memo e kept [] empty.level rests counted e.asserted (Some empty)
-    (units-stay e.kept (empty_at empty) e.asserted b.asserted) b
 
 -- with the clause of an assertion
 pub backs-assertion : (rs : List Regex) (memo : Memo) (e : Backing) (kept : AllKept) (place : ℕ) (a : Asserted)
-    (rests : List ℕ) (counted : ℕ) → Backs rs memo e kept → a.clause.0 ≡ length e.kept
+    (rests : List ℕ) → Backs rs memo e kept → a.clause.0 ≡ length e.kept
     → Backs rs memo
     (record e { kept = e.kept ++ Some (unit_at a) ∷ []; asserted = placed e.asserted place (Some a) })
-    (pushed kept (a.literal ∷ []) a.level rests counted)
-backs-assertion rs memo e kept place a rests counted b number =
-    backs-clause rs memo e kept (a.literal ∷ []) a.level rests counted (placed e.asserted place (Some a)) e.refuted
+    (with_clause kept (a.literal ∷ []) a.level rests)
+backs-assertion rs memo e kept place a rests b number =
+    backs-clause rs memo e kept (a.literal ∷ []) a.level rests (placed e.asserted place (Some a))
     (units-placed e.kept e.asserted place a number b.asserted) b
 
 -- where an assertion has no clause
@@ -110,17 +97,6 @@ backs-without rs memo e kept place b = record {
     | inl none ↦ absurd (none-some other none)
     | inr before ↦ b.asserted q other before
   ];
-}
-
--- with more lines of regexes
-pub backs-traced : (rs more : List Regex) (memo memos : Memo) (e : Backing) (t : Traced) (before after : AllKept)
-    → Backs rs memo e before → Tracks more memos t after → KeepsClauses before after
-    → atoms_in more e.atoms ≡ atoms_in rs e.atoms → Backs more memos (record e { trace = t }) after
-backs-traced rs more memo memos e t before after b tracks keeps atoms = record {
-  tracks = tracks;
-  atoms = keeps.atoms ∙ b.atoms ∙ sym atoms;
-  clauses = keeps.clauses ∙ b.clauses;
-  asserted = b.asserted;
 }
 
 -- where the arena grows, and more derivatives are known

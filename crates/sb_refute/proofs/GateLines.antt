@@ -1,5 +1,5 @@
 -- The clauses of gates of an atom speak of the atoms up to it, and their lines follow.
-use Rattle.std.proofs.Common.{◌≡◌, ◌≢◌, ℕ, suc, ◌+◌, ◌<◌, Bool, true, false, nat_lt, if◌then◌else◌, List, [], ◌∷◌, ◌++◌, length, map, take, Option, Some, Result, Ok, Err, All, Contains, inl, inr, refl, sym, ap, subst, ◌∙◌, arith, append_assoc}
+use Rattle.std.proofs.Common.{◌≡◌, ◌≢◌, ◌⊎◌, ℕ, zero, suc, ◌+◌, ◌<◌, Bool, true, false, nat_lt, if◌then◌else◌, List, [], ◌∷◌, ◌++◌, length, map, take, Option, Some, Result, Ok, Err, All, Contains, inl, inr, refl, sym, ap, subst, ◌∙◌, arith, append_assoc}
 use Rattle.std.specs.List.{list_all}
 use Rattle.std.proofs.lemmas.Bool.{and_parts, and_from, false≢true, lt-ltb, ltb-true}
 use Rattle.std.proofs.lemmas.List.Elements.{All-nil, All-cons}
@@ -18,7 +18,7 @@ use Rattle.sb_rulebook.specs.Atoms.{Atom, AtomOver, bool_atom, in_atom, le_atom,
 use Rattle.sb_rulebook.specs.Tables.{names_below}
 use Rattle.sb_rulebook.specs.Translation.{in_order}
 use Rattle.sb_rulebook.specs.Gates.{is_gate}
-use Rattle.sb_rulebook.specs.Kept.{AllKept, Asked}
+use Rattle.sb_rulebook.specs.Kept.{AllKept, Asked, with_clause}
 use Rattle.sb_rulebook.specs.Follows.{follows}
 use Rattle.sb_rulebook.specs.Lines.{rule_line, text_of}
 use Rattle.sb_rulebook.specs.Lines as lines
@@ -33,10 +33,17 @@ use Rattle.sb_atoms.specs.GateClauses.{atom_at, gate, is_trivial, clause_of, par
 use Rattle.sb_trace.proofs.CallerLemmas.{puts_one}
 use Rattle.sb_refute.specs.Backing.{Backing, Backs, EvidencesUncounted, HasGatesOf}
 use Rattle.sb_refute.specs.Lines.{IsOfGates}
-use Rattle.sb_refute.proofs.Backs.{backs-denial}
-use Rattle.sb_refute.proofs.ClauseLines.{pushed}
-use Rattle.sb_refute.proofs.Hints.{cons-cases, not-in-nil}
+use Rattle.sb_refute.proofs.Backs.{backs-gate}
 use Rattle.sb_refute.proofs.Holding.{literals-grown}
+
+-- Elements of lists.
+
+cons-cases : {X : Type 0} (y : X) (xs : List X) (x : X) → Contains (y ∷ xs) x → (y ≡ x) ⊎ Contains xs x
+cons-cases y xs x (zero, l, e) = inl e
+cons-cases y xs x (suc k, l, e) = inr (k, omega (arith, l), e)
+
+not-in-nil : {X : Type 0} (x : X) → Contains [] x → ⊥
+not-in-nil x (k, l, e) = omega (arith, l)
 
 -- The atoms of the clauses.
 
@@ -151,9 +158,9 @@ known-defined rs atoms (m ∷ ms) h l among =
 
 gate-follows : RuleLinesAreExact → GatesAreExact → (asked : Asked) (kept : AllKept) (rs : List Regex)
     (atoms : List (AtomOver ℕ)) (clause : List Lit) → kept.atoms ≡ atoms_in rs atoms → IsOfGates atoms clause
-    → follows asked kept (rule_line lines.gate clause) ≡ Ok (pushed kept clause 0 [] kept.counted)
+    → follows asked kept (rule_line lines.gate clause) ≡ Ok (with_clause kept clause 0 [])
 gate-follows exact gates asked kept rs atoms clause is h =
-    (exact asked kept (pushed kept clause 0 [] kept.counted) lines.gate clause).1 (record {
+    (exact asked kept (with_clause kept clause 0 []) lines.gate clause).1 (record {
       defined = subst (λ (all : List Atom). AreDefined all clause) (sym is) (known-defined rs atoms clause h.known);
       ascend = ascend_form clause h.ascends;
       form = (gates kept.atoms clause).0 (ap (λ (all : List Atom). is_gate all clause) is ∙ h.gate rs);
@@ -170,12 +177,12 @@ pub gate-put : RuleLinesAreExact → GatesAreExact → (asked : Asked) (before :
     → EvidencesUncounted asked before rs memo f old new
 gate-put exact gates asked before rs memo e f clause given old new h smalls same is b told =
     subst (λ (x : Backing). EvidencesUncounted asked before rs memo x old new) (sym is) (record {
-      after = pushed before clause 0 [] before.counted;
-      puts = puts_one asked before (pushed before clause 0 [] before.counted) (rule_line lines.gate clause) old new
+      after = with_clause before clause 0 [];
+      puts = puts_one asked before (with_clause before clause 0 []) (rule_line lines.gate clause) old new
           (gate-follows exact gates asked before rs e.atoms clause b.atoms h)
           (ap (list_all is_small_literal) (sym same) ∙ smalls)
           (told ∙ ap (λ (ls : List Lit). with_bytes (line (text_of (rule_line lines.gate ls))) old) same);
-      backs = backs-denial rs memo e before clause [] before.counted b;
+      backs = backs-gate rs memo e before clause [] b;
       counted = refl;
     })
 

@@ -7,7 +7,7 @@ use Rattle.std.proofs.lemmas.List.Folds.{list_all-append}
 use Rattle.std.proofs.lemmas.Option.{same_Some, none-some}
 use Rattle.sb_lit.specs.declared.clause.Lit.{Lit}
 use Rattle.sb_lit.specs.declared.clause.ClauseId.{ClauseId}
-use Rattle.sb_lit.specs.Kept.{Kept, KeptClause, kept_at, is_above, stays_up_to, kept_up_to}
+use Rattle.sb_lit.specs.Kept.{Kept, KeptClause, is_above, stays_up_to, kept_up_to}
 use Rattle.sb_clauses.specs.Propagation.{State, are_reserved, is_reserved, has_room_for}
 use Rattle.sb_rulebook.specs.Atoms.{AtomOver}
 use Rattle.sb_atoms.specs.Numbered.{Names, Extends, NameEarlier}
@@ -17,7 +17,7 @@ use Rattle.sb_refute.specs.declared.evidence.EmptyClause.{EmptyClause}
 use Rattle.sb_refute.specs.Backing.{HasGates, HasGatesOf, asserted_at, empty_at, refuted_up_to}
 use Rattle.sb_refute.specs.Lines.{placed}
 use Rattle.sb_refute.specs.Standing.{AreOfAtoms, Stand}
-use Rattle.sb_refute.proofs.Clauses.{none-kept, kept-stays, kept-last, kept-cases, stayed, stays, none-stays}
+use Rattle.sb_refute.proofs.Clauses.{none-kept, kept-stays, kept-cases, stayed, stays, none-stays}
 use Rattle.sb_refute.proofs.Places.{none-at, placed-cases, front}
 
 pub stand-none : (asserted : List (Option Asserted)) → asserted ≡ [] → Stand [] [] asserted None 0
@@ -63,36 +63,6 @@ stand-clause atoms kept asserted r gates clause new some h = record {
   gates_known = h.gates_known;
   gated = gates-more gates atoms kept (Some clause) h.gated;
 }
-
-pub stand-empty : (atoms : List (AtomOver ℕ)) (kept : Kept) (asserted : List (Option Asserted))
-    (r : Option EmptyClause) (gates : ℕ) (empty : EmptyClause) → empty.clause.0 ≡ length kept → r ≡ None
-    → Stand atoms kept asserted r gates
-    → Stand atoms (kept ++ Some (empty_at empty) ∷ []) asserted (Some empty) gates
-stand-empty atoms kept asserted r gates empty number unset h = record {
-  of_atoms = h.of_atoms;
-  earlier = h.earlier;
-  known = known-more (length atoms) kept (empty_at empty) h.known refl;
-  refuted = λ found is.
-      subst (λ (x : EmptyClause). kept_at (kept ++ Some (empty_at empty) ∷ []) x.clause.0 ≡ Some (empty_at x))
-      (same_Some empty found is)
-      (ap (kept_at (kept ++ Some (empty_at empty) ∷ [])) number ∙ kept-last kept (Some (empty_at empty)));
-  alone = λ id c there bare. elim (kept-cases kept (empty_at empty) id c there) [
-    | inl before ↦
-        let it = h.alone id c before bare in absurd (none-some it.0 (sym unset ∙ it.1))
-    | inr last ↦
-        let level : empty.level ≡ c.level = ap (λ (k : KeptClause). k.level) last.1 in
-        (empty, refl, omega (arith, level))
-  ];
-  gates_known = h.gates_known;
-  gated = gates-more gates atoms kept (Some (empty_at empty)) h.gated;
-}
-
--- where the empty clause is not there, no clause is empty
-pub none-bare : (atoms : List (AtomOver ℕ)) (kept : Kept) (asserted : List (Option Asserted))
-    (r : Option EmptyClause) (gates : ℕ) → Stand atoms kept asserted r gates → r ≡ None → (id : ℕ) (c : KeptClause)
-    → kept_at kept id ≡ Some c → c.literals ≢ []
-none-bare atoms kept asserted r gates h unset id c there = λ bare.
-    let it = h.alone id c there bare in none-some it.0 (sym unset ∙ it.1)
 
 -- With the gates of one atom more.
 
@@ -286,26 +256,6 @@ stand-added (Err e) atoms old new asserted r gates ls given level ok err same kn
   subst (λ (s : State). Stand atoms s.kept asserted r gates) (sym err) h,
   ap (λ (s : State). s.trail.literals) err ∙ none,
 )
-
-pub stand-with-empty : (atoms : List (AtomOver ℕ)) (old new : State) (asserted : List (Option Asserted))
-    (r : Option EmptyClause) (gates : ℕ) (empty : EmptyClause) (given : List Lit)
-    → new ≡ record old { kept = old.kept ++ Some (record { literals = given; level = empty.level }) ∷ [] }
-    → given ≡ [] → empty.clause.0 ≡ length old.kept → r ≡ None → Stand atoms old.kept asserted r gates
-    → old.trail.literals ≡ [] → Stand atoms new.kept asserted (Some empty) gates × (new.trail.literals ≡ [])
-stand-with-empty atoms old new asserted r gates empty given is bare number unset h none = (
-  subst (λ (s : State). Stand atoms s.kept asserted (Some empty) gates)
-      (sym (is ∙ ap (λ (ls : List Lit). record old {
-        kept = old.kept ++ Some (record { literals = ls; level = empty.level }) ∷ [];
-      }) bare))
-      (stand-empty atoms old.kept asserted r gates empty number unset h),
-  ap (λ (s : State). s.trail.literals) is ∙ none,
-)
-
-pub stand-same : (atoms : List (AtomOver ℕ)) (old new : State) (asserted : List (Option Asserted))
-    (r : Option EmptyClause) (gates : ℕ) → new ≡ old → Stand atoms old.kept asserted r gates → old.trail.literals ≡ []
-    → Stand atoms new.kept asserted r gates × (new.trail.literals ≡ [])
-stand-same atoms old new asserted r gates is h none =
-    subst (λ (s : State). Stand atoms s.kept asserted r gates × (s.trail.literals ≡ [])) (sym is) (h, none)
 
 pub ok-then : {T E P Q : Type 0} (result : Result T E) → (P → Q) → IfOk result (λ _. P) → OnOk result Q
 ok-then (Ok x) leads h = leads h

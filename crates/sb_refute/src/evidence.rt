@@ -1,7 +1,6 @@
 //! What stands in a proof of the live assertions.
 
-ghost use Rattle.std.specs.Prelude.{◌≡◌, ◌≢◌, ◌<◌, ◌≤◌, ◌∷◌, ◌++◌, ℕ, [], take, true, map, List, Some, None, length, option_map, OnOk, OnErr, IfOk, IfSome};
-ghost use Rattle.sb_script.specs.Pieces.{constant_piece};
+ghost use Rattle.std.specs.Prelude.{◌≡◌, ◌≢◌, ◌<◌, ◌≤◌, ◌∷◌, ◌++◌, ℕ, [], take, true, List, Some, None, length, option_map, OnOk, OnErr, IfOk, IfSome};
 ghost use Rattle.sb_lit.specs.Kept.{kept_at};
 ghost use Rattle.sb_clauses.specs.Propagation.{are_reserved, has_room_for};
 ghost use Rattle.sb_lang.specs.Regex.{Regex};
@@ -10,10 +9,9 @@ ghost use Rattle.sb_deriv.specs.Faithful.{Memo};
 ghost use Rattle.sb_term.specs.Numbered.{term_at};
 ghost use Rattle.sb_problem.specs.Known.{AreNormals};
 ghost use Rattle.sb_fragment.specs.Measures.{AreMeasures};
-ghost use Rattle.sb_rulebook.specs.Atoms.{AtomOver, in_atom};
 ghost use Rattle.sb_rulebook.specs.Kept.{AllKept, Asked, nothing_kept, dropped_above, all_dropped};
-ghost use Rattle.sb_atoms.specs.Numbered.{atom_in, atoms_in, HaveRegexesBelow, Extends};
-ghost use Rattle.sb_atoms.specs.Translated.{brought_translation, is_member, HasNoLiteral};
+ghost use Rattle.sb_atoms.specs.Numbered.{atoms_in, HaveRegexesBelow, Extends};
+ghost use Rattle.sb_atoms.specs.Translated.{brought_translation, HasNoLiteral};
 ghost use Rattle.sb_trace.specs.Putting.{CountsTapeFault};
 ghost use Rattle.sb_trace.specs.Tracking.{StaysNumbered};
 ghost use Rattle.sb_refute.specs.Backing.{backing_of, IsLowestEmpty, HasGates, Backs, EvidencesUncounted, IsStatement, KeepsAsserted, AreUpTo, asserted_at, unit_at, empty_at, left_above, refuted_up_to, left_all};
@@ -21,21 +19,21 @@ ghost use Rattle.sb_refute.specs.Lines.{AreDue, IsAssertion, IsStanding, placed,
 ghost use Rattle.sb_refute.specs.Standing.{Stand};
 
 use crate::defining::{define_atoms, put_line};
-use sb_atoms::{Atom, Atoms};
+use sb_atoms::Atoms;
 use sb_clauses::{Clauses, Engine};
 use sb_fragment::Measures;
 use sb_lit::{Clause, ClauseId, Lit};
 use sb_problem::Normals;
 use sb_proof::{Line, Tape, TapeFault};
-use sb_regex::{Arena, RegexId};
+use sb_regex::Arena;
 use sb_sound::clauses::assertion_lines_are_exact;
-use sb_term::{Serial, Table, TermId};
+use sb_term::{Table, TermId};
 use sb_trace::Trace;
 use std::alloc::{AllocError, Global};
 use std::marker::Model;
 
 /// The clause of an assertion: its number, its one literal, and the assertion's level.
-#[derive(Clone, Copy, PartialEq, Eq)]
+#[derive(Clone, Copy)]
 pub struct Asserted {
     pub clause: ClauseId,
     pub literal: Lit,
@@ -43,7 +41,7 @@ pub struct Asserted {
 }
 
 /// The empty clause, and its level.
-#[derive(Clone, Copy, PartialEq, Eq)]
+#[derive(Clone, Copy)]
 pub struct EmptyClause {
     pub clause: ClauseId,
     pub level: u64,
@@ -53,14 +51,14 @@ pub struct EmptyClause {
 #[derive(Drop)]
 pub struct Evidence {
     pub(crate) alloc: Global,
-    pub(crate) trace: Trace,
+    trace: Trace,
     /// An atom has the same number in the proof.
     pub(crate) atoms: Atoms,
     /// The clauses that stand in the proof, each under the number that it has there. No literals stand on the trail.
-    pub(crate) engine: Engine,
+    engine: Engine,
     /// By the places of live assertions.
     asserted: Vec<Option<Asserted>>,
-    pub(crate) refuted: Option<EmptyClause>,
+    refuted: Option<EmptyClause>,
     /// Of so many atoms, the first ones, the clauses of their gates stand in the proof.
     pub(crate) gates: usize,
 }
@@ -403,26 +401,8 @@ impl Evidence {
         self.engine.add(&clause, level)
     }
 
-    /// Keeps the empty clause, whose line is put in the same step.
-    pub(crate) fn add_empty(&mut self, level: u64) -> Result<EmptyClause, AllocError>
-        requires unset { self.old.refuted ≡ None }
-        ensures number { IfOk result (λ empty. empty.clause.0 ≡ length self.old.kept) }
-        ensures level { IfOk result (λ empty. empty.level ≡ level) }
-        ensures ok { IfOk result (λ empty. self.new ≡ record self.old {
-          kept = self.old.kept ++ Some (empty_at empty) ∷ [];
-          refuted = Some empty;
-        }) }
-        ensures err { OnErr result (self.new ≡ self.old) }
-    {
-        let none = Clause::from_literals(Vec::new(self.alloc));
-        let clause = self.engine.add(&none, level)?;
-        let empty = EmptyClause { clause, level };
-        self.refuted = Some(empty);
-        Ok(empty)
-    }
-
     /// What is known of all that stands in the proof.
-    pub(crate) fn stands(&self)
+    fn stands(&self)
         ensures { Stand self.now.atoms self.now.kept self.now.asserted self.now.refuted self.now.gates }
     {
         let _engine = &self.engine;
@@ -490,15 +470,4 @@ fn put_at(
     all.resize(place, None)?;
     all.push(asserted)?;
     Ok(())
-}
-
-/// The constant and the regex of an atom.
-pub(crate) fn membership_of(atom: &Atom) -> (Serial, RegexId)
-    requires { is_member (atom_in atom.now) ≡ true }
-    ensures { atom_in atom.now ≡ in_atom (constant_piece result.0.0 ∷ []) result.1 }
-{
-    let Atom::In(serial, regex) = atom else {
-        unreachable!();
-    };
-    (*serial, *regex)
 }

@@ -23,7 +23,7 @@ use Rattle.sb_sound.specs.Certified.{Proves, last_lines}
 use Rattle.sb_proof.specs.Tapes.{with_bytes}
 use Rattle.sb_prover.specs.Proving.{Proving, IsAbreast, IsProved, AbreastStays, HaveLevels}
 use Rattle.sb_solve.specs.Truth.{IsTrue}
-use Rattle.sb_stack.specs.Stacked.{Stacked, state_of, without_words}
+use Rattle.sb_stack.specs.Stacked.{Stacked, state_of, live_constants, without_words}
 use Rattle.sb_stack.specs.declared.verdict.Verdict as code
 use Rattle.sb_stack.specs.declared.verdict.Verdict.TheVariants as verdict
 use Rattle.sb_stack.specs.Steps.{verdict_in, found}
@@ -292,6 +292,19 @@ proof_cut decided p session between state kind old new (inr h) =
           h.v same h.finds);
       cut = cut_in_lines h.lines ((out_port.Answers, verdict_text h.v) ∷ []) old new h.cut;
     })
+
+-- a verdict makes the same of states that differ in their mode and words alone
+pub settled_of_rest : (v : code.Verdict) (old new : Stacked) → without_words new ≡ without_words old
+    → settled (verdict_in (live_constants new) v) (state_of new)
+    ≡ settled (verdict_in (live_constants old) v) (state_of old)
+settled_of_rest v old new e =
+    ap (λ (ns : List (ℕ × Sort)). settled (verdict_in ns v) (state_of new)) (ap (λ (s : Stacked). live_constants s) e)
+    ∙ settled_of_same (verdict_in (live_constants old) v) (state_of new) (state_of old)
+    (ap (λ (s : Stacked). record (state_of s) { mode = plain }) e)
+
+pub text_of_rest : (v : code.Verdict) (old new : Stacked) → without_words new ≡ without_words old
+    → verdict_text (verdict_in (live_constants new) v) ≡ verdict_text (verdict_in (live_constants old) v)
+text_of_rest v old new e = ap (λ (s : Stacked). verdict_text (verdict_in (live_constants s) v)) e
 
 -- The live assertions with their levels are the same whatever a check finds.
 

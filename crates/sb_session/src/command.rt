@@ -9,9 +9,10 @@ ghost use Rattle.sb_atoms.specs.Numbered.{HaveRegexesBelow};
 ghost use Rattle.sb_prover.specs.Proving.{HaveLevels};
 ghost use Rattle.sb_rulebook.specs.Accepted.{asked_in};
 ghost use Rattle.sb_rulebook.specs.Judging.{Progress, beginning};
-ghost use Rattle.sb_stack.specs.Stacked.{state_of, live_constants};
+ghost use Rattle.sb_stack.specs.Stacked.{state_of, live_constants, without_words};
 ghost use Rattle.sb_stack.specs.Steps.{IsEntry, entry_of, verdict_in, found};
-ghost use Rattle.sb_decide.specs.Knowing.{Knows, IsDecision, IsLeftOpen};
+ghost use Rattle.sb_decide.specs.Knowing.{Knows, IsDecision};
+ghost use Rattle.sb_decide.specs.Ready.{IsLeftOpen};
 ghost use Rattle.sb_decide.specs.Laws.{LeavesKnown};
 ghost use Rattle.sb_session.specs.Commanding.{SessionState, Goes, Fails, AnswersEntry, CutOrNot, CutOf, IsTracked, proof_of, is_proved, is_exited, went_of, CountsSessionFault};
 ghost use Rattle.sb_sound.specs.ScriptLaws.{IsFit};
@@ -339,35 +340,36 @@ fn answer_check<W: World>(
 /// lines that prove it, where a proof is written.
 fn find_verdict<W: World>(
     alloc: Global,
-    stack: &Stack,
+    stack: &mut Stack,
     decider: &mut Decider,
     prover: &mut Prover,
     proved: bool,
     decided: Option<Verdict>,
     world: &mut W,
 ) -> Result<Verdict, WorldError>
-    requires knows { IfSome decided (λ v. Knows decider.old (found v stack.now)) }
+    requires knows { IfSome decided (λ v. Knows decider.old (found v stack.old)) }
     requires verdict { IfSome decided
-        (λ v. IsVerdict (state_of stack.now) [] (verdict_in (live_constants stack.now) v)) }
+        (λ v. IsVerdict (state_of stack.old) [] (verdict_in (live_constants stack.old) v)) }
     requires decided { IfSome decided (λ v. IsDecision v decider.old) }
-    requires open { IfNone decided (IsLeftOpen decider.old stack.now) }
+    requires open { IfNone decided (IsLeftOpen decider.old stack.old) }
     requires regexes { HasRegexes decider.old.arena prover.old }
-    requires fit { IsFit (state_of stack.now) }
-    requires sound { HasTrue (state_of stack.now) decider.old prover.old }
-    ensures knows { IfOk result (λ v. Knows decider.new (found v stack.now)) }
+    requires fit { IsFit (state_of stack.old) }
+    requires sound { HasTrue (state_of stack.old) decider.old prover.old }
+    ensures knows { IfOk result (λ v. Knows decider.new (found v stack.new)) }
+    ensures rest { without_words stack.new ≡ without_words stack.old }
     ensures regexes { OnOk result (HasRegexes decider.new.arena prover.new) }
-    ensures levels { OnOk result (HasLevels (state_of stack.now) prover.old
-        → HasLevels (state_of stack.now) prover.new) }
-    ensures sound { OnOk result (HasTrue (state_of stack.now) decider.new prover.new) }
+    ensures levels { OnOk result (HasLevels (state_of stack.old) prover.old
+        → HasLevels (state_of stack.old) prover.new) }
+    ensures sound { OnOk result (HasTrue (state_of stack.old) decider.new prover.new) }
     ensures ok { IfOk result
-        (λ v. (p : Progress) → IsTracked (session_of stack.now decider.old (proof_of proved prover.old)) p
-        → ProvesCheck (state_of stack.now) (verdict_in (live_constants stack.now) v) p
-        (is_some (proof_of proved prover.old)) (session_of stack.now decider.new (proof_of proved prover.new))
+        (λ v. (p : Progress) → IsTracked (session_of stack.old decider.old (proof_of proved prover.old)) p
+        → ProvesCheck (state_of stack.old) (verdict_in (live_constants stack.old) v) p
+        (is_some (proof_of proved prover.old)) (session_of stack.old decider.new (proof_of proved prover.new))
         (W.outside world.old) (W.outside world.new)) }
     ensures err { OnErr result
-        ((p : Progress) → IsTracked (session_of stack.now decider.old (proof_of proved prover.old)) p
+        ((p : Progress) → IsTracked (session_of stack.old decider.old (proof_of proved prover.old)) p
         → (W.outside world.new ≡ W.outside world.old)
-        ⊎ CutProof (state_of stack.now) p (is_some (proof_of proved prover.old)) (W.outside world.old)
+        ⊎ CutProof (state_of stack.old) p (is_some (proof_of proved prover.old)) (W.outside world.old)
         (W.outside world.new)) }
     ensures faults { CountsFault result (W.faults world.old) (W.faults world.new) }
 {
@@ -381,30 +383,31 @@ fn find_verdict<W: World>(
 /// proof it is `NoMemory` where it would take more steps than a check may have.
 fn solve_check<W: World>(
     alloc: Global,
-    stack: &Stack,
+    stack: &mut Stack,
     decider: &mut Decider,
     prover: &mut Prover,
     proved: bool,
     world: &mut W,
 ) -> Result<Verdict, WorldError>
-    requires open { IsLeftOpen decider.old stack.now }
+    requires open { IsLeftOpen decider.old stack.old }
     requires regexes { HasRegexes decider.old.arena prover.old }
-    requires fit { IsFit (state_of stack.now) }
-    requires sound { HasTrue (state_of stack.now) decider.old prover.old }
-    ensures knows { IfOk result (λ v. Knows decider.new (found v stack.now)) }
+    requires fit { IsFit (state_of stack.old) }
+    requires sound { HasTrue (state_of stack.old) decider.old prover.old }
+    ensures knows { IfOk result (λ v. Knows decider.new (found v stack.new)) }
+    ensures rest { without_words stack.new ≡ without_words stack.old }
     ensures regexes { OnOk result (HasRegexes decider.new.arena prover.new) }
-    ensures levels { OnOk result (HasLevels (state_of stack.now) prover.old
-        → HasLevels (state_of stack.now) prover.new) }
-    ensures sound { OnOk result (HasTrue (state_of stack.now) decider.new prover.new) }
+    ensures levels { OnOk result (HasLevels (state_of stack.old) prover.old
+        → HasLevels (state_of stack.old) prover.new) }
+    ensures sound { OnOk result (HasTrue (state_of stack.old) decider.new prover.new) }
     ensures ok { IfOk result
-        (λ v. (p : Progress) → IsTracked (session_of stack.now decider.old (proof_of proved prover.old)) p
-        → ProvesCheck (state_of stack.now) (verdict_in (live_constants stack.now) v) p
-        (is_some (proof_of proved prover.old)) (session_of stack.now decider.new (proof_of proved prover.new))
+        (λ v. (p : Progress) → IsTracked (session_of stack.old decider.old (proof_of proved prover.old)) p
+        → ProvesCheck (state_of stack.old) (verdict_in (live_constants stack.old) v) p
+        (is_some (proof_of proved prover.old)) (session_of stack.old decider.new (proof_of proved prover.new))
         (W.outside world.old) (W.outside world.new)) }
     ensures err { OnErr result
-        ((p : Progress) → IsTracked (session_of stack.now decider.old (proof_of proved prover.old)) p
+        ((p : Progress) → IsTracked (session_of stack.old decider.old (proof_of proved prover.old)) p
         → (W.outside world.new ≡ W.outside world.old)
-        ⊎ CutProof (state_of stack.now) p (is_some (proof_of proved prover.old)) (W.outside world.old)
+        ⊎ CutProof (state_of stack.old) p (is_some (proof_of proved prover.old)) (W.outside world.old)
         (W.outside world.new)) }
     ensures faults { CountsFault result (W.faults world.old) (W.faults world.new) }
 {
@@ -418,29 +421,30 @@ fn solve_check<W: World>(
 /// Answers a check that was left open, and writes the lines that prove the verdict.
 fn solve<W: World>(
     alloc: Global,
-    stack: &Stack,
+    stack: &mut Stack,
     decider: &mut Decider,
     prover: &mut Prover,
     world: &mut W,
 ) -> Result<Verdict, WorldError>
-    requires open { IsLeftOpen decider.old stack.now }
+    requires open { IsLeftOpen decider.old stack.old }
     requires regexes { HasRegexes decider.old.arena prover.old }
-    requires fit { IsFit (state_of stack.now) }
-    requires sound { HasTrue (state_of stack.now) decider.old prover.old }
-    ensures knows { IfOk result (λ v. Knows decider.new (found v stack.now)) }
+    requires fit { IsFit (state_of stack.old) }
+    requires sound { HasTrue (state_of stack.old) decider.old prover.old }
+    ensures knows { IfOk result (λ v. Knows decider.new (found v stack.new)) }
+    ensures rest { without_words stack.new ≡ without_words stack.old }
     ensures regexes { OnOk result (HasRegexes decider.new.arena prover.new) }
-    ensures levels { OnOk result (HasLevels (state_of stack.now) prover.old
-        → HasLevels (state_of stack.now) prover.new) }
-    ensures sound { OnOk result (HasTrue (state_of stack.now) decider.new prover.new) }
+    ensures levels { OnOk result (HasLevels (state_of stack.old) prover.old
+        → HasLevels (state_of stack.old) prover.new) }
+    ensures sound { OnOk result (HasTrue (state_of stack.old) decider.new prover.new) }
     ensures ok { IfOk result
-        (λ v. (p : Progress) → IsTracked (session_of stack.now decider.old (Some prover.old)) p
-        → ProvesCheck (state_of stack.now) (verdict_in (live_constants stack.now) v) p
-        true (session_of stack.now decider.new (Some prover.new))
+        (λ v. (p : Progress) → IsTracked (session_of stack.old decider.old (Some prover.old)) p
+        → ProvesCheck (state_of stack.old) (verdict_in (live_constants stack.old) v) p
+        true (session_of stack.old decider.new (Some prover.new))
         (W.outside world.old) (W.outside world.new)) }
     ensures err { OnErr result
-        ((p : Progress) → IsTracked (session_of stack.now decider.old (Some prover.old)) p
+        ((p : Progress) → IsTracked (session_of stack.old decider.old (Some prover.old)) p
         → (W.outside world.new ≡ W.outside world.old)
-        ⊎ CutProof (state_of stack.now) p true (W.outside world.old)
+        ⊎ CutProof (state_of stack.old) p true (W.outside world.old)
         (W.outside world.new)) }
     ensures faults { CountsFault result (W.faults world.old) (W.faults world.new) }
 {
@@ -454,21 +458,22 @@ fn solve<W: World>(
 
 /// Answers a check that was left open, without a proof; it is never `Unknown`.
 fn solve_unproved(
-    stack: &Stack,
+    stack: &mut Stack,
     decider: &mut Decider,
     prover: &mut Prover,
 ) -> Result<Verdict, AllocError>
-    requires open { IsLeftOpen decider.old stack.now }
+    requires open { IsLeftOpen decider.old stack.old }
     requires regexes { HasRegexes decider.old.arena prover.old }
-    requires fit { IsFit (state_of stack.now) }
-    requires sound { HasTrue (state_of stack.now) decider.old prover.old }
+    requires fit { IsFit (state_of stack.old) }
+    requires sound { HasTrue (state_of stack.old) decider.old prover.old }
     ensures finds { IfOk result
-        (λ v. FindsUnproved (state_of stack.now) [] [] (verdict_in (live_constants stack.now) v)) }
-    ensures knows { IfOk result (λ v. Knows decider.new (found v stack.now)) }
+        (λ v. FindsUnproved (state_of stack.old) [] [] (verdict_in (live_constants stack.old) v)) }
+    ensures knows { IfOk result (λ v. Knows decider.new (found v stack.new)) }
+    ensures rest { without_words stack.new ≡ without_words stack.old }
     ensures regexes { OnOk result (HasRegexes decider.new.arena prover.new) }
-    ensures levels { OnOk result (HasLevels (state_of stack.now) prover.old
-        → HasLevels (state_of stack.now) prover.new) }
-    ensures sound { OnOk result (HasTrue (state_of stack.now) decider.new prover.new) }
+    ensures levels { OnOk result (HasLevels (state_of stack.old) prover.old
+        → HasLevels (state_of stack.old) prover.new) }
+    ensures sound { OnOk result (HasTrue (state_of stack.old) decider.new prover.new) }
 {
     let Ok(verdict) = prover.solve(decider, stack, false, &mut NoTape) else {
         return Err(AllocError);
@@ -557,7 +562,6 @@ fn prove<W: World>(
         ⊎ CutProof (state_of stack.now) p true (W.outside world.old) (W.outside world.new)) }
     ensures faults { CountsFault result (W.faults world.old) (W.faults world.new) }
 {
-    entries_lead_on();
     let mut tape = MemTape::new(alloc);
     let Ok(verdict) = prover.prove(decider, stack, verdict, &mut tape) else {
         return Err(WorldError::NoMemory);

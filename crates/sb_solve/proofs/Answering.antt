@@ -97,7 +97,7 @@ ended more memo parts literals proves x before after between new count stands se
   known = ap (λ (ts : List (AtomOver ℕ)). has_room_for (length ts) x.parts.engine.kept) searched.atoms
       ∙ has_room parts.atoms x.parts.engine.kept
       (searched.known (have_atoms parts.atoms parts.engine.kept stands.known));
-  core = core_of x.wanted.items x.parts.engine after x.found searched.found;
+  core = core_of x.wanted x.parts.engine after x.found searched.found;
   graph = searched.graph;
   plain = searched.plain;
   regexes = searched.regexes;
@@ -136,11 +136,11 @@ module _ (s : Stacked) (places : List ℕ) (rs more : List Regex) (memo : Memo) 
       (λ place l one. subst (λ (m : Lit). m.atom < length parts.atoms) one.literal
       (stands.of_atoms place one.clause one.there)) places literals stated.all
 
-  wanted_atoms : list_all (is_atom parts.atoms) x.wanted.items ≡ true
+  wanted_atoms : list_all (is_atom parts.atoms) x.wanted ≡ true
   wanted_atoms = searched.among [] (table []) literal_atoms
 
-  decided : IsFull x.wanted.items [] x.parts.engine
-      → IsDecided x.arena parts.atoms x.wanted.items x.parts.engine.kept x.parts.engine.trail.literals
+  decided : IsFull x.wanted [] x.parts.engine
+      → IsDecided x.arena parts.atoms x.wanted x.parts.engine.kept x.parts.engine.trail.literals
   decided full = record {
     table = table x.arena;
     distinct = searched.distinct;
@@ -148,7 +148,7 @@ module _ (s : Stacked) (places : List ℕ) (rs more : List Regex) (memo : Memo) 
     closed = searched.wanted.closed;
     full = full.full;
     none_false = full.none_false;
-    gates = gated parts.atoms parts.engine.kept x.parts.engine.kept literals x.wanted.items searched.kept stated.gates
+    gates = gated parts.atoms parts.engine.kept x.parts.engine.kept literals x.wanted searched.kept stated.gates
         searched.wanted wanted_atoms;
   }
 
@@ -173,22 +173,22 @@ module _ (s : Stacked) (places : List ℕ) (rs more : List Regex) (memo : Memo) 
         },
       )) places literals stated.all
 
-  answered : IsFull x.wanted.items [] x.parts.engine → x.found ≡ found.Sat → (start : AllKept) → Backs rs memo e start
+  answered : IsFull x.wanted [] x.parts.engine → x.found ≡ found.Sat → (start : AllKept) → Backs rs memo e start
       → AreTerms (asked_in (state_of s))
-      → IsAnswered x.arena x.parts.atoms x.wanted.items literals x.parts.engine.kept x.parts.engine.trail.literals
+      → IsAnswered x.arena x.parts.atoms x.wanted literals x.parts.engine.kept x.parts.engine.trail.literals
       x.words.items places (state_of s)
   answered full sat start b terms = record {
-    decided = subst (λ (ts : List (AtomOver ℕ)). IsDecided x.arena ts x.wanted.items x.parts.engine.kept
+    decided = subst (λ (ts : List (AtomOver ℕ)). IsDecided x.arena ts x.wanted x.parts.engine.kept
         x.parts.engine.trail.literals) (sym searched.atoms) (decided full);
     agrees = searched.agrees sat;
-    closed = subst (λ (ts : List (AtomOver ℕ)). AreWanted ts literals x.wanted.items) (sym searched.atoms) searched.wanted;
+    closed = subst (λ (ts : List (AtomOver ℕ)). AreWanted ts literals x.wanted) (sym searched.atoms) searched.wanted;
     stated = literals_there start b;
     terms = terms;
   }
 
   -- the answer
   by_kind : (c : Concluded) (f : Found) (solution : Solved) → x.found ≡ f
-      → Comes s x c.evidence.refuted f solution → IsFound x.wanted.items [] x.parts.engine after f
+      → Comes s x c.evidence.refuted f solution → IsFound x.wanted [] x.parts.engine after f
       → IsSolved s places rs memo e c.evidence after solution
   by_kind c found.Sat (solved.Sat words truths) is h full = record {
     few = h.few;
@@ -383,8 +383,8 @@ comes_from s x o f g a b found answer h =
 
 -- over lists that are the same
 pub answered_by : (s : State) (x : Searched) (literals : List Lit) (kept : Kept) (places wanted : List ℕ)
-    (trail : Assignments) → wanted ≡ x.wanted.items → trail ≡ x.parts.engine.trail
-    → IsAnswered x.arena x.parts.atoms x.wanted.items literals kept x.parts.engine.trail.literals x.words.items places s
+    (trail : Assignments) → wanted ≡ x.wanted → trail ≡ x.parts.engine.trail
+    → IsAnswered x.arena x.parts.atoms x.wanted literals kept x.parts.engine.trail.literals x.words.items places s
     → IsAnswered x.arena x.parts.atoms wanted literals kept trail.literals x.words.items places s
 answered_by s x literals kept places wanted trail is_wanted is_trail h =
     subst (λ (a : Assignments). IsAnswered x.arena x.parts.atoms wanted literals kept a.literals x.words.items places s)

@@ -7,11 +7,12 @@ use Rattle.std.specs.declared.cmp.Ordering.TheVariants.{Less, Equal, Greater}
 use Rattle.std.proofs.lemmas.Bool.{false≢true, and_parts, and_from, or_cases, or_left, or_right, eqb-true, eq-eqb, ltb-true}
 use Rattle.std.proofs.lemmas.List.{append-nil}
 use Rattle.std.proofs.lemmas.List.Folds.{list_all-append}
+use Rattle.std.proofs.lemmas.Map.Views.{any-filter_same}
 use Rattle.std.proofs.lemmas.Option.{slice_get-map, get_or_from_slice_get, unwrap_or-slice_get}
 use Rattle.sb_lit.specs.declared.clause.Lit.{Lit}
 use Rattle.sb_lit.specs.Clauses.{negation, is_among, is_same_literal, is_false_under, is_false_clause, is_true_under, literal_order}
 use Rattle.sb_lit.specs.Kept.{Kept}
-use Rattle.sb_lit.proofs.CallerLemmas.{is_same_literal-of, literal_of_parts, all_among}
+use Rattle.sb_lit.proofs.CallerLemmas.{is_same_literal-of, is_same_literal-true, literal_of_parts, all_among}
 use Rattle.sb_lang.specs.Regex.{Regex}
 use Rattle.sb_lang.specs.Language.{language}
 use Rattle.sb_regex.specs.Numbered.{regex_at}
@@ -35,10 +36,18 @@ use Rattle.sb_atoms.specs.GateClauses as gates
 use Rattle.sb_atoms.proofs.CallerLemmas.{all_say}
 use Rattle.sb_search.specs.Found.{has_value}
 use Rattle.sb_theory.specs.Memberships.{word_at, is_true_by, is_true_of, fits_subject, constant_of, subject_of, is_atom}
+use Rattle.sb_theory.specs.Wanted.{is_of_wanted, wanted_of, wanted_on}
 use Rattle.sb_solve.specs.Wanted.{is_in, atoms_of, parts_of, parts_at, is_simple, is_simple_at, is_closed}
 use Rattle.sb_solve.specs.Values.{is_true, is_constant, makes_true, truth_by}
 use Rattle.sb_solve.specs.Decided.{IsKept, AreKept, IsDecided, IsGiven}
 use Rattle.sb_solve.proofs.Gathered.{names_before}
+
+-- A literal of a wanted atom is one of those of wanted atoms.
+among_wanted : (wanted : List ℕ) (ls : List Lit) (l : Lit) → is_in wanted l.atom ≡ true → is_among ls l ≡ true
+    → is_among (wanted_of wanted ls) l ≡ true
+among_wanted wanted ls l there among =
+    any-filter_same (λ m. is_same_literal m l) (is_of_wanted wanted) true
+    (λ m same. ap (is_of_wanted wanted) (is_same_literal-true m l same) ∙ there) ls ∙ among
 
 -- Numbers of a list.
 
@@ -340,7 +349,8 @@ module _ (rs : List Regex) (atoms : List (AtomOver ℕ)) (wanted : List ℕ) (ke
         let has = all_in (has_value es) wanted i d.full there in
         let among = value_among es i (is_true es i) (valued es i has) in
         let fits : is_true_by rs atoms words l ≡ true =
-        all_among (is_true_by rs atoms words) (held es) l g.agrees among in
+        all_among (is_true_by rs atoms words) (wanted_on wanted es) l g.agrees
+        (among_wanted wanted (held es) l there among) in
         let subject : subject_of atoms l ≡ Some serial = ap (λ o. option_and_then constant_of o) at in
         let now : is_true_of rs atoms (word_at words serial) l ≡ true =
         ap (fits_subject rs atoms words l) (sym subject) ∙ fits in

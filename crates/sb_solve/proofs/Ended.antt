@@ -19,7 +19,8 @@ use Rattle.sb_refute.specs.declared.evidence.Parts.{Parts}
 use Rattle.sb_refute.specs.Backing.{asserted_at, unit_at}
 use Rattle.sb_search.specs.Following.{FollowsByLevel}
 use Rattle.sb_search.specs.Found.{GrowsTo, IsFound}
-use Rattle.sb_search.specs.Writing.{AreKnown, written}
+use Rattle.sb_search.specs.Asking.{AreKnown}
+use Rattle.sb_search.specs.Writing.{written}
 use Rattle.sb_search.specs.declared.found.Found.{Found}
 use Rattle.sb_search.specs.declared.found.Found.TheVariants as found
 use Rattle.sb_theory.specs.Strings as theory
@@ -47,16 +48,22 @@ kept_grown old new id clause g h =
 
 -- The search.
 
-pub none_known : (knows : ℕ → Type 0) → AreKnown knows []
-none_known knows = λ l h. absurd (false≢true h)
+pub none_known : (passes : ℕ → Type 0) → AreKnown passes []
+none_known passes = λ l h. absurd (false≢true h)
+
+-- where more is taught, the same follows
+pub follows_with : (fewer more : List Lit → Type 0) (old new : Kept)
+    → ((clause : List Lit) → fewer clause → more clause) → FollowsByLevel fewer old new → FollowsByLevel more old new
+follows_with fewer more old new taught h = λ level values obeys.
+    h level values (λ clause t. obeys clause (taught clause t))
 
 pub searched_over : (b c : Begun) (literals : List Lit) (proves : Bool) (before after : Spending)
     (old new : Option (List ℕ)) (f : Found) → b.strings.proves ≡ proves → Runs b c before after old new f
     → AreDistinct b.strings.atoms
-    → AreWanted b.strings.atoms literals b.strings.wanted.items
+    → AreWanted b.strings.atoms literals b.strings.wanted
     → ((rs : List Regex) → is_table (atoms_in rs b.strings.atoms) ≡ true
     → are_atoms b.strings.atoms literals ≡ true
-    → list_all (is_atom b.strings.atoms) b.strings.wanted.items ≡ true)
+    → list_all (is_atom b.strings.atoms) b.strings.wanted ≡ true)
     → IsSearched b.strings.arena b.strings.graph.memo (parts_of b) literals proves before after old new
     (searched_of c f)
 searched_over b c literals proves before after old new f same r distinct are among = record {
@@ -125,6 +132,12 @@ pub over_trail : (arena : List Regex) (graph : Findings) (parts : Parts) (wanted
     → IsOver arena graph parts wanted proves b → parts.engine.trail.literals ≡ [] → b.engine.trail.literals ≡ []
 over_trail arena graph parts wanted proves b o none = ap (λ (p : Parts). p.engine.trail.literals) o.parts ∙ none
 
+pub over_known : (arena : List Regex) (graph : Findings) (parts : Parts) (wanted : List ℕ) (proves : Bool) (b : Begun)
+    → IsOver arena graph parts wanted proves b → has_room_for (length parts.atoms) parts.engine.kept ≡ true
+    → has_room_for (length b.strings.atoms) b.engine.kept ≡ true
+over_known arena graph parts wanted proves b o h =
+    ap (λ (p : Parts). has_room_for (length p.atoms) p.engine.kept) o.parts ∙ h
+
 pub searched_by : (arena : List Regex) (graph : Findings) (parts : Parts) (literals : List Lit) (wanted : List ℕ)
     (proves : Bool) (b : Begun) (s : Searched) (before after : Spending) (old new : Option (List ℕ))
     → IsOver arena graph parts wanted proves b → HasRun b before after old new s → AreDistinct parts.atoms
@@ -139,11 +152,11 @@ searched_by arena graph parts literals wanted proves b s before after old new o 
     atoms : parts.atoms ≡ b.strings.atoms
     atoms = sym (over_atoms arena graph parts wanted proves b o)
 
-    is_wanted : AreWanted b.strings.atoms literals b.strings.wanted.items
+    is_wanted : AreWanted b.strings.atoms literals b.strings.wanted
     is_wanted = subst (AreWanted b.strings.atoms literals) (sym o.wanted)
         (subst (λ (ts : List (AtomOver ℕ)). AreWanted ts literals wanted) atoms are)
 
-    is_among : AreAmong b.strings.atoms literals b.strings.wanted.items
+    is_among : AreAmong b.strings.atoms literals b.strings.wanted
     is_among = subst (AreAmong b.strings.atoms literals) (sym o.wanted)
         (subst (λ (ts : List (AtomOver ℕ)). AreAmong ts literals wanted) atoms among)
 

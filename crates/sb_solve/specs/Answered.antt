@@ -6,7 +6,6 @@ use Rattle.sb_lit.specs.declared.clause.Lit.{Lit}
 use Rattle.sb_lit.specs.Kept.{Kept}
 use Rattle.sb_lang.specs.Regex.{Regex}
 use Rattle.sb_trail.specs.declared.assigned.Assigned.{Assigned}
-use Rattle.sb_trail.specs.Assignments.{held}
 use Rattle.sb_meaning.specs.Terms.{Term}
 use Rattle.sb_script.specs.State.{State, Assertion, asserted, a_mark, live}
 use Rattle.sb_rulebook.specs.Accepted.{asked_in}
@@ -15,6 +14,7 @@ use Rattle.sb_rulebook.specs.Translation.{translation}
 use Rattle.sb_sound.specs.SoundLaws.{AreTerms}
 use Rattle.sb_atoms.specs.Numbered.{atoms_in}
 use Rattle.sb_theory.specs.Memberships.{is_true_by}
+use Rattle.sb_theory.specs.Wanted.{wanted_on}
 use Rattle.sb_solve.specs.Wanted.{AreWanted}
 use Rattle.sb_solve.specs.Decided.{IsKept, IsDecided}
 
@@ -41,13 +41,13 @@ AreLiterals atoms kept (t ∷ ts) (l ∷ ls) = IsLiteral atoms kept t l × AreLi
 AreLiterals atoms kept _ _ = ⊥
 
 -- The atoms that are wanted are those of the literals of the live assertions at these places, with all that they speak
--- of; each is decided; the memberships on the trail are true of the words; and the live assertions fit the sorts of the
--- constants.
+-- of; each is decided; the wanted memberships on the trail are true of the words; and the live assertions fit the sorts
+-- of the constants.
 pub record IsAnswered (rs : List Regex) (atoms : List (AtomOver ℕ)) (wanted : List ℕ) (literals : List Lit)
     (kept : Kept) (entries : List Assigned) (words : List (Option (List ℕ))) (places : List ℕ) (s : State) : Type 0
   where
     pub decided : IsDecided rs atoms wanted kept entries
-    pub agrees : list_all (is_true_by rs atoms words) (held entries) ≡ true
+    pub agrees : list_all (is_true_by rs atoms words) (wanted_on wanted entries) ≡ true
     pub closed : AreWanted atoms literals wanted
     pub stated : AreLiterals (atoms_in rs atoms) kept (terms_at (live s) places) literals
     pub terms : AreTerms (asked_in s)

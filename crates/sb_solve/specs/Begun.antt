@@ -49,7 +49,7 @@ pub record IsOver (rs : List Regex) (findings : Findings) (given : Parts) (atoms
     pub parts : parts_of b ≡ given
     pub stands : Stands b.strings []
     pub proves : b.strings.proves ≡ on
-    pub wanted : b.strings.wanted.items ≡ atoms
+    pub wanted : b.strings.wanted ≡ atoms
 
 -- What a search makes of what it goes over.
 pub record Runs (b c : Begun) (before after : Spending) (old new : Option (List ℕ)) (f : Found) : Type 0 where
@@ -57,8 +57,8 @@ pub record Runs (b c : Begun) (before after : Spending) (old new : Option (List 
   pub kept : GrowsTo b.engine.kept c.engine.kept
   pub follows : FollowsByLevel (IsValid c.strings.arena c.strings.atoms) b.engine.kept c.engine.kept
   pub writes : Writes b.strings c.strings (written b.engine.kept before old) (written c.engine.kept after new)
-  pub wanted : c.strings.wanted.items ≡ b.strings.wanted.items
-  pub found : IsFound c.strings.wanted.items [] c.engine after f
+  pub wanted : c.strings.wanted ≡ b.strings.wanted
+  pub found : IsFound c.strings.wanted [] c.engine after f
   pub agrees : f ≡ Sat → Agrees c.strings c.engine.trail.literals
   pub asserted : c.asserted.items ≡ b.asserted.items
   pub refuted : c.refuted ≡ b.refuted

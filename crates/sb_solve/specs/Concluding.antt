@@ -74,7 +74,7 @@ pub record IsModel (s : Stacked) (x : Searched) (words : List (Option (List ℕ)
   pub few : length words ≤ length s.scope.sorts
   pub characters : are_words_there words ≡ true
   pub given : (places : List ℕ) (literals : List Lit) (kept : Kept)
-      → IsAnswered x.arena x.parts.atoms x.wanted.items literals kept x.parts.engine.trail.literals x.words.items places
+      → IsAnswered x.arena x.parts.atoms x.wanted literals kept x.parts.engine.trail.literals x.words.items places
       (state_of s) → AreTrueAt s places words truths
 
 -- the answer is of the kind of what was found

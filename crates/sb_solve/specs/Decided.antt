@@ -21,6 +21,7 @@ use Rattle.sb_atoms.specs.Numbered.{Names, AreDistinct, atoms_in}
 use Rattle.sb_atoms.specs.GateClauses.{atom_at, clauses_of}
 use Rattle.sb_search.specs.Found.{has_value}
 use Rattle.sb_theory.specs.Memberships.{word_at, is_true_by, is_atom}
+use Rattle.sb_theory.specs.Wanted.{wanted_on}
 use Rattle.sb_solve.specs.Wanted.{is_in, are_closed}
 use Rattle.sb_solve.specs.Values.{truth_by}
 
@@ -46,12 +47,12 @@ pub record IsDecided (rs : List Regex) (atoms : List (AtomOver ℕ)) (wanted : L
     pub none_false : HasNoneFalse kept (held entries)
     pub gates : (i : ℕ) → is_in wanted i ≡ true → AreKept kept (clauses_of i (atom_at atoms i))
 
--- The memberships on the trail are true of the words; the valuation gives these words, and the truths of the trail, to
--- the constants of atoms that are wanted.
+-- The wanted memberships on the trail are true of the words; the valuation gives these words, and the truths of the
+-- trail, to the constants of atoms that are wanted.
 pub record IsGiven (rs : List Regex) (atoms : List (AtomOver ℕ)) (wanted : List ℕ) (entries : List Assigned)
     (words : List (Option (List ℕ))) (v : Valuation) : Type 0
   where
-    pub agrees : list_all (is_true_by rs atoms words) (held entries) ≡ true
+    pub agrees : list_all (is_true_by rs atoms words) (wanted_on wanted entries) ≡ true
     pub gives_words : (i serial r : ℕ) → is_in wanted i ≡ true → Names atoms i (in_atom (constant_piece serial ∷ []) r)
         → rulebook.word_at v serial ≡ word_at words serial
     pub gives_truths : (i serial : ℕ) → is_in wanted i ≡ true → Names atoms i (bool_atom serial)

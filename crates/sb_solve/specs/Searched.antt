@@ -4,7 +4,6 @@ use Rattle.std.specs.List.{list_all}
 use Rattle.sb_lit.specs.declared.clause.Lit.{Lit}
 use Rattle.sb_lit.specs.Budgets.{Spending}
 use Rattle.sb_lang.specs.Regex.{Regex}
-use Rattle.sb_trail.specs.Assignments.{held}
 use Rattle.sb_deriv.specs.Faithful.{Memo, KeepsEntries}
 use Rattle.sb_regex.specs.Numbered.{Extends}
 use Rattle.sb_graph.specs.Findings.{IsGraph}
@@ -19,6 +18,7 @@ use Rattle.sb_search.specs.Following.{FollowsByLevel}
 use Rattle.sb_search.specs.Found.{GrowsTo, IsFound}
 use Rattle.sb_search.specs.declared.found.Found.TheVariants.{Sat}
 use Rattle.sb_theory.specs.Memberships.{HaveAtoms, IsValid, are_atoms, is_atom, is_true_by}
+use Rattle.sb_theory.specs.Wanted.{wanted_on}
 use Rattle.sb_solve.specs.Wanted.{AreWanted}
 use Rattle.sb_solve.specs.declared.searching.Searched.{Searched}
 
@@ -45,9 +45,10 @@ pub record IsSearched (arena : List Regex) (memo : Memo) (parts : Parts) (litera
         → Backs arena memo (backing_of parts) kept → IsCounted asked kept before
         → Evidences asked kept s.arena s.graph.memo (backing_of s.parts) after old new
     pub distinct : AreDistinct parts.atoms
-    pub wanted : AreWanted parts.atoms literals s.wanted.items
+    pub wanted : AreWanted parts.atoms literals s.wanted
     pub among : (rs : List Regex) → is_table (atoms_in rs parts.atoms) ≡ true → are_atoms parts.atoms literals ≡ true
-        → list_all (is_atom parts.atoms) s.wanted.items ≡ true
-    pub found : IsFound s.wanted.items [] s.parts.engine after s.found
+        → list_all (is_atom parts.atoms) s.wanted ≡ true
+    pub found : IsFound s.wanted [] s.parts.engine after s.found
     pub agrees : s.found ≡ Sat
-        → list_all (is_true_by s.arena s.parts.atoms s.words.items) (held s.parts.engine.trail.literals) ≡ true
+        → list_all (is_true_by s.arena s.parts.atoms s.words.items) (wanted_on s.wanted s.parts.engine.trail.literals)
+        ≡ true

@@ -249,7 +249,7 @@ fn values_of(alloc: Global, searched: &mut Searched, stack: &Stack) -> Result<Va
     let values = model(
         alloc,
         &searched.parts.atoms,
-        &searched.wanted,
+        searched.wanted.atoms(),
         searched.parts.engine.trail(),
         words,
         stack,

@@ -1,6 +1,7 @@
 //! The search over the clauses of a proof.
 
-ghost use Rattle.std.specs.Prelude.{◌≡◌, [], length, IfOk};
+ghost use Rattle.std.specs.Prelude.{◌≡◌, [], true, length, IfOk};
+ghost use Rattle.sb_clauses.specs.Propagation.{has_room_for};
 ghost use Rattle.sb_graph.specs.Findings.{IsGraph};
 ghost use Rattle.sb_plain.specs.Memory.{IsRight};
 ghost use Rattle.sb_atoms.specs.Numbered.{AreDistinct, HaveRegexesBelow};
@@ -19,7 +20,7 @@ use sb_proof::{Tape, TapeFault};
 use sb_refute::{Asserted, EmptyClause, Parts};
 use sb_regex::Arena;
 use sb_search::{Found, search};
-use sb_theory::Strings;
+use sb_theory::{Strings, WantedAtoms};
 use sb_word::Word;
 use std::alloc::{AllocError, Global};
 
@@ -41,7 +42,7 @@ pub(crate) struct Searched {
     pub plain: Plain,
     pub parts: Parts,
     /// The atoms that were to have values.
-    pub wanted: Vec<u64>,
+    pub wanted: WantedAtoms,
     /// By serial the words that agree with the trail of a `Sat`.
     pub words: Vec<Option<Word>>,
 }
@@ -70,6 +71,7 @@ pub(crate) fn search_parts<L: Tape>(
     requires plain { IsRight tables.arena tables.plain }
     requires regexes { HaveRegexesBelow (length tables.arena) tables.parts.atoms }
     requires trail { tables.parts.engine.trail.literals ≡ [] }
+    requires known { has_room_for (length tables.parts.atoms) tables.parts.engine.kept ≡ true }
     ensures searched { IfOk result (IsSearched tables.arena tables.graph.memo tables.parts literals.now proves
         budget.old budget.new (L.Tape.told tape.old) (L.Tape.told tape.new)) }
     ensures counts { CountsTapeFault result (L.Tape.faults tape.old) (L.Tape.faults tape.new) }
@@ -84,13 +86,14 @@ pub(crate) fn search_parts<L: Tape>(
 }
 
 /// The atoms that these literals speak of.
-fn wanted_of(alloc: Global, parts: &Parts, literals: &[Lit]) -> Result<Vec<u64>, AllocError>
+fn wanted_of(alloc: Global, parts: &Parts, literals: &[Lit]) -> Result<WantedAtoms, AllocError>
     ensures distinct { AreDistinct parts.now.atoms }
-    ensures wanted { IfOk result (λ found. AreWanted parts.now.atoms literals.now found.items) }
-    ensures among { IfOk result (λ found. AreAmong parts.now.atoms literals.now found.items) }
+    ensures wanted { IfOk result (λ found. AreWanted parts.now.atoms literals.now found) }
+    ensures among { IfOk result (λ found. AreAmong parts.now.atoms literals.now found) }
 {
     parts.atoms.atoms_each_once();
-    wanted(alloc, &parts.atoms, literals)
+    let atoms = wanted(alloc, &parts.atoms, literals)?;
+    WantedAtoms::of(alloc, atoms)
 }
 
 /// The search from its beginning to its end.
@@ -102,6 +105,7 @@ fn run_over<L: Tape>(
 ) -> Result<Searched, TapeFault>
     requires stands { Stands begun.strings [] }
     requires trail { begun.engine.trail.literals ≡ [] }
+    requires known { has_room_for (length begun.strings.atoms) begun.engine.kept ≡ true }
     ensures runs { IfOk result (HasRun begun budget.old budget.new (L.Tape.told tape.old) (L.Tape.told tape.new)) }
     ensures counts { CountsTapeFault result (L.Tape.faults tape.old) (L.Tape.faults tape.new) }
 {
@@ -116,11 +120,11 @@ fn run_over<L: Tape>(
 }
 
 /// The theory over these tables, beside the clauses. `proves` says whether it puts lines.
-fn over(alloc: Global, tables: Tables, wanted: Vec<u64>, proves: bool) -> Begun
+fn over(alloc: Global, tables: Tables, wanted: WantedAtoms, proves: bool) -> Begun
     requires graph { IsGraph tables.arena tables.graph }
     requires plain { IsRight tables.arena tables.plain }
     requires regexes { HaveRegexesBelow (length tables.arena) tables.parts.atoms }
-    ensures { IsOver tables.arena tables.graph tables.parts wanted.items proves result }
+    ensures { IsOver tables.arena tables.graph tables.parts wanted proves result }
 {
     let Tables {
         parts,
@@ -155,6 +159,7 @@ fn run<L: Tape>(
 ) -> Result<Found, TapeFault>
     requires stands { Stands begun.old.strings [] }
     requires trail { begun.old.engine.trail.literals ≡ [] }
+    requires known { has_room_for (length begun.old.strings.atoms) begun.old.engine.kept ≡ true }
     ensures runs { IfOk result (Runs begun.old begun.new budget.old budget.new (L.Tape.told tape.old)
         (L.Tape.told tape.new)) }
     ensures counts { CountsTapeFault result (L.Tape.faults tape.old) (L.Tape.faults tape.new) }

@@ -1,30 +1,23 @@
-use Rattle.std.proofs.Common.{subst, sym}
 use Rattle.std.proofs.lemmas.Result.{IfOk-from_err, err_from_is_err_and}
 use Rattle.sb_rulebook.specs.Accepted.{asked_in}
 use Rattle.sb_stack.specs.Stacked.{state_of}
-use Rattle.sb_trace.specs.Putting.{CountsTapeFault}
-use Rattle.sb_trace.proofs.CallerLemmas.{counts_none, counts_on}
+use Rattle.sb_trace.proofs.CallerLemmas.{counts_on}
 use Rattle.sb_solve.specs.declared.check.Solved.{Solved}
-use Rattle.sb_prover.specs.Solving.{AreFew, IsCompleted}
-use Rattle.sb_prover.proofs.Solutions.{few-words, found-by, levels-known}
+use Rattle.sb_prover.proofs.Solutions.{found-by, levels-known}
 use Rattle.sb_prover.proofs.solving.searched_at.Goals as goal
 
 pub solve-requires : goal.solve-requires
-solve-requires g c = record {
-  places = c.requires.below;
-  decided = c.requires.open.decided;
-  graph = c.requires.open.taken.graph;
-  plain = c.requires.open.taken.plain;
-  right = c.requires.open.taken.measures;
-  normals = c.requires.open.taken.normals;
-  regexes = c.requires.regexes;
-}
-
-pub completed-requires : goal.completed-requires
-completed-requires g c =
-    subst (λ n. AreFew n c.in_ok-solved.solved) (sym c.declared-count.ensures.value)
-    (few-words c.args.stack.now c.args.places.now c.args.decider.now.arena c.args.decider.now.graph.memo
-    c.args.evidence.now c.solve.new.evidence c.solve.new.budget c.in_ok-solved.solved c.in_ok-solved.ensures.answer)
+solve-requires g c =
+    let ready = c.requires.open.ready in
+    record {
+      places = c.requires.question.below;
+      decided = ready.decided;
+      graph = ready.knows.taken.graph;
+      plain = ready.knows.taken.plain;
+      right = ready.knows.taken.measures;
+      normals = ready.knows.taken.normals;
+      regexes = c.requires.regexes;
+    }
 
 pub returns-in_err-solved : goal.returns-in_err-solved
 returns-in_err-solved g c =
@@ -40,22 +33,6 @@ returns-in_err-solved g c =
       counts = counts_on Solved x.result p.0 _ _ _ p.1 p.2 c.in_err-solved.ensures.counts;
     }
 
-pub returns-in_err-solution : goal.returns-in_err-solution
-returns-in_err-solution g c =
-    let x = c.from_residual-in_err-solution in
-    let p = err_from_is_err_and x.result x.ensures.1 in
-    record {
-      puts = IfOk-from_err x.result _ x.ensures.0;
-      solved = IfOk-from_err x.result _ x.ensures.0;
-      sound = IfOk-from_err x.result _ x.ensures.0;
-      «open» = IfOk-from_err x.result _ x.ensures.0;
-      regexes = IfOk-from_err x.result _ x.ensures.0;
-      levels = IfOk-from_err x.result _ x.ensures.0;
-      counts = subst (λ old. CountsTapeFault x.result old (g.L.Tape.faults c.solve.new.tape))
-          c.in_ok-solved.ensures.counts
-          (counts_none x.result p.0 (g.L.Tape.faults c.solve.new.tape) p.1 p.2);
-    }
-
 pub returns : goal.returns
 returns g c =
     let s = c.args.stack.now in
@@ -65,11 +42,8 @@ returns g c =
     record {
       puts = e.puts;
       solved = found-by s c.args.places.now old.arena old.graph.memo c.args.evidence.now new.evidence new.budget
-          c.in_ok-solved.solved c.in_ok-solution.solution c.refuted-empty.result c.requires.all
-          c.requires.open.not_plain c.declared-count.ensures.fit
-          (subst (λ n. IsCompleted n c.in_ok-solved.solved c.in_ok-solution.solution) c.declared-count.ensures.value
-          c.in_ok-solution.ensures)
-          e.answer c.refuted-empty.ensures.known c.refuted-empty.ensures.kept;
+          c.in_ok-solved.solved c.refuted-empty.result c.requires.question e.answer c.refuted-empty.ensures.known
+          c.refuted-empty.ensures.kept;
       sound = e.sound;
       «open» = c.left_open_grown.ensures old new.arena new.graph new.normals new.measures new.plain s e.extends e.graph
           e.normals e.right e.plain c.requires.open;

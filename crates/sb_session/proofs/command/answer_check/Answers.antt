@@ -7,7 +7,7 @@ use Rattle.sb_stack.specs.Stacked.{Stacked, state_of, live_constants}
 use Rattle.sb_stack.specs.Steps.{verdict_in}
 use Rattle.sb_session.specs.Commanding.{proof_of}
 use Rattle.sb_session.specs.Checking.{session_of}
-use Rattle.sb_session.proofs.CheckLemmas.{some_verdict, decided_verdict, levels_of_rest, levels_of_found, fit_of_rest, fit_of_found, true_of_rest, true_of_found, tracked_stays, check_answered, answer_cut, proof_cut}
+use Rattle.sb_session.proofs.CheckLemmas.{some_verdict, decided_verdict, settled_of_rest, text_of_rest, levels_of_rest, levels_of_found, fit_of_rest, fit_of_found, true_of_rest, true_of_found, tracked_stays, check_answered, answer_cut, proof_cut}
 use Rattle.sb_session.proofs.command.answer_check.Goals as goal
 
 pub returns-in_err-verdict-clause-err : goal.returns-in_err-verdict-clause-err
@@ -38,14 +38,16 @@ returns-clause-ok g c =
     on_ok_weaker c.write_all.result
     (λ written q tracked.
     check_answered same.0 q session between proven after
-    (verdict_in (live_constants c.decide.new.stack) c.in_ok-verdict.verdict) same.1 refl (g.W.World.outside c.args.world.now)
-    (g.W.World.outside c.find_verdict.new.world) (g.W.World.outside c.write_all.new.world) (λ r h. h)
+    (verdict_in (live_constants c.decide.new.stack) c.in_ok-verdict.verdict) same.1 refl
+    (g.W.World.outside c.args.world.now) (g.W.World.outside c.find_verdict.new.world) (g.W.World.outside c.write_all.new.world) (λ r h. h)
     (c.in_ok-verdict.ensures.ok q
     (tracked_stays c.abreast_stays.ensures session between q refl c.in_ok-decided.ensures.extends
     c.in_ok-decided.ensures.derivatives_stay tracked))
-    c.settle.ensures.state
+    (c.settle.ensures.state
+    ∙ settled_of_rest c.in_ok-verdict.verdict c.decide.new.stack c.find_verdict.new.stack c.in_ok-verdict.ensures.rest)
     (written ∙ ap (λ (t : List ℕ). write_at Answers t (g.W.World.outside c.find_verdict.new.world))
-    c.settle.ensures.reply))
+    (c.settle.ensures.reply
+    ∙ text_of_rest c.in_ok-verdict.verdict c.decide.new.stack c.find_verdict.new.stack c.in_ok-verdict.ensures.rest)))
     c.write_all.ensures.ok
 
 pub returns-clause-err : goal.returns-clause-err
@@ -69,7 +71,10 @@ returns-clause-err g c =
     c.in_ok-decided.ensures.derivatives_stay tracked))
     (subst (λ (t : List ℕ). (out : ℕ) × (out < length t)
     × (g.W.World.outside c.write_all.new.world ≡ write_at Answers (take out t)
-    (g.W.World.outside c.find_verdict.new.world))) c.settle.ensures.reply cut)))
+    (g.W.World.outside c.find_verdict.new.world)))
+    (c.settle.ensures.reply
+    ∙ text_of_rest c.in_ok-verdict.verdict c.decide.new.stack c.find_verdict.new.stack c.in_ok-verdict.ensures.rest)
+    cut)))
     c.write_all.ensures.err
 
 pub find_verdict-requires-clause-regexes : goal.find_verdict-requires-clause-regexes
@@ -86,10 +91,11 @@ find_verdict-requires-clause-verdict g c =
 pub returns-clause-levels : goal.returns-clause-levels
 returns-clause-levels g c =
     on_ok_weaker c.write_all.result
-    (λ written. levels_of_found c.in_ok-verdict.verdict c.decide.new.stack c.settle.new.self c.find_verdict.new.prover
-    c.settle.ensures.kept
+    (λ written. levels_of_found c.in_ok-verdict.verdict c.find_verdict.new.stack c.settle.new.self
+    c.find_verdict.new.prover c.settle.ensures.kept
+    (levels_of_rest c.decide.new.stack c.find_verdict.new.stack c.find_verdict.new.prover c.in_ok-verdict.ensures.rest
     (c.in_ok-verdict.ensures.levels
-    (levels_of_rest c.args.stack.now c.decide.new.stack c.args.prover.now c.decide.ensures.rest c.requires.levels)))
+    (levels_of_rest c.args.stack.now c.decide.new.stack c.args.prover.now c.decide.ensures.rest c.requires.levels))))
     c.write_all.ensures.ok
 
 -- what is true of the evidence
@@ -108,13 +114,16 @@ find_verdict-requires-clause-sound g c =
 pub returns-clause-fit : goal.returns-clause-fit
 returns-clause-fit g c =
     on_ok_weaker c.write_all.result
-    (λ written. fit_of_found c.in_ok-verdict.verdict c.decide.new.stack c.settle.new.self c.settle.ensures.kept
-    (fit_of_rest c.args.stack.now c.decide.new.stack c.decide.ensures.rest c.requires.fit))
+    (λ written. fit_of_found c.in_ok-verdict.verdict c.find_verdict.new.stack c.settle.new.self c.settle.ensures.kept
+    (fit_of_rest c.args.stack.now c.find_verdict.new.stack (c.in_ok-verdict.ensures.rest ∙ c.decide.ensures.rest)
+    c.requires.fit))
     c.write_all.ensures.ok
 
 pub returns-clause-sound : goal.returns-clause-sound
 returns-clause-sound g c =
     on_ok_weaker c.write_all.result
-    (λ written. true_of_found c.in_ok-verdict.verdict c.decide.new.stack c.settle.new.self c.find_verdict.new.decider
-    c.find_verdict.new.prover c.settle.ensures.kept c.in_ok-verdict.ensures.sound)
+    (λ written. true_of_found c.in_ok-verdict.verdict c.find_verdict.new.stack c.settle.new.self
+    c.find_verdict.new.decider c.find_verdict.new.prover c.settle.ensures.kept
+    (true_of_rest c.decide.new.stack c.find_verdict.new.stack c.find_verdict.new.decider c.find_verdict.new.prover
+    c.in_ok-verdict.ensures.rest c.in_ok-verdict.ensures.sound))
     c.write_all.ensures.ok

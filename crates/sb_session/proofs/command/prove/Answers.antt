@@ -25,6 +25,11 @@ returns-in_err-write_all-clause-err g c =
     (g.W.World.outside c.args.world.now) (g.W.World.outside c.write_all.new.world) c.new-tape.ensures c.bytes.ensures
     c.in-Ok.ensures.verdict (c.in-Ok.ensures.proves p tracked) c.in_err-write_all.ensures.err))
 
+pub prove-requires-clause-fit : goal.prove-requires-clause-fit
+prove-requires-clause-fit g c = c.requires.fit
+
+pub prove-requires-clause-sound : goal.prove-requires-clause-sound
+prove-requires-clause-sound g c = c.requires.sound
+
 pub returns-clause-sound : goal.returns-clause-sound
-returns-clause-sound g c =
-    c.in-Ok.ensures.sound (c.entries_lead_on.ensures.terms (state_of c.args.stack.now) c.requires.fit) c.requires.sound
+returns-clause-sound g c = c.in-Ok.ensures.sound

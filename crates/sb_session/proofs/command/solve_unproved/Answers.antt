@@ -16,5 +16,5 @@ returns-clause-finds c =
 
 pub returns-clause-knows : goal.returns-clause-knows
 returns-clause-knows c =
-    subst (λ (v : Verdict). Knows c.solve.new.decider (found v c.args.stack.now)) (sym c.in_ok-known.ensures.0)
+    subst (λ (v : Verdict). Knows c.solve.new.decider (found v c.solve.new.stack)) (sym c.in_ok-known.ensures.0)
     c.in-Ok.ensures.knows

@@ -2,6 +2,11 @@ use Rattle.std.proofs.Common.{ap, length, ◌∙◌}
 use Rattle.sb_solve.proofs.Answering.{ended}
 use Rattle.sb_solve.proofs.check.search_over.Goals as goal
 
+pub search_parts-requires : goal.search_parts-requires
+search_parts-requires g c =
+    let r = c.requires.ready in
+    record { graph = r.graph; plain = r.plain; regexes = r.regexes; trail = r.trail; known = r.stands.known }
+
 pub conclude-requires : goal.conclude-requires
 conclude-requires g c =
     let t = c.args.tables in

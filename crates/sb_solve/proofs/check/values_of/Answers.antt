@@ -17,11 +17,11 @@ returns c =
         characters = v.characters;
         given = λ places literals kept answered.
             v.given x.arena places literals kept
-            (subst (λ (ws : Vec (Option (List ℕ)) Global). IsAnswered x.arena x.parts.atoms c.deref.result.now literals
+            (subst (λ (ws : Vec (Option (List ℕ)) Global). IsAnswered x.arena x.parts.atoms c.atoms.result.now literals
             kept c.trail.result.now.literals ws.items places (state_of c.args.stack.now))
             (sym c.replace-words.ensures.value)
-            (answered_by (state_of c.args.stack.now) x literals kept places c.deref.result.now c.trail.result.now
-            c.deref.ensures.value c.trail.ensures answered));
+            (answered_by (state_of c.args.stack.now) x literals kept places c.atoms.result.now c.trail.result.now
+            c.atoms.ensures c.trail.ensures answered));
       };
       rest = refl;
     }

@@ -1,6 +1,6 @@
 use Rattle.std.proofs.Common.{refl, Err, sym, subst}
 use Rattle.std.proofs.lemmas.Result.{IfOk-weaker}
-use Rattle.sb_solve.proofs.Ended.{over_trail, searched_by}
+use Rattle.sb_solve.proofs.Ended.{over_known, over_trail, searched_by}
 use Rattle.sb_proof.specs.declared.tape.TapeFault.{TapeFault}
 use Rattle.sb_solve.specs.declared.searching.Searched.{Searched}
 use Rattle.sb_trace.specs.Putting.{CountsTapeFault}
@@ -10,6 +10,11 @@ pub run_over-requires-clause-trail : goal.run_over-requires-clause-trail
 run_over-requires-clause-trail g c =
     let t = c.args.tables in
     over_trail t.arena t.graph t.parts _ c.args.proves c.over.result c.over.ensures c.requires.trail
+
+pub run_over-requires-clause-known : goal.run_over-requires-clause-known
+run_over-requires-clause-known g c =
+    let t = c.args.tables in
+    over_known t.arena t.graph t.parts _ c.args.proves c.over.result c.over.ensures c.requires.known
 
 pub returns-in-Ok : goal.returns-in-Ok
 returns-in-Ok g c =

@@ -13,8 +13,10 @@ returns-in-Some-clause-left c = λ rs memo live p h levels low.
     let n = c.in-Some.level in
     let count = c.args.count in
     let now = subst (λ (w : Proving). IsAbreast rs memo w p) (sym c.self.view_is) h in
-    subst (λ o. IsAbreast rs memo (record v { evidence = c.leave_above.new.self }) (met (leaving o) p)) (sym c.in-Some.is)
-    (left-above rs memo p v c.leave_above.new.self n now (ap (λ (e : Backing). e.atoms) c.leave_above.ensures.left_above)
+    subst (λ o. IsAbreast rs memo (record v { evidence = c.leave_above.new.self }) (met (leaving o) p))
+    (sym c.in-Some.is)
+    (left-above rs memo p v c.leave_above.new.self n now
+    (ap (λ (e : Backing). e.atoms) c.leave_above.ensures.left_above)
     (c.leave_above.ensures.backs rs memo p.kept now.backs
     (levels-up-to live n count v.evidence
     (subst (λ (w : Proving). HaveLevels live w.evidence) (sym c.self.view_is) levels)

@@ -13,10 +13,10 @@ returns-clause-proves g c = λ rs memo before verdict h.
     let s = c.args.stack.now in
     let words = c.args.words.now in
     let truths = c.args.truths.now in
-    subst (λ p. IsProved (question_in (state_of s) []) (is_sat (values_at (live_constants s) words truths)) before rs memo p
-    (g.L.Tape.told c.args.tape.now) (g.L.Tape.told c.say_values.new.tape))
+    subst (λ p. IsProved (question_in (state_of s) []) (is_sat (values_at (live_constants s) words truths)) before rs
+    memo p (g.L.Tape.told c.args.tape.now) (g.L.Tape.told c.say_values.new.tape))
     (sym c.in_ok-begin.ensures.begun)
     (sat-proved c.text_is_read.ensures c.text_is_one_line.ensures c.texts_are_lines.ensures s words truths
     (said_sat (map (said_value words truths) (live_constants s))) before rs memo c.args.self.now
-    (g.L.Tape.told c.args.tape.now) (g.L.Tape.told c.begin.new.tape) (g.L.Tape.told c.say_values.new.tape) verdict refl h
-    c.in_ok-begin.ensures.told c.in_ok-say_values.ensures.told)
+    (g.L.Tape.told c.args.tape.now) (g.L.Tape.told c.begin.new.tape) (g.L.Tape.told c.say_values.new.tape) verdict refl
+    h c.in_ok-begin.ensures.told c.in_ok-say_values.ensures.told)
