@@ -41,6 +41,7 @@ And scripts of so many checks, each behind a new assertion:
 `checked-constants`: one more constant each time, in a range of characters.
 `checked-addresses`: one more constant each time, in a regular expression of mail addresses.
 `checked-denied`: the same as `checked-constants`, behind one denied membership of another constant.
+`checked-structure`: the same as `checked-constants`, behind two memberships of another constant in an `or`.
 `checked-clauses`: one more clause of three memberships each time, over 20 constants.
 
 And scripts of levels:
@@ -126,6 +127,11 @@ def checked_constants(size):
 
 def checked_denied(size):
     return f"(declare-const z String)\n(assert (not {in_text('z', 're.none')}))\n" + checked_constants(size)
+
+
+def checked_structure(size):
+    either = f"(or {in_text('z', to_re('a'))} {in_text('z', to_re('b'))})"
+    return f"(declare-const z String)\n(assert {either})\n" + checked_constants(size)
 
 
 def checked_addresses(size):
@@ -467,6 +473,7 @@ FAMILIES = {
     "checked-classes": checked_classes,
     "checked-constants": checked_constants,
     "checked-denied": checked_denied,
+    "checked-structure": checked_structure,
     "checked-addresses": checked_addresses,
     "rounds": rounds,
     "levels": levels,
