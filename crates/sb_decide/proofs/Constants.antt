@@ -9,7 +9,7 @@ use Rattle.sb_word.specs.Words.{are_characters}
 use Rattle.sb_stack.specs.Stacked.{are_words}
 use Rattle.sb_term.specs.declared.term.Serial.{Serial}
 use Rattle.sb_decide.specs.declared.conjuncts.Member.{Member}
-use Rattle.sb_decide.specs.Conjoined.{Conjoined, without_last, with_place, without_place, conjoined_at, is_settled, is_listed, OthersSettled, IsChangedAt}
+use Rattle.sb_decide.specs.Conjoined.{Conjoined, without_last, with_place, without_place, conjoined_at, is_settled, is_listed, RestSettled, IsChangedAt}
 use Rattle.sb_decide.specs.Deciding.{word_at}
 use Rattle.sb_decide.specs.Members.{places_in}
 use Rattle.sb_decide.proofs.MemberFacts.{places_here, places_other}
@@ -87,14 +87,15 @@ with_last xs last there =
 
 pub unlisted : (cs : List Conjoined) (xs rest : List Serial) (last serial : Serial)
     → slice_get xs (length xs - 1) ≡ Some last → last.0 ≡ serial.0 → rest ≡ take (length xs - 1) xs
-    → is_settled (conjoined_at cs serial.0) ≡ true → OthersSettled xs cs → OthersSettled rest cs
-unlisted cs xs rest last serial there same is has settled = λ n h. by_test n h (n == serial.0) refl
+    → is_settled (conjoined_at cs serial.0) ≡ true → (left : List Serial) → RestSettled left xs cs
+    → RestSettled left rest cs
+unlisted cs xs rest last serial there same is has left settled = λ n none h. by_test n none h (n == serial.0) refl
   where
-    by_test : (n : ℕ) → is_listed rest n ≡ false → (b : Bool) → (n == serial.0) ≡ b
+    by_test : (n : ℕ) → is_listed left n ≡ false → is_listed rest n ≡ false → (b : Bool) → (n == serial.0) ≡ b
         → is_settled (conjoined_at cs n) ≡ true
-    by_test n h true t = ap (λ i. is_settled (conjoined_at cs i)) (eqb-true n serial.0 t) ∙ has
-    by_test n h false t =
-        settled n (ap (λ ss. is_listed ss n) (with_last xs last there)
+    by_test n none h true t = ap (λ i. is_settled (conjoined_at cs i)) (eqb-true n serial.0 t) ∙ has
+    by_test n none h false t =
+        settled n none (ap (λ ss. is_listed ss n) (with_last xs last there)
         ∙ listed_last (take (length xs - 1) xs) last n (ap (λ ss. is_listed ss n) (sym is) ∙ h)
         (λ e. eqb-false n serial.0 t (e ∙ same)))
 

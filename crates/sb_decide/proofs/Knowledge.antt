@@ -37,7 +37,7 @@ use Rattle.sb_stack.specs.Stacked.{Stacked, assertion_in, assertion_of, HasNumbe
 use Rattle.sb_decide.specs.declared.conjuncts.Member.{Member}
 use Rattle.sb_decide.specs.declared.decide.Decider.{Decider}
 use Rattle.sb_decide.specs.declared.decide.Found.{Found}
-use Rattle.sb_decide.specs.Conjoined.{Conjoined, conjoined_at, without_last, with_place, without_place, is_settled, OthersSettled, HasRoom, IsChangedAt}
+use Rattle.sb_decide.specs.Conjoined.{Conjoined, conjoined_at, without_last, with_place, without_place, is_settled, RestSettled, HasRoom, IsChangedAt}
 use Rattle.sb_decide.specs.Deciding.{word_at}
 use Rattle.sb_decide.specs.Demands.{demanded}
 use Rattle.sb_decide.specs.Knowing.{IsTaken, IsLeastOf, AreKept, Knows, places_of}
@@ -77,6 +77,7 @@ taken_grown stays right kept rs ks ms ts xs e normals measures t = record {
   others = t.others;
   settled = t.settled;
   listed = t.listed;
+  left = t.left;
   dead = dead_kept kept.arena rs kept.members.items kept.dead e t.rooted.numbers t.dead;
 }
 
@@ -95,6 +96,7 @@ taken_measured kept ms ts xs measures t = record {
   others = t.others;
   settled = t.settled;
   listed = t.listed;
+  left = t.left;
   dead = t.dead;
 }
 
@@ -125,8 +127,9 @@ taken_roomy kept constants count ts xs room l t = record {
       (omega (arith, room.long, l)) (t.within k d m);
   places = λ n. ap (λ (c : Conjoined). c.places) (room.same n) ∙ t.places n;
   others = t.others;
-  settled = λ n h. ap is_settled (room.same n) ∙ t.settled n h;
+  settled = λ n h j. ap is_settled (room.same n) ∙ t.settled n h j;
   listed = λ k d m. let low = t.listed k d m in omega (arith, room.long, l, low);
+  left = λ k d m. let low = t.left k d m in omega (arith, room.long, l, low);
   dead = t.dead;
 }
 
@@ -247,11 +250,12 @@ pub taken_more : GraphStays → RightStays → (kept new : Decider) (ts : List T
     new.members.items ≡ kept.members.items ++ Some m ∷ [] → new.roots.items ≡ kept.roots.items ++ None ∷ [] →
     IsChangedAt kept.constants.items new.constants.items m.serial.0
     (with_place (length kept.members.items) (conjoined_at kept.constants.items m.serial.0)) →
-    OthersSettled new.changed.items new.constants.items →
-    All (λ other. other.0 < length kept.constants.items) new.changed.items → new.graph ≡ kept.graph →
-    new.plain ≡ kept.plain → new.others ≡ kept.others → new.dead ≡ kept.dead → IsTaken new ts xs
+    RestSettled new.left.items new.changed.items new.constants.items →
+    All (λ other. other.0 < length kept.constants.items) new.changed.items → new.left ≡ kept.left →
+    new.graph ≡ kept.graph → new.plain ≡ kept.plain → new.others ≡ kept.others → new.dead ≡ kept.dead →
+    IsTaken new ts xs
 taken_more stays right kept new ts xs x m t low is member within e normals measures members roots put settled listed
-    graph plain others dead = record {
+    left graph plain others dead = record {
       graph = rw graph (stays kept.arena new.arena kept.graph e t.graph);
       normals = normals;
       measures = measures;
@@ -268,6 +272,7 @@ taken_more stays right kept new ts xs x m t low is member within e normals measu
       others = rw (others, members) (t.others ∙ sym (others_passed 0 kept.members.items m));
       settled = settled;
       listed = rw put.same_length listed;
+      left = rw (left, put.same_length) t.left;
       dead = rw (dead, members) (some_more (IsEmptyAt kept.arena kept.members.items)
           (IsEmptyAt new.arena (kept.members.items ++ Some m ∷ []))
           (λ n h. empty_pushed new.arena kept.members.items m n
@@ -281,9 +286,9 @@ pub taken_other : (kept new : Decider) (ts : List Term) (xs : List code.Assertio
     → new.roots.items ≡ kept.roots.items ++ None ∷ []
     → new.others.items ≡ kept.others.items ++ length kept.members.items ∷ [] → new.arena ≡ kept.arena
     → new.graph ≡ kept.graph → new.normals ≡ kept.normals → new.plain ≡ kept.plain → new.constants ≡ kept.constants
-    → new.changed ≡ kept.changed → new.dead ≡ kept.dead → IsTaken new ts xs
+    → new.changed ≡ kept.changed → new.left ≡ kept.left → new.dead ≡ kept.dead → IsTaken new ts xs
 taken_other kept new ts xs x t low is other measures members roots others arena graph normals plain constants changed
-    dead = record {
+    left dead = record {
       graph = rw (arena, graph) t.graph;
       normals = rw (arena, normals) t.normals;
       measures = measures;
@@ -297,8 +302,9 @@ taken_other kept new ts xs x t low is other measures members roots others arena 
           ∙ (t.places n ∙ (sym (places_passed 0 n kept.members.items) ∙ ap (places_in 0 n) (sym members)));
       others = rw (others, members) (ap (λ is. is ++ length kept.members.items ∷ []) t.others
           ∙ sym (others_pushed 0 kept.members.items (length kept.members.items) (omega arith)));
-      settled = rw (changed, constants) t.settled;
+      settled = rw (left, changed, constants) t.settled;
       listed = rw (changed, constants) t.listed;
+      left = rw (left, constants) t.left;
       dead = rw (dead, arena, members) (some_more (IsEmptyAt kept.arena kept.members.items)
           (IsEmptyAt kept.arena (kept.members.items ++ None ∷ []))
           (λ n h. empty_same kept.arena kept.members.items (kept.members.items ++ None ∷ []) n
@@ -339,12 +345,13 @@ pub knows_back : (kept new : Decider) (m : Member) (ms : List (Option Member)) (
     → new.normals ≡ kept.normals → new.measures ≡ kept.measures → new.plain ≡ kept.plain
     → new.others ≡ kept.others → IsChangedAt kept.constants.items new.constants.items m.serial.0
     (without_place (conjoined_at kept.constants.items m.serial.0))
-    → (OthersSettled kept.changed.items kept.constants.items → OthersSettled new.changed.items new.constants.items)
+    → (RestSettled kept.left.items kept.changed.items kept.constants.items
+    → RestSettled new.left.items new.changed.items new.constants.items)
     → (All (λ other. other.0 < length kept.constants.items) kept.changed.items
-    → All (λ other. other.0 < length kept.constants.items) new.changed.items)
+    → All (λ other. other.0 < length kept.constants.items) new.changed.items) → new.left ≡ kept.left
     → Knows kept stack → Knows new stack
-knows_back kept new m ms stack was members roots dead arena graph normals measures plain others put settled listed k
-    = record {
+knows_back kept new m ms stack was members roots dead arena graph normals measures plain others put settled listed left
+    k = record {
       taken = record {
         graph = rw (arena, graph) t.graph;
         normals = rw (arena, normals) t.normals;
@@ -361,6 +368,7 @@ knows_back kept new m ms stack was members roots dead arena graph normals measur
         others = rw (others, members) (t.others ∙ ap (other_places 0) was ∙ others_passed 0 ms m);
         settled = settled t.settled;
         listed = rw put.same_length (listed t.listed);
+        left = rw (left, put.same_length) t.left;
         dead = rw (dead, arena, members) (dead_back kept.arena ms m kept.dead (rw was at t.dead));
       };
       words = rw (arena, members)
@@ -380,10 +388,10 @@ pub knows_back_other : (kept new : Decider) (ms : List (Option Member)) (stack :
     → kept.members.items ≡ ms ++ None ∷ [] → new.members.items ≡ ms
     → new.roots.items ≡ take (length ms) kept.roots.items → new.others.items ≡ without_last kept.others.items
     → new.arena ≡ kept.arena → new.graph ≡ kept.graph → new.normals ≡ kept.normals → new.measures ≡ kept.measures
-    → new.plain ≡ kept.plain → new.constants ≡ kept.constants → new.changed ≡ kept.changed → new.dead ≡ kept.dead
-    → Knows kept stack → Knows new stack
-knows_back_other kept new ms stack was members roots others arena graph normals measures plain constants changed dead k
-    = record {
+    → new.plain ≡ kept.plain → new.constants ≡ kept.constants → new.changed ≡ kept.changed → new.left ≡ kept.left
+    → new.dead ≡ kept.dead → Knows kept stack → Knows new stack
+knows_back_other kept new ms stack was members roots others arena graph normals measures plain constants changed left
+    dead k = record {
       taken = record {
         graph = rw (arena, graph) t.graph;
         normals = rw (arena, normals) t.normals;
@@ -399,8 +407,9 @@ knows_back_other kept new ms stack was members roots others arena graph normals 
             ∙ (t.places n ∙ (ap (places_in 0 n) was ∙ (places_passed 0 n ms ∙ ap (places_in 0 n) (sym members))));
         others = rw (others, members) (ap without_last (t.others ∙ ap (other_places 0) was
             ∙ others_pushed 0 ms (length ms) (omega arith)) ∙ last_gone (other_places 0 ms) (length ms));
-        settled = rw (changed, constants) t.settled;
+        settled = rw (left, changed, constants) t.settled;
         listed = rw (changed, constants) t.listed;
+        left = rw (left, constants) t.left;
         dead = rw (dead, arena, members) (some_more (IsEmptyAt kept.arena (ms ++ None ∷ [])) (IsEmptyAt kept.arena ms)
             (λ n h. empty_same kept.arena (ms ++ None ∷ []) ms n (sym (ids_passed ms n)) h) kept.dead
             (rw was at t.dead));
@@ -502,10 +511,10 @@ serial_within n ts xs i x id serial R h numbers l is there asks =
 -- nothing is known yet
 pub knows_none : (kept : Decider) (stack : Stacked) → length kept.members.items ≡ 0 → length kept.roots.items ≡ 0 →
     length kept.others.items ≡ 0 → length kept.constants.items ≡ 0 → length kept.changed.items ≡ 0 →
-    kept.dead ≡ None → IsGraph kept.arena kept.graph →
+    length kept.left.items ≡ 0 → kept.dead ≡ None → IsGraph kept.arena kept.graph →
     AreNormals stack.table kept.arena kept.normals → kept.measures ≡ [] → IsRight kept.arena kept.plain →
     stack.words ≡ [] → Knows kept stack
-knows_none kept stack members roots others constants changed dead graph normals measures plain words =
+knows_none kept stack members roots others constants changed left dead graph normals measures plain words =
     let none : kept.constants.items ≡ [] = nil_from_length kept.constants.items constants in
     let nothing : kept.members.items ≡ [] = nil_from_length kept.members.items members in
     record {
@@ -527,8 +536,9 @@ knows_none kept stack members roots others constants changed dead graph normals 
         within = λ i d l. absurd (omega (arith, l, members));
         places = λ n. ap (λ cs. (conjoined_at cs n).places) none ∙ ap (places_in 0 n) (sym nothing);
         others = nil_from_length kept.others.items others ∙ ap (other_places 0) (sym nothing);
-        settled = λ n h. rw none refl;
+        settled = λ n h j. rw none refl;
         listed = λ i d l. absurd (omega (arith, l, changed));
+        left = λ i d l. absurd (omega (arith, l, left));
         dead = rw dead tt;
       };
       words = record {
@@ -558,6 +568,7 @@ knows_told stays kept old new e words constants members k =
         others = t.others;
         settled = t.settled;
         listed = t.listed;
+        left = t.left;
         dead = t.dead;
       };
       words = rw words k.words;
@@ -605,6 +616,7 @@ taken_searched stays kept rs g p roots fs ts xs e graph plain rooted t = record 
   others = t.others;
   settled = t.settled;
   listed = t.listed;
+  left = t.left;
   dead = dead_kept kept.arena rs kept.members.items kept.dead e t.rooted.numbers t.dead;
 }
 
@@ -629,6 +641,7 @@ knows_dead stays kept rs g p roots stack serial e graph plain rooted empty k =
         others = t.others;
         settled = t.settled;
         listed = t.listed;
+        left = t.left;
         dead = empty;
       };
       words = kept_grown kept.arena rs kept.members.items kept.constants.items stack.words e k.taken.rooted.numbers
@@ -654,6 +667,7 @@ taken_all stays right kept rs g ks ms p ts xs e graph normals measures plain k =
       others = t.others;
       settled = t.settled;
       listed = t.listed;
+      left = t.left;
       dead = t.dead;
     }
 

@@ -46,6 +46,7 @@ ready_grown stays right kept rs g ks ms p stack e graph normals measures plain r
         (get_or kept.found.items k d) e r.knows.taken.rooted.numbers (r.found.each k d l);
     serials = r.found.serials;
   };
+  left = r.left;
 }
 
 pub left_open_grown : GraphStays → RightStays → (kept : Decider) (rs : List Regex) (g : Findings) (ks : List Known)
@@ -67,6 +68,7 @@ left_open_measured kept ms stack measures o = record {
     all = o.ready.all;
     knows = knows_measured kept ms stack measures o.ready.knows;
     found = o.ready.found;
+    left = o.ready.left;
   };
   not_plain = o.not_plain;
 }

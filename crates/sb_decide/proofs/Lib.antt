@@ -16,4 +16,5 @@ pub mod TakingOver
 pub mod PutWords
 pub mod ModelWords
 pub mod Occurring
+pub mod Parted
 pub mod Questions

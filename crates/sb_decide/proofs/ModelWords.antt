@@ -1,9 +1,9 @@
 -- The words of a model: what is asked of each constant's word is true, and what is known of them then.
-use Rattle.std.proofs.Common.{◌≡◌, ℕ, zero, suc, ◌<◌, Bool, true, false, if◌then◌else◌, List, [], ◌∷◌, length, slice_get, map, Option, Some, None, refl, sym, ap, subst, ◌∙◌, arith}
-use Rattle.std.proofs.lemmas.Bool.{and_parts, false≢true}
+use Rattle.std.proofs.Common.{◌≡◌, ℕ, zero, suc, ◌<◌, Bool, true, false, ◌||◌, ◌==◌, if◌then◌else◌, List, [], ◌∷◌, length, slice_get, map, Option, Some, None, refl, sym, ap, subst, ◌∙◌, arith}
+use Rattle.std.proofs.lemmas.Bool.{and_parts, eqb-true, false≢true}
 use Rattle.std.proofs.lemmas.List.{with_items_is}
 use Rattle.std.proofs.lemmas.Option.{none-some}
-use Rattle.std.specs.List.{All, list_all}
+use Rattle.std.specs.List.{All, Contains, list_all}
 use Rattle.std.specs.Vec.{with_items}
 use Rattle.std.specs.declared.vec.Vec.{Vec}
 use Rattle.std.specs.declared.alloc.Global.{Global}
@@ -30,13 +30,13 @@ use Rattle.sb_stack.proofs.CallerLemmas.{live_laid, value_there}
 use Rattle.sb_decide.specs.declared.conjuncts.Member.{Member}
 use Rattle.sb_decide.specs.declared.decide.Decider.{Decider}
 use Rattle.sb_decide.specs.declared.decide.Found.{Found}
-use Rattle.sb_decide.specs.Conjoined.{Conjoined, conjoined_at, OthersSettled}
+use Rattle.sb_decide.specs.Conjoined.{Conjoined, conjoined_at, is_listed, OthersSettled}
 use Rattle.sb_decide.specs.Deciding.{asking, words_asked, word_at}
 use Rattle.sb_decide.specs.Demands.{demanded}
 use Rattle.sb_decide.specs.Knowing.{AreKept, IsLeastOf, Knows}
 use Rattle.sb_decide.specs.Members.{AreMembers, ids_in, words_in}
 use Rattle.sb_decide.specs.Places.{asks_of}
-use Rattle.sb_decide.specs.Ready.{IsReady, IsClosed}
+use Rattle.sb_decide.specs.Ready.{IsReady, IsClosed, IsSpoken}
 use Rattle.sb_decide.specs.Taking.{ArePut, Fit, IsTakenOver, IsTakingOver, found_at}
 use Rattle.sb_decide.proofs.AskingTerms.{asks_in}
 use Rattle.sb_decide.proofs.DefaultValues.{empty_least, words_all}
@@ -149,12 +149,25 @@ demands_hold law kept stack words truths serial place t r least there asks =
 
 -- The words that are handed out.
 
--- the least word of each constant of which a search found none
-least_put : (rs : List Regex) (ms : List (Option Member)) (old mid new : List Conjoined) (words full : List (List ℕ))
-    (found : List (Option (List ℕ))) (n : ℕ) → IsTakingOver rs ms old mid words [] → ArePut mid new words full found
-    → found_at found n ≡ None → IsShortestLeast (words_in rs ms n) (word_at full n)
-least_put rs ms old mid new words full found n over put none =
-    subst (IsShortestLeast (words_in rs ms n)) (sym (put.others n none).0) (least_over rs ms old mid words over n)
+-- a constant of which something does not hold that holds of each in a list is none of these
+none_listed : (P : ℕ → Type 0) (xs : List Serial) (n : ℕ) → All (λ serial. P serial.0) xs → (P n → ⊥)
+    → is_listed xs n ≡ false
+none_listed P [] n all none = refl
+none_listed P (x ∷ xs) n all none =
+    by (x.0 == n) refl (none_listed P xs n (λ k d l. all (suc k) d (omega (arith, l))) none)
+  where
+    by : (b : Bool) → (x.0 == n) ≡ b → is_listed xs n ≡ false → (b || is_listed xs n) ≡ false
+    by true e rest = absurd (none (subst P (eqb-true x.0 n e) (all 0 x (omega arith))))
+    by false e rest = rest
+
+-- the least word of each constant that was not left to a search, and of which one found none
+least_put : (rs : List Regex) (ms : List (Option Member)) (left : List Serial) (old mid new : List Conjoined)
+    (words full : List (List ℕ)) (found : List (Option (List ℕ))) (n : ℕ) → IsTakingOver rs ms left old mid words []
+    → ArePut mid new words full found → found_at found n ≡ None → is_listed left n ≡ false
+    → IsShortestLeast (words_in rs ms n) (word_at full n)
+least_put rs ms left old mid new words full found n over put none other =
+    subst (IsShortestLeast (words_in rs ms n)) (sym (put.others n none).0)
+    (least_over rs ms left old mid words over n other)
 
 -- each word that was found is one of characters
 abbrev pub Characters : List (Option (List ℕ)) → Type 0
@@ -162,25 +175,27 @@ Characters found = (serial : ℕ) (w : List ℕ) → found_at found serial ≡ S
 
 pub closed_of : NormalHasTermsWords → (kept : Decider) (stack : Stacked) (mid new : List Conjoined)
     (words full : List (List ℕ)) (found : List (Option (List ℕ))) → IsReady kept stack →
-    IsTakingOver kept.arena kept.members.items kept.constants.items mid words [] → ArePut mid new words full found →
-    Characters found → IsClosed kept stack found full
+    IsTakingOver kept.arena kept.members.items kept.left.items kept.constants.items mid words [] →
+    ArePut mid new words full found → Characters found → IsClosed kept stack found full
 closed_of law kept stack mid new words full found r over put characters = record {
   characters = put.characters over.characters characters;
   long = put.long ∙ (over.long ∙ r.all.1);
   given = λ serial w h. (put.given serial w h).0;
   least = least;
-  demands = λ serial place t truths none there asks.
-      demands_hold law kept stack full truths serial place t r (least serial none) there asks;
-  defaults = λ serial none nowhere. empty_least (words_asked serial (live_terms (state_of stack))) (word_at full serial)
+  demands = λ serial place t truths none silent there asks.
+      demands_hold law kept stack full truths serial place t r (least serial none silent) there asks;
+  defaults = λ serial none silent nowhere. empty_least (words_asked serial (live_terms (state_of stack))) (word_at full serial)
       (words_all serial (live_terms (state_of stack)) nowhere)
       (asked_least kept.arena (state_of stack) (ids_in kept.members.items) full serial
-      (all_sofar law kept stack r.knows r.all) (least serial none));
+      (all_sofar law kept stack r.knows r.all) (least serial none silent));
 }
   where
-    least : (serial : ℕ) → found_at found serial ≡ None
+    least : (serial : ℕ) → found_at found serial ≡ None → (IsSpoken kept.others.items stack serial → ⊥)
         → IsShortestLeast (words_in kept.arena kept.members.items serial) (word_at full serial)
-    least serial none =
-        least_put kept.arena kept.members.items kept.constants.items mid new words full found serial over put none
+    least serial none silent =
+        least_put kept.arena kept.members.items kept.left.items kept.constants.items mid new words full found serial
+        over put none
+        (none_listed (IsSpoken kept.others.items stack) kept.left.items serial r.left silent)
 
 -- What is known then.
 
@@ -201,15 +216,15 @@ kept_put rs ms mid new words full found put characters kept = record {
         (kept.least n k (sym (ap (λ (c : Conjoined). c.known) o.1) ∙ h))
     by n k h (Some w) e = absurd (none-some k (sym (put.given n w e).1 ∙ h))
 
-pub knows_closed : (kept : Decider) (stack : Stacked) (cs : Vec Conjoined Global) (ss : Vec Serial Global)
+pub knows_closed : (kept : Decider) (stack : Stacked) (cs : Vec Conjoined Global) (ss ls : Vec Serial Global)
     (fs : Vec Found Global) (mid : List Conjoined) (words full : List (List ℕ)) (found : List (Option (List ℕ)))
     (truths : List Bool) (m : Mode) → IsReady kept stack →
-    IsTakingOver kept.arena kept.members.items kept.constants.items mid words [] →
+    IsTakingOver kept.arena kept.members.items kept.left.items kept.constants.items mid words [] →
     ArePut mid cs.items words full found → Characters found → OthersSettled ss.items cs.items →
-    All (λ other. other.0 < length mid) ss.items →
-    Knows (record kept { constants = cs; changed = ss; found = fs })
+    All (λ other. other.0 < length mid) ss.items → ls.items ≡ [] →
+    Knows (record kept { constants = cs; changed = ss; left = ls; found = fs })
     (record stack { mode = m; words = full; truths = truths })
-knows_closed kept stack cs ss fs mid words full found truths m r over put characters settled listed =
+knows_closed kept stack cs ss ls fs mid words full found truths m r over put characters settled listed none =
     let t = r.knows.taken in
     let long : length cs.items ≡ length kept.constants.items = put.same_length ∙ over.same_length in
     record {
@@ -223,14 +238,18 @@ knows_closed kept stack cs ss fs mid words full found truths m r over put charac
         within = rw long t.within;
         places = λ n. put.places n ∙ (over.places n ∙ t.places n);
         others = t.others;
-        settled = settled;
+        settled = λ n _ h. settled n h;
         listed = rw put.same_length listed;
+        left = λ k d l. absurd (omega (arith, l, ap length none));
         dead = t.dead;
       };
       words = kept_put kept.arena kept.members.items mid cs.items words full found put characters
-          (kept_over kept.arena kept.members.items kept.constants.items mid words t.places over);
+          (kept_over kept.arena kept.members.items kept.left.items kept.constants.items mid words over);
       declared = omega (arith, r.knows.declared, long);
     }
+
+no_place : (places : List ℕ) (place : ℕ) → places ≡ [] → Contains places place → ⊥
+no_place places place none c = omega (arith, c.1, ap length none)
 
 -- the verdict, where all are memberships
 pub sat_closed : FragmentIsOfEach → NormalHasTermsWords → (kept : Decider) (stack : Stacked)
@@ -240,7 +259,9 @@ pub sat_closed : FragmentIsOfEach → NormalHasTermsWords → (kept : Decider) (
 sat_closed law terms kept stack found words r alone fit none closed =
     sat_given law kept.arena (state_of stack) (live_constants stack) (ids_in kept.members.items) words
     (all_sofar terms kept stack r.knows r.all) r.decided (members_live kept stack r.knows r.all alone) r.named
-    (fit words [] closed.characters) (λ n. closed.least n (ap (λ fs. found_at fs n) none))
+    (fit words [] closed.characters)
+    (λ n. closed.least n (ap (λ fs. found_at fs n) none)
+    (λ spoken. no_place kept.others.items spoken.place alone spoken.other))
 
 -- a search that was not made found none
 pub none_found : (found : List (Option (List ℕ))) (serial : ℕ) (w : List ℕ) → found ≡ []
@@ -284,5 +305,5 @@ knows_through kept self stack now ss ws new full found truths r o taken put char
     (λ (d : Decider). Knows (record d { constants = with_items self.constants new; changed = ss })
     (found_in (verdict.Sat (with_items ws full) truths) (without_words stack)))
     (sym o.same)
-    (knows_closed kept stack (with_items self.constants new) ss self.found self.constants.items ws.items
-    (with_items ws full).items found truths.items mode.Sat r o.over put characters settled listed))
+    (knows_closed kept stack (with_items self.constants new) ss self.left self.found self.constants.items ws.items
+    (with_items ws full).items found truths.items mode.Sat r o.over put characters settled listed o.nothing))

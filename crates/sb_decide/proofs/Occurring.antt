@@ -1,5 +1,5 @@
 -- The constants that occur in terms, listed by a walk over these.
-use Rattle.std.proofs.Common.{◌≡◌, ℕ, zero, suc, ◌+◌, ◌<◌, ◌≤◌, ◌⊎◌, inl, inr, Bool, true, false, cond, ◌||◌, ◌==◌, nat_eq, List, [], ◌∷◌, ◌++◌, length, get_or, slice_get, Option, Some, refl, sym, ap, subst, ◌∙◌, arith, append_assoc}
+use Rattle.std.proofs.Common.{◌≡◌, ℕ, zero, suc, ◌+◌, ◌<◌, ◌≤◌, ◌⊎◌, inl, inr, Bool, true, false, cond, ◌||◌, ◌==◌, nat_eq, List, [], ◌∷◌, ◌++◌, length, get_or, slice_get, Option, Some, refl, sym, ap, ap₂, subst, ◌∙◌, arith, append_assoc}
 use Rattle.std.proofs.lemmas.Bool.{and_parts, or_left, or_right, false≢true, eq-eqb, eqb-true}
 use Rattle.std.proofs.lemmas.Bool.Decides.{nat_tests}
 use Rattle.std.proofs.lemmas.List.{append-nil, get_or_append_left}
@@ -21,7 +21,7 @@ use Rattle.sb_term.specs.Numbered.{term_at, terms_at, AllNumbers}
 use Rattle.sb_fragment.specs.Shapes.{parts_of}
 use Rattle.sb_stack.specs.Stacked.{HasNumberBelow}
 use Rattle.sb_decide.specs.Conjoined.{is_listed}
-use Rattle.sb_decide.specs.Speaking.{Adds, AreBegun, IsNamed, Meets, OccursBelow, Reaches, Speaks, is_constant}
+use Rattle.sb_decide.specs.Speaking.{Adds, AreBegun, IsNamed, IsPartOf, Meets, OccursAmong, OccursBelow, OccursIn, Reaches, Speaks, is_constant}
 
 -- Where a constant occurs.
 
@@ -55,6 +55,31 @@ occurs_parts n (word w) h = absurd (false≢true h)
 occurs_parts n (numeral m) h = absurd (false≢true h)
 occurs_parts n (apply s terms) h = inr (sym (among_parts n terms) ∙ h)
 occurs_parts n (parameter place sort) h = absurd (false≢true h)
+
+-- and what occurs in either occurs in the term
+part_occurs : (n : ℕ) (t : Term) → list_any (occurs n) (parts_of t) ≡ true → occurs n t ≡ true
+part_occurs n (constant serial sort) h = absurd (false≢true h)
+part_occurs n (word w) h = absurd (false≢true h)
+part_occurs n (numeral m) h = absurd (false≢true h)
+part_occurs n (apply s terms) h = among_parts n terms ∙ h
+part_occurs n (parameter place sort) h = absurd (false≢true h)
+
+constant_occurs : (n : ℕ) (t : Term) → is_constant n t ≡ true → occurs n t ≡ true
+constant_occurs n (constant serial sort) h = h
+constant_occurs n (word w) h = absurd (false≢true h)
+constant_occurs n (numeral m) h = absurd (false≢true h)
+constant_occurs n (apply s terms) h = absurd (false≢true h)
+constant_occurs n (parameter place sort) h = absurd (false≢true h)
+
+any_part : (ts : List Term) (is : List ℕ) (j m n : ℕ) → j < length is → get_or is j m ≡ m
+    → occurs n (term_at ts m) ≡ true → list_any (occurs n) (terms_at ts is) ≡ true
+any_part ts [] j m n l e h = absurd (omega (arith, l))
+any_part ts (i ∷ is) zero m n l e h =
+    or_left (occurs n (term_at ts i)) (list_any (occurs n) (terms_at ts is))
+    (ap (λ y. occurs n (term_at ts y)) e ∙ h)
+any_part ts (i ∷ is) (suc j) m n l e h =
+    or_right (occurs n (term_at ts i)) (list_any (occurs n) (terms_at ts is))
+    (any_part ts is j m n (omega (arith, l)) e h)
 
 -- an argument in which it occurs
 record IsSpokenIn (ts : List Term) (is : List ℕ) (n : ℕ) : Type 0 where
@@ -128,7 +153,24 @@ inserted old new x e = by (list_any (nat_eq x) old) refl
 -- Constants that are listed.
 
 named_none : (t : Term) (serials : List Serial) → ((n : ℕ) → is_constant n t ≡ false) → IsNamed t serials serials
-named_none t serials none = record { stay = λ n h. h; named = λ n h. absurd (false≢true (sym (none n) ∙ h)) }
+named_none t serials none = record {
+  stay = λ n h. h;
+  named = λ n h. absurd (false≢true (sym (none n) ∙ h));
+  only = λ n h. inl h;
+}
+
+-- one that is listed with another one behind is this one, or was listed
+last_listed : (serials : List Serial) (s : Serial) (n : ℕ) → is_listed (serials ++ s ∷ []) n ≡ true
+    → (is_listed serials n ≡ true) ⊎ (n ≡ s.0)
+last_listed serials s n h =
+    by (is_listed serials n) refl (s.0 == n) refl
+    (sym (list_any-append (λ (x : Serial). x.0 == n) serials (s ∷ [])) ∙ h)
+  where
+    by : (a : Bool) → is_listed serials n ≡ a → (b : Bool) → (s.0 == n) ≡ b
+        → (is_listed serials n || ((s.0 == n) || false)) ≡ true → (is_listed serials n ≡ true) ⊎ (n ≡ s.0)
+    by true e b f k = inl e
+    by false e true f k = inr (sym (eqb-true s.0 n f))
+    by false e false f k = absurd (false≢true (sym (ap₂ (λ x y. x || (y || false)) e f) ∙ k))
 
 -- a test finds it
 pub found_listed : (test : Serial → Bool) (n : ℕ) → ((x : Serial) → test x ≡ true → x.0 ≡ n) → (xs : List Serial)
@@ -149,11 +191,20 @@ named_one test t serials more s sort same is made = by (list_any test serials) r
     named : (xs : List Serial) → is_listed xs s.0 ≡ true → (n : ℕ) → is_constant n t ≡ true → is_listed xs n ≡ true
     named xs h n k = ap (is_listed xs) (eqb-true n s.0 (ap (is_constant n) is ∙ k)) ∙ h
 
+    constant_of : (n : ℕ) → (is_listed serials n ≡ true) ⊎ (n ≡ s.0)
+        → (is_listed serials n ≡ true) ⊎ (is_constant n t ≡ true)
+    constant_of n (inl h) = inl h
+    constant_of n (inr e) = inr (ap (is_constant n) (sym is) ∙ eq-eqb n s.0 e)
+
     by : (b : Bool) → list_any test serials ≡ b → IsNamed t serials more
     by true e =
         let now : more ≡ serials = made ∙ ap (λ b. cond b serials (serials ++ s ∷ [])) e in
         subst (IsNamed t serials) (sym now)
-        (record { stay = λ n h. h; named = named serials (found_listed test s.0 same serials e) })
+        (record {
+          stay = λ n h. h;
+          named = named serials (found_listed test s.0 same serials e);
+          only = λ n h. inl h;
+        })
     by false e =
         let now : more ≡ serials ++ s ∷ [] = made ∙ ap (λ b. cond b serials (serials ++ s ∷ [])) e in
         subst (IsNamed t serials) (sym now) (record {
@@ -162,6 +213,7 @@ named_one test t serials more s sort same is made = by (list_any test serials) r
           named = named (serials ++ s ∷ []) (list_any-append (λ (x : Serial). x.0 == s.0) serials (s ∷ [])
               ∙ or_right (is_listed serials s.0) (is_listed (s ∷ []) s.0)
               (or_left (s.0 == s.0) false (eq-eqb s.0 s.0 refl)));
+          only = λ n h. constant_of n (last_listed serials s n h);
         })
 
 -- another node than a constant's
@@ -241,12 +293,24 @@ pub met_of : (ts : List Term) (term : ℕ) (arguments met more : List ℕ) (seri
     → ((m n : ℕ) → Contains arguments m → occurs n (term_at ts m) ≡ true → Contains more m)
     → Meets ts term met more serials listed
 met_of ts term arguments met more serials listed parts below named added there = record {
-  adds = adds_weaker (Contains arguments) (λ n. n < term) met more
-      (λ n c. All-contains (λ i. i < term) arguments n below c) added;
+  adds = adds_weaker (Contains arguments) (IsPartOf ts term) met more
+      (λ n c. (All-contains (λ i. i < term) arguments n below c, within n c)) added;
   stay = named.stay;
   spoken = λ n h. by n (occurs_parts n (term_at ts term) h);
+  only = λ n h. from n (named.only n h);
 }
   where
+    within : (n : ℕ) → Contains arguments n → (k : ℕ) → occurs k (term_at ts n) ≡ true
+        → occurs k (term_at ts term) ≡ true
+    within n c k h =
+        part_occurs k (term_at ts term)
+        (ap (list_any (occurs k)) (sym parts) ∙ any_part ts arguments c.0 n k c.1 c.2 h)
+
+    from : (n : ℕ) → (is_listed serials n ≡ true) ⊎ (is_constant n (term_at ts term) ≡ true)
+        → (is_listed serials n ≡ true) ⊎ (occurs n (term_at ts term) ≡ true)
+    from n (inl h) = inl h
+    from n (inr h) = inr (constant_occurs n (term_at ts term) h)
+
     by : (n : ℕ) → (is_constant n (term_at ts term) ≡ true) ⊎ (list_any (occurs n) (parts_of (term_at ts term)) ≡ true)
         → (is_listed listed n ≡ true) ⊎ OccursBelow ts more term n
     by n (inl h) = inl (named.named n h)
@@ -262,28 +326,37 @@ met_of ts term arguments met more serials listed parts below named added there =
 -- The walk.
 
 -- the terms before a place are taken apart
-pub record Walking (ts : List Term) (first met : List ℕ) (serials : List Serial) (at : ℕ) : Type 0 where
+pub record Walking (ts : List Term) (first met : List ℕ) (start serials : List Serial) (at : ℕ) : Type 0 where
   pub numbers : AllNumbers ts met
   pub front : (n : ℕ) → Contains first n → Contains met n
   pub done : (k d n : ℕ) → k < at → k < length met → occurs n (term_at ts (get_or met k d)) ≡ true
       → (is_listed serials n ≡ true) ⊎ OccursBelow ts met (get_or met k d) n
+  pub origin : (m n : ℕ) → Contains met m → occurs n (term_at ts m) ≡ true → OccursAmong ts first n
+  pub only : (n : ℕ) → is_listed serials n ≡ true → (is_listed start n ≡ true) ⊎ OccursAmong ts first n
 
 pub walking_start : (ts : List Term) (met : List ℕ) (serials : List Serial) → AllNumbers ts met
-    → Walking ts met met serials 0
-walking_start ts met serials numbers =
-    record { numbers = numbers; front = λ n h. h; done = λ k d n l. absurd (omega (arith, l)) }
+    → Walking ts met met serials serials 0
+walking_start ts met serials numbers = record {
+  numbers = numbers;
+  front = λ n h. h;
+  done = λ k d n l. absurd (omega (arith, l));
+  origin = λ m n c h. record { id = m; among = c; occurring = h };
+  only = λ n h. inl h;
+}
 
 all_below : (n : ℕ) (ns : List ℕ) → ((m : ℕ) → Contains ns m → m < n) → All (λ i. i < n) ns
 all_below n ns h i d l = h (get_or ns i d) (Contains-get_or ns i d l)
 
-pub walking_next : (ts : List Term) (first met more : List ℕ) (serials listed : List Serial) (at x : ℕ)
+pub walking_next : (ts : List Term) (first met more : List ℕ) (start serials listed : List Serial) (at x : ℕ)
     → at < length met → slice_get met at ≡ Some x → Meets ts x met more serials listed
-    → Walking ts first met serials at → Walking ts first more listed (at + 1)
-walking_next ts first met more serials listed at x l there m w = record {
+    → Walking ts first met start serials at → Walking ts first more start listed (at + 1)
+walking_next ts first met more start serials listed at x l there m w = record {
   numbers = all_below (length ts) more (λ n c. number n (Contains-append_cases met m.adds.more n
       (subst (λ ns. Contains ns n) m.adds.is c)));
-  front = λ n c. still_there (λ y. y < x) met more n m.adds (w.front n c);
+  front = λ n c. still_there (IsPartOf ts x) met more n m.adds (w.front n c);
   done = λ k d n h j o. by k d n h j o (k == at) refl;
+  origin = λ i n c o. from i n (Contains-append_cases met m.adds.more i (subst (λ ns. Contains ns i) m.adds.is c)) o;
+  only = λ n h. listed_by n (m.only n h);
 }
   where
     is : (d : ℕ) → get_or met at d ≡ x
@@ -294,7 +367,17 @@ walking_next ts first met more serials listed at x l there m w = record {
 
     number : (n : ℕ) → Contains met n ⊎ Contains m.adds.more n → n < length ts
     number n (inl c) = All-contains (λ i. i < length ts) met n w.numbers c
-    number n (inr c) = let below = m.adds.each n c in omega (arith, below, low)
+    number n (inr c) = let below = (m.adds.each n c).0 in omega (arith, below, low)
+
+    from : (i n : ℕ) → Contains met i ⊎ Contains m.adds.more i → occurs n (term_at ts i) ≡ true
+        → OccursAmong ts first n
+    from i n (inl c) o = w.origin i n c o
+    from i n (inr c) o = w.origin x n (at, l, is x) ((m.adds.each i c).1 n o)
+
+    listed_by : (n : ℕ) → (is_listed serials n ≡ true) ⊎ (occurs n (term_at ts x) ≡ true)
+        → (is_listed start n ≡ true) ⊎ OccursAmong ts first n
+    listed_by n (inl h) = w.only n h
+    listed_by n (inr h) = inr (w.origin x n (at, l, is x) h)
 
     old_at : (k d : ℕ) → k < length met → get_or more k d ≡ get_or met k d
     old_at k d h = ap (λ ns. get_or ns k d) m.adds.is ∙ get_or_append_left met m.adds.more d k h
@@ -305,7 +388,7 @@ walking_next ts first met more serials listed at x l there m w = record {
     still y n (inr o) = inr (record {
       argument = o.argument;
       below = o.below;
-      listed = still_there (λ z. z < x) met more o.argument m.adds o.listed;
+      listed = still_there (IsPartOf ts x) met more o.argument m.adds o.listed;
       there = o.there;
     })
 
@@ -344,10 +427,12 @@ all_reached ts met serials all (suc bound) m n l c o = by (all m n c o) (all_rea
     by (inl h) later = h
     by (inr p) later = later p.argument n (omega (arith, p.below, l)) p.listed p.there
 
-pub walking_done : (ts : List Term) (first met : List ℕ) (serials : List Serial) (at : ℕ) → length met ≤ at
-    → Walking ts first met serials at → Reaches ts first serials
-walking_done ts first met serials at l w id n c o =
-    all_reached ts met serials all (suc id) id n (omega arith) (w.front id c) o
+pub walking_done : (ts : List Term) (first met : List ℕ) (start serials : List Serial) (at : ℕ) → length met ≤ at
+    → Walking ts first met start serials at → Reaches ts first start serials
+walking_done ts first met start serials at l w = record {
+  each = λ id n c o. all_reached ts met serials all (suc id) id n (omega arith) (w.front id c) o;
+  only = w.only;
+}
   where
     all : (m n : ℕ) → Contains met m → occurs n (term_at ts m) ≡ true
         → (is_listed serials n ≡ true) ⊎ OccursBelow ts met m n
@@ -359,8 +444,8 @@ walking_done ts first met serials at l w id n c o =
 
 -- those of the assertions at the first places
 pub record AreBegunTo (assertions : List code.Assertion) (places met : List ℕ) (i : ℕ) : Type 0 where
-  pub each : (n : ℕ) → Contains met n
-      → (place : ℕ) × (a : code.Assertion) × (slice_get assertions place ≡ Some a) × (a.term ≡ Some n)
+  pub each : (n : ℕ) → Contains met n → (place : ℕ) × (a : code.Assertion) × Contains places place
+      × (slice_get assertions place ≡ Some a) × (a.term ≡ Some n)
   pub there : (k d n : ℕ) (a : code.Assertion) → k < i → k < length places
       → slice_get assertions (get_or places k d) ≡ Some a → a.term ≡ Some n → Contains met n
 
@@ -388,9 +473,9 @@ begun_next assertions places old new i c a l below at added there p = record {
     here = slice_get-get_or assertions (get_or places i c) a (below i c l) ∙ ap Some (sym at)
 
     from : (n : ℕ) → Contains old n ⊎ Contains added.more n
-        → (q : ℕ) × (b : code.Assertion) × (slice_get assertions q ≡ Some b) × (b.term ≡ Some n)
+        → (q : ℕ) × (b : code.Assertion) × Contains places q × (slice_get assertions q ≡ Some b) × (b.term ≡ Some n)
     from n (inl h) = p.each n h
-    from n (inr h) = (get_or places i c, a, here, added.each n h)
+    from n (inr h) = (get_or places i c, a, Contains-get_or places i c l, here, added.each n h)
 
     by : (k d n : ℕ) (b : code.Assertion) → k < i + 1 → k < length places
         → slice_get assertions (get_or places k d) ≡ Some b → b.term ≡ Some n → (t : Bool) → (k == i) ≡ t
@@ -429,9 +514,9 @@ pub begun_numbers : (ts : List Term) (assertions : List code.Assertion) (places 
     → All (HasNumberBelow (length ts)) assertions → AreBegun assertions places met → AllNumbers ts met
 begun_numbers ts assertions places met numbers b = all_below (length ts) met (λ n c. number n (b.each n c))
   where
-    number : (n : ℕ)
-        → (q : ℕ) × (a : code.Assertion) × (slice_get assertions q ≡ Some a) × (a.term ≡ Some n) → n < length ts
-    number n (q, a, e, f) =
+    number : (n : ℕ) → (q : ℕ) × (a : code.Assertion) × Contains places q × (slice_get assertions q ≡ Some a)
+        × (a.term ≡ Some n) → n < length ts
+    number n (q, a, c, e, f) =
         let low : HasNumberBelow (length ts) a =
         All-contains (HasNumberBelow (length ts)) assertions a numbers (placed q a e) in
         subst (λ (o : Option ℕ). IfSome o (λ j. j < length ts)) f low
@@ -439,7 +524,24 @@ begun_numbers ts assertions places met numbers b = all_below (length ts) met (λ
         placed : (k : ℕ) (x : code.Assertion) → slice_get assertions k ≡ Some x → Contains assertions x
         placed k x there = (k, (slice_get_within assertions k x there), get_or_from_slice_get assertions k x x there)
 
-pub speaks_of_begun : (ts : List Term) (assertions : List code.Assertion) (places met : List ℕ) (serials : List Serial)
-    → AreBegun assertions places met → Reaches ts met serials → Speaks ts assertions places serials
-speaks_of_begun ts assertions places met serials b reaches place id n a c e f o =
-    reaches id n (b.there place id a c e f) o
+pub speaks_of_begun : (ts : List Term) (assertions : List code.Assertion) (places met : List ℕ)
+    (start serials : List Serial) → start ≡ [] → AreBegun assertions places met → Reaches ts met start serials
+    → Speaks ts assertions places serials
+speaks_of_begun ts assertions places met start serials none b reaches = record {
+  each = λ place id n a c e f o. reaches.each id n (b.there place id a c e f) o;
+  only = λ n h. by n (reaches.only n h);
+}
+  where
+    by : (n : ℕ) → (is_listed start n ≡ true) ⊎ OccursAmong ts met n → OccursIn ts assertions places n
+    by n (inl h) = absurd (false≢true (ap (λ ss. is_listed ss n) (sym none) ∙ h))
+    by n (inr o) =
+        let at = b.each o.id o.among in
+        record {
+          place = at.0;
+          assertion = at.1;
+          id = o.id;
+          listed = at.2;
+          there = at.3;
+          number = at.4;
+          occurring = o.occurring;
+        }

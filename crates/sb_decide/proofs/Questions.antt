@@ -245,7 +245,7 @@ nowhere kept stack serials n p t r speaks none (inl c) there = by (occurs n t) r
 
     by : (b : Bool) → occurs n t ≡ b → b ≡ false
     by true e =
-        sym (speaks p one.id n one.assertion c one.there one.number (ap (occurs n) one.is ∙ e)) ∙ none
+        sym (speaks.each p one.id n one.assertion c one.there one.number (ap (occurs n) one.is ∙ e)) ∙ none
     by false e = refl
 nowhere kept stack serials n p t r speaks none (inr c) there =
     let listed = listed_place kept serials p c in
@@ -314,9 +314,12 @@ own_asked kept serials sorted n p moved h c =
 
 pub question_of : (kept : Decider) (stack : Stacked) (serials : List Serial) (sorted : List ℕ)
     → IsReady kept stack → Speaks stack.table stack.assertions kept.others.items serials
-    → IsPermutation (kept.others.items ++ asked_of kept serials) sorted → IsQuestion stack sorted
+    → IsPermutation (kept.others.items ++ asked_of kept serials) sorted
+    → IsQuestion kept.others.items stack sorted
 question_of kept stack serials sorted r speaks moved = record {
   below = all_asked_below kept stack serials sorted r.knows moved;
+  asked = λ place c. Contains-permutation (kept.others.items ++ asked_of kept serials) sorted place moved
+      (Contains-append_left kept.others.items (asked_of kept serials) place c);
   rest = λ place l. by place l (slice_get kept.members.items place) refl;
 }
   where

@@ -33,16 +33,16 @@ use Rattle.sb_fragment.specs.Rules.{FragmentIsOfEach, is_decided}
 use Rattle.sb_decide.specs.declared.conjuncts.Member.{Member}
 use Rattle.sb_decide.specs.declared.decide.Decider.{Decider}
 use Rattle.sb_decide.specs.declared.decide.Found.{Found}
-use Rattle.sb_decide.specs.Conjoined.{Conjoined, conjoined_at, with_place, without_place, all_known, is_settled, is_listed, OthersSettled, IsChangedAt}
+use Rattle.sb_decide.specs.Conjoined.{Conjoined, conjoined_at, with_place, without_place, all_known, is_settled, is_listed, RestSettled, IsChangedAt}
 use Rattle.sb_decide.specs.Deciding.{IsSofar, AreFilled, word_at}
 use Rattle.sb_decide.specs.Knowing.{IsLeastOf, AreKept, Knows}
 use Rattle.sb_decide.specs.Members.{AreConjuncts, AreRooted, HasRegexBelow, IsEmptyAt, IsRootOf, ids_in, places_in, words_in}
 use Rattle.sb_decide.specs.Places.{is_member}
-use Rattle.sb_decide.specs.Ready.{IsReady}
+use Rattle.sb_decide.specs.Ready.{IsReady, IsSpoken}
 use Rattle.sb_decide.specs.Taking.{Fit, HasAll, IsFoundAt, IsFoundOf, AreFound, IsTakingOver, with_word, word_of}
 use Rattle.sb_decide.proofs.Conjunctions.{same_least, same_no_word, in_root}
 use Rattle.sb_decide.proofs.Constants.{conjoined_within, conjoined_set, conjoined_set_other, listed_last}
-use Rattle.sb_decide.proofs.KeptWords.{all_least, ids_long, known_all, length-with_word, settled_least, word_elsewhere, word_there, words_with}
+use Rattle.sb_decide.proofs.KeptWords.{all_least, ids_long, length-with_word, settled_least, word_elsewhere, word_there, words_with}
 use Rattle.sb_decide.proofs.Knowledge.{taken_searched, kept_grown}
 use Rattle.sb_decide.proofs.MemberFacts.{words_grown}
 use Rattle.sb_decide.proofs.OneMembership.{members_alone, members_decided, sofar_of}
@@ -77,18 +77,19 @@ found_put rs ms cs words put place f others least h = (h.0, by_word f.word h.1)
     by_word None l = by_test (f.serial.0 == place) refl l
     by_word (Some w) l = l
 
-pub starts : (rs : List Regex) (ms : List (Option Member)) (cs : List Conjoined) (changed : List Serial)
-    (fs : List Found) (words filled : List (List ℕ)) → OthersSettled changed cs
+pub starts : (rs : List Regex) (ms : List (Option Member)) (cs : List Conjoined) (left changed : List Serial)
+    (fs : List Found) (words filled : List (List ℕ)) → RestSettled left changed cs
     → ((n : ℕ) → (conjoined_at cs n).places ≡ places_in 0 n ms) → AreKept rs ms cs words →
-    AreFilled (length cs) words filled → AreFound rs ms cs words changed fs → IsTakingOver rs ms cs cs filled fs
-starts rs ms cs changed fs words filled settled places kept more found = record {
+    AreFilled (length cs) words filled → AreFound rs ms cs words changed fs → IsTakingOver rs ms left cs cs filled fs
+starts rs ms cs left changed fs words filled settled places kept more found = record {
   same_length = refl;
   long = more.long;
   characters = more.characters kept.characters;
   each = λ k d l. found_filled rs ms cs words filled (get_or fs k d) more.same (found.each k d l);
+  right = places;
   places = λ n. refl;
   settled = rw found.serials settled;
-  least = λ n h. rw (more.same n) (settled_least rs ms cs words n (places n) kept h);
+  least = λ n k h. rw (more.same n) (kept.least n k h);
 }
 
 last_of : (P : Found → Type 0) (fs : List Found) (one : Found) → All P (fs ++ one ∷ []) → P one
@@ -109,21 +110,22 @@ pub front_within : (n : ℕ) (fs rest : List Found) (one : Found) → All (λ f.
     → All (λ f. f.serial.0 < n) rest
 front_within n fs rest one h is = front_of (λ f. f.serial.0 < n) rest one (rw is at h)
 
-pub goes_on : (rs : List Regex) (ms : List (Option Member)) (old new new' : List Conjoined)
+pub goes_on : (rs : List Regex) (ms : List (Option Member)) (left : List Serial) (old new new' : List Conjoined)
     (words words' : List (List ℕ)) (fs rest : List Found) (one : Found) (c : Conjoined)
-    → IsTakingOver rs ms old new words fs → fs ≡ rest ++ one ∷ [] → c ≡ get_or new one.serial.0 c →
+    → IsTakingOver rs ms left old new words fs → fs ≡ rest ++ one ∷ [] → c ≡ get_or new one.serial.0 c →
     new' ≡ set new one.serial.0 (all_known c) → words' ≡ with_word words one.serial.0 one.word →
-    IsTakingOver rs ms old new' words' rest
-goes_on rs ms old new new' words words' fs rest one c t is there grown given = rw (grown, given) (record {
+    IsTakingOver rs ms left old new' words' rest
+goes_on rs ms left old new new' words words' fs rest one c t is there grown given = rw (grown, given) (record {
   same_length = length-set new place (all_known c) ∙ t.same_length;
   long = length-with_word words place one.word ∙ t.long;
   characters = words_with words place one.word t.characters this.1.word;
   each = λ k d l. found_put rs ms old words (with_word words place one.word) place (get_or rest k d)
       (λ n h. word_elsewhere words place n one.word h) least_here
       (front_of (IsFoundOf rs ms old words) rest one (rw is at t.each) k d l);
+  right = t.right;
   places = λ n. places_at n (n == place) refl;
-  settled = λ n h. settled_at n h (n == place) refl;
-  least = λ n h. least_at n h (n == place) refl;
+  settled = λ n none h. settled_at n none h (n == place) refl;
+  least = λ n k h. least_at n k h (n == place) refl;
 })
   where
     place : ℕ
@@ -152,32 +154,56 @@ goes_on rs ms old new new' words words' fs rest one c t is there grown given = r
         ap (λ (x : Conjoined). x.places) (conjoined_set_other new place n (all_known c) (eqb-false n place k))
         ∙ t.places n
 
-    settled_at : (n : ℕ) → is_listed (map (λ f. f.serial) rest) n ≡ false → (b : Bool) → (n == place) ≡ b
-        → is_settled (conjoined_at (set new place (all_known c)) n) ≡ true
-    settled_at n h true k =
+    settled_at : (n : ℕ) → is_listed left n ≡ false → is_listed (map (λ f. f.serial) rest) n ≡ false → (b : Bool)
+        → (n == place) ≡ b → is_settled (conjoined_at (set new place (all_known c)) n) ≡ true
+    settled_at n none h true k =
         ap (λ m. is_settled (conjoined_at (set new place (all_known c)) m)) (eqb-true n place k)
         ∙ (ap is_settled here ∙ eq-eqb (length c.places) (length c.places) refl)
-    settled_at n h false k =
+    settled_at n none h false k =
         let e : n ≢ place = eqb-false n place k in
         ap is_settled (conjoined_set_other new place n (all_known c) e)
-        ∙ t.settled n (ap (λ xs. is_listed (map (λ f. f.serial) xs) n) is
+        ∙ t.settled n none (ap (λ xs. is_listed (map (λ f. f.serial) xs) n) is
         ∙ (ap (λ ss. is_listed ss n) (map_push (λ f. f.serial) rest one)
         ∙ listed_last (map (λ f. f.serial) rest) one.serial n h e))
 
-    least_at : (n : ℕ) → is_settled (conjoined_at (set new place (all_known c)) n) ≡ true → (b : Bool)
-        → (n == place) ≡ b → IsShortestLeast (words_in rs ms n) (word_at (with_word words place one.word) n)
-    least_at n h true k =
-        subst (λ m. IsShortestLeast (words_in rs ms m) (word_at (with_word words place one.word) m))
-        (sym (eqb-true n place k)) least_here
-    least_at n h false k =
-        let e : n ≢ place = eqb-false n place k in
-        subst (IsShortestLeast (words_in rs ms n)) (sym (word_elsewhere words place n one.word e))
-        (t.least n (sym (ap is_settled (conjoined_set_other new place n (all_known c) e)) ∙ h))
+    long_here : length c.places ≡ length (ids_in ms place)
+    long_here =
+        ap (λ (x : Conjoined). length x.places) (sym (conjoined_within new place c
+        (omega (arith, this.0, t.same_length)) there))
+        ∙ (ap length (t.places place ∙ t.right place) ∙ ids_long ms place)
+
+    least_at : (n k : ℕ) → (conjoined_at (set new place (all_known c)) n).known ≡ Some k → (b : Bool)
+        → (n == place) ≡ b → IsLeastOf rs (ids_in ms n) k (word_at (with_word words place one.word) n)
+    least_at n k h true e =
+        let same : n ≡ place = eqb-true n place e in
+        let known : Some k ≡ Some (length c.places) =
+        sym h ∙ (ap (λ m. (conjoined_at (set new place (all_known c)) m).known) same
+        ∙ ap (λ (x : Conjoined). x.known) here) in
+        subst (λ m. IsLeastOf rs (ids_in ms m) k (word_at (with_word words place one.word) m)) (sym same)
+        (all_least rs (ids_in ms place) k (word_at (with_word words place one.word) place)
+        (same_Some k (length c.places) known ∙ long_here) least_here)
+    least_at n k h false e =
+        let other : n ≢ place = eqb-false n place e in
+        subst (IsLeastOf rs (ids_in ms n) k) (sym (word_elsewhere words place n one.word other))
+        (t.least n k
+        (sym (ap (λ (x : Conjoined). x.known) (conjoined_set_other new place n (all_known c) other)) ∙ h))
 
 -- all is taken over
-pub least_over : (rs : List Regex) (ms : List (Option Member)) (old new : List Conjoined) (words : List (List ℕ))
-    → IsTakingOver rs ms old new words [] → (n : ℕ) → IsShortestLeast (words_in rs ms n) (word_at words n)
-least_over rs ms old new words t n = t.least n (t.settled n refl)
+pub kept_over : (rs : List Regex) (ms : List (Option Member)) (left : List Serial) (old new : List Conjoined)
+    (words : List (List ℕ)) → IsTakingOver rs ms left old new words [] → AreKept rs ms new words
+kept_over rs ms left old new words over = record {
+  characters = over.characters;
+  few = omega (arith, over.long, over.same_length);
+  least = over.least;
+}
+
+-- and each constant that is not left has its word
+pub least_over : (rs : List Regex) (ms : List (Option Member)) (left : List Serial) (old new : List Conjoined)
+    (words : List (List ℕ)) → IsTakingOver rs ms left old new words [] → (n : ℕ) → is_listed left n ≡ false
+    → IsShortestLeast (words_in rs ms n) (word_at words n)
+least_over rs ms left old new words t n none =
+    settled_least rs ms new words n (t.places n ∙ t.right n) (kept_over rs ms left old new words t)
+    (t.settled n none refl)
 
 -- all assertions
 all_live : (kept : Decider) (stack : Stacked) → HasAll kept stack
@@ -245,32 +271,17 @@ knows_searched stays kept rs g p roots fs stack k e graph plain rooted = record 
 pub ready_searched : NormalsStay → (kept : Decider) (rs : List Regex) (g : Findings) (p : Memory)
     (roots : Vec (Option ℕ) Global) (fs : Vec Found Global) (stack : Stacked) → Knows kept stack → HasAll kept stack →
     Named stack → Extends kept.arena rs → IsGraph rs g → IsRight rs p → AreRooted rs kept.members.items roots.items →
+    All (λ serial. IsSpoken kept.others.items stack serial.0) kept.left.items →
     AreFound rs kept.members.items kept.constants.items stack.words kept.changed.items fs.items →
     IsReady (record kept { arena = rs; graph = g; plain = p; roots = roots; found = fs }) stack
-ready_searched stays kept rs g p roots fs stack k all named e graph plain rooted found = record {
+ready_searched stays kept rs g p roots fs stack k all named e graph plain rooted left found = record {
   decided = decided_live kept stack k all;
   named = named;
   all = all;
   knows = knows_searched stays kept rs g p roots fs stack k e graph plain rooted;
   found = found;
+  left = left;
 }
-
--- all words are known then
-pub kept_over : (rs : List Regex) (ms : List (Option Member)) (old new : List Conjoined) (words : List (List ℕ))
-    → ((n : ℕ) → (conjoined_at old n).places ≡ places_in 0 n ms) → IsTakingOver rs ms old new words []
-    → AreKept rs ms new words
-kept_over rs ms old new words places over = record {
-  characters = over.characters;
-  few = omega (arith, over.long, over.same_length);
-  least = λ n k h. all_least rs (ids_in ms n) k (word_at words n) (long n k h) (least_over rs ms old new words over n);
-}
-  where
-    long : (n k : ℕ) → (conjoined_at new n).known ≡ Some k → k ≡ length (ids_in ms n)
-    long n k h =
-        same_Some k (length (conjoined_at new n).places)
-        (sym h
-        ∙ known_all (length (conjoined_at new n).places) (conjoined_at new n).known (over.settled n refl))
-        ∙ (ap length (over.places n ∙ places n) ∙ ids_long ms n)
 
 -- what was found, in an arena that grows
 pub found_grown : (rs new : List Regex) (ms : List (Option Member)) (cs : List Conjoined) (words : List (List ℕ))
@@ -361,9 +372,10 @@ is_nil v h = nil_from_length v.items (no_items v (eqb-true (vec_len v) 0 h))
 pub some_items : {X : Type 0} (v : Vec X Global) → (vec_len v == 0) ≡ false → 0 < length v.items
 some_items v h = let some : 0 < vec_len v = grind (arith, nat_tests, h) in omega (arith, v.ok.0, some)
 
-pub over_all : (rs : List Regex) (ms : List (Option Member)) (old new : List Conjoined) (words : List (List ℕ))
-    (fs : List Found) → length fs ≡ 0 → IsTakingOver rs ms old new words fs → IsTakingOver rs ms old new words []
-over_all rs ms old new words fs none t = rw (nil_from_length fs none) at t
+pub over_all : (rs : List Regex) (ms : List (Option Member)) (left : List Serial) (old new : List Conjoined)
+    (words : List (List ℕ)) (fs : List Found) → length fs ≡ 0 → IsTakingOver rs ms left old new words fs
+    → IsTakingOver rs ms left old new words []
+over_all rs ms left old new words fs none t = rw (nil_from_length fs none) at t
 
 -- a vector whose elements were written over
 put_through : (v : Vec Conjoined Global) (now new : List Conjoined) (serial : ℕ) (c : Conjoined) → now ≡ v.items
@@ -388,29 +400,29 @@ back_here v now new serial value p =
     (ap (λ cs. without_place (conjoined_at cs serial)) value) (put_through v now new serial _ value p)
 
 pub settled_through : (v : Vec Conjoined Global) (now new : List Conjoined) (serial : ℕ) (c : Conjoined)
-    (changed : List Serial) → now ≡ v.items → IsChangedAt now new serial c → OthersSettled changed new →
-    OthersSettled changed (with_items v new).items
-settled_through v now new serial c changed value p settled =
+    (left changed : List Serial) → now ≡ v.items → IsChangedAt now new serial c → RestSettled left changed new →
+    RestSettled left changed (with_items v new).items
+settled_through v now new serial c left changed value p settled =
     let q : IsChangedAt v.items new serial c = rw value at p in
-    subst (OthersSettled changed) (sym (with_items_is v new (omega (arith, q.same_length, v.ok.0)))) settled
+    subst (RestSettled left changed) (sym (with_items_is v new (omega (arith, q.same_length, v.ok.0)))) settled
 
 -- what a model makes of what is known
 pub over_of : (kept : Decider) (stack : Stacked) (fs : List Found) (count : ℕ) (given filled : List (List ℕ))
     (cs new : List Conjoined) (before after : List (List ℕ)) → IsReady kept stack → fs ≡ kept.found.items →
     given ≡ stack.words → count ≡ length stack.scope.sorts → AreFilled count given filled → cs ≡ kept.constants.items →
     before ≡ filled →
-    ((ts : List Regex) (ms : List (Option Member)) → IsTakingOver ts ms cs cs before fs
-    → IsTakingOver ts ms cs new after []) →
-    IsTakingOver kept.arena kept.members.items kept.constants.items new after []
+    ((ts : List Regex) (ms : List (Option Member)) (left : List Serial) → IsTakingOver ts ms left cs cs before fs
+    → IsTakingOver ts ms left cs new after []) →
+    IsTakingOver kept.arena kept.members.items kept.left.items kept.constants.items new after []
 over_of kept stack fs count given filled cs new before after r same_found same_words same_count more same_cs
     same_before over =
     let k = r.knows in
     let long : count ≡ length kept.constants.items = same_count ∙ sym r.all.1 in
-    let begun : IsTakingOver kept.arena kept.members.items kept.constants.items kept.constants.items filled
-    kept.found.items =
-    starts kept.arena kept.members.items kept.constants.items kept.changed.items kept.found.items stack.words filled
-    k.taken.settled k.taken.places k.words (rw (same_words, long) at more) r.found in
-    let there = over kept.arena kept.members.items in
+    let begun : IsTakingOver kept.arena kept.members.items kept.left.items kept.constants.items kept.constants.items
+    filled kept.found.items =
+    starts kept.arena kept.members.items kept.constants.items kept.left.items kept.changed.items kept.found.items
+    stack.words filled k.taken.settled k.taken.places k.words (rw (same_words, long) at more) r.found in
+    let there = over kept.arena kept.members.items kept.left.items in
     (rw (same_cs, same_before, same_found) at there) begun
 
 -- what was found is of constants that there are
@@ -418,14 +430,16 @@ pub found_within : (kept : Decider) (stack : Stacked) (fs : List Found) → IsRe
     → All (λ one. one.serial.0 < length kept.constants.items) fs
 found_within kept stack fs r is = rw is (λ k d l. (r.found.each k d l).0)
 
-pub words_long : (rs : List Regex) (ms : List (Option Member)) (old new : List Conjoined) (words : List (List ℕ))
-    (v : Vec (List ℕ) Global) (count : ℕ) (given : List (List ℕ)) → IsTakingOver rs ms old new words [] →
-    count ≡ length old → AreFilled count given v.items → length words ≡ v.len
-words_long rs ms old new words v count given t same more = omega (arith, t.long, same, more.long, v.ok.0)
+pub words_long : (rs : List Regex) (ms : List (Option Member)) (left : List Serial) (old new : List Conjoined)
+    (words : List (List ℕ)) (v : Vec (List ℕ) Global) (count : ℕ) (given : List (List ℕ))
+    → IsTakingOver rs ms left old new words [] → count ≡ length old → AreFilled count given v.items
+    → length words ≡ v.len
+words_long rs ms left old new words v count given t same more = omega (arith, t.long, same, more.long, v.ok.0)
 
-pub constants_long : (rs : List Regex) (ms : List (Option Member)) (v : Vec Conjoined Global) (new : List Conjoined)
-    (words : List (List ℕ)) → IsTakingOver rs ms v.items new words [] → length new ≡ v.len
-constants_long rs ms v new words t = omega (arith, t.same_length, v.ok.0)
+pub constants_long : (rs : List Regex) (ms : List (Option Member)) (left : List Serial) (v : Vec Conjoined Global)
+    (new : List Conjoined) (words : List (List ℕ)) → IsTakingOver rs ms left v.items new words []
+    → length new ≡ v.len
+constants_long rs ms left v new words t = omega (arith, t.same_length, v.ok.0)
 
 -- the entries of the memo stay
 pub same_memo : (old new : Findings) → new ≡ old → KeepsEntries old.memo new.memo

@@ -56,6 +56,11 @@ is_listed changed n = list_any (λ serial. serial.0 == n) changed
 abbrev pub OthersSettled : List Serial → List Conjoined → Type 0
 OthersSettled changed cs = (n : ℕ) → is_listed changed n ≡ false → is_settled (conjoined_at cs n) ≡ true
 
+-- and constants out of two lists
+abbrev pub RestSettled : List Serial → List Serial → List Conjoined → Type 0
+RestSettled left changed cs = (n : ℕ) → is_listed left n ≡ false → is_listed changed n ≡ false
+    → is_settled (conjoined_at cs n) ≡ true
+
 -- so many constants, of which those that are new have no memberships
 pub record HasRoom (count : ℕ) (old new : List Conjoined) : Type 0 where
   pub long : length new ≡ count

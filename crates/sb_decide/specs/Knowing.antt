@@ -13,7 +13,7 @@ use Rattle.sb_stack.specs.Stacked.{Stacked, are_words}
 use Rattle.sb_stack.specs.declared.verdict.Verdict.{Verdict}
 use Rattle.sb_stack.specs.declared.verdict.Verdict.TheVariants as verdict
 use Rattle.sb_decide.specs.declared.decide.Decider.{Decider}
-use Rattle.sb_decide.specs.Conjoined.{Conjoined, conjoined_at, OthersSettled}
+use Rattle.sb_decide.specs.Conjoined.{Conjoined, conjoined_at, RestSettled}
 use Rattle.sb_decide.specs.Deciding.{in_each, word_at}
 use Rattle.sb_decide.specs.Members.{AreMembers, AreRooted, HasSerialBelow, IsEmptyAt, ids_in, places_in, other_places}
 use Rattle.sb_decide.specs.declared.conjuncts.Member.{Member}
@@ -33,8 +33,9 @@ pub record IsTaken (kept : Decider) (ts : List Term) (assertions : List Assertio
   pub within : All (HasSerialBelow (length kept.constants.items)) kept.members.items
   pub places : (n : ℕ) → places_of kept n ≡ places_in 0 n kept.members.items
   pub others : kept.others.items ≡ other_places 0 kept.members.items
-  pub settled : OthersSettled kept.changed.items kept.constants.items
+  pub settled : RestSettled kept.left.items kept.changed.items kept.constants.items
   pub listed : All (λ serial. serial.0 < length kept.constants.items) kept.changed.items
+  pub left : All (λ serial. serial.0 < length kept.constants.items) kept.left.items
   pub dead : IfSome kept.dead (λ serial. IsEmptyAt kept.arena kept.members.items serial.0)
 
 -- The word is the least one of so many first regexes.

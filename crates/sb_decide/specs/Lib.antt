@@ -7,5 +7,6 @@ pub mod Places
 pub mod Knowing
 pub mod Taking
 pub mod Ready
+pub mod Parting
 pub mod Speaking
 pub mod Laws

@@ -13,10 +13,10 @@ use Rattle.sb_decide.specs.declared.decide.Decider.{Decider}
 use Rattle.sb_decide.specs.declared.decide.Found.{Found}
 use Rattle.sb_decide.specs.declared.decide.Words.{Words}
 use Rattle.sb_decide.specs.declared.decide.Words.TheVariants as searched
-use Rattle.sb_decide.specs.Conjoined.{Conjoined, conjoined_at, forgotten, is_settled, IsChangedAt, OthersSettled}
+use Rattle.sb_decide.specs.Conjoined.{Conjoined, conjoined_at, forgotten, IsChangedAt, RestSettled}
 use Rattle.sb_decide.specs.Deciding.{in_each, word_at}
-use Rattle.sb_decide.specs.Members.{IsEmptyAt, words_in}
-use Rattle.sb_decide.specs.Knowing.{AreKept}
+use Rattle.sb_decide.specs.Members.{IsEmptyAt, ids_in, places_in, words_in}
+use Rattle.sb_decide.specs.Knowing.{AreKept, IsLeastOf}
 
 -- the words that are kept stay so
 abbrev pub StayKept : Decider → Decider → Type 0
@@ -85,23 +85,28 @@ abbrev pub AreWords : List Regex → List (Option Member) → List Conjoined →
 AreWords rs ms cs words changed (searched.Found fs) = AreFound rs ms cs words changed fs.items
 AreWords rs ms cs words changed (searched.Dead serial) = IsEmptyAt rs ms serial.0
 
--- What becomes of the constants as what was found is taken over: these are still to come.
-pub record IsTakingOver (rs : List Regex) (ms : List (Option Member)) (old new : List Conjoined) (words : List (List ℕ))
-    (fs : List Found) : Type 0
+-- What becomes of the constants as what was found is taken over: these are still to come, and those that are left keep
+-- what they have.
+pub record IsTakingOver (rs : List Regex) (ms : List (Option Member)) (left : List Serial) (old new : List Conjoined)
+    (words : List (List ℕ)) (fs : List Found) : Type 0
   where
     pub same_length : length new ≡ length old
     pub long : length words ≡ length old
     pub characters : are_words words ≡ true
     pub each : All (IsFoundOf rs ms old words) fs
+    pub right : (n : ℕ) → (conjoined_at old n).places ≡ places_in 0 n ms
     pub places : (n : ℕ) → (conjoined_at new n).places ≡ (conjoined_at old n).places
-    pub settled : OthersSettled (map (λ found. found.serial) fs) new
-    pub least : (n : ℕ) → is_settled (conjoined_at new n) ≡ true → IsShortestLeast (words_in rs ms n) (word_at words n)
+    pub settled : RestSettled left (map (λ found. found.serial) fs) new
+    pub least : (n k : ℕ) → (conjoined_at new n).known ≡ Some k → IsLeastOf rs (ids_in ms n) k (word_at words n)
 
--- All that was found is taken over: each constant has the least word of its memberships.
+-- All that was found is taken over: each constant has the least word of its memberships, but for those that were left
+-- to a search, and that are the ones that changed now.
 pub record IsTakenOver (kept new : Decider) (words : List (List ℕ)) : Type 0 where
-  pub over : IsTakingOver kept.arena kept.members.items kept.constants.items new.constants.items words []
-  pub nothing : new.changed.items ≡ []
-  pub same : new ≡ record kept { constants = new.constants; changed = new.changed; found = new.found }
+  pub over : IsTakingOver kept.arena kept.members.items kept.left.items kept.constants.items new.constants.items words []
+  pub changed : new.changed ≡ kept.left
+  pub nothing : new.left.items ≡ []
+  pub same : new ≡
+      record kept { constants = new.constants; changed = new.changed; left = new.left; found = new.found }
 
 -- the word that a search found of the constant, none past the last one
 abbrev pub found_at : List (Option (List ℕ)) → ℕ → Option (List ℕ)

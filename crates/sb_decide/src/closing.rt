@@ -25,8 +25,8 @@ use std::mem;
 
 impl Decider {
     /// The words of a model, the one of each constant at its serial: the word that a search found, by serial, and of a
-    /// constant of which it found none the least one of its memberships. They are taken out of the stack, and the model
-    /// is to put them back.
+    /// constant of which it found none the least one of its memberships, unless it occurs in an assertion of other
+    /// structure. They are taken out of the stack, and the model is to put them back.
     ///
     /// Linear in the constants that are new or changed since the last model, and in the largest serial of which a word was
     /// found. `AllocError` only for want of memory; the words are lost then.
@@ -54,7 +54,8 @@ impl Decider {
         Ok(words)
     }
 
-    /// The words of all constants by their memberships alone, which are taken out of the stack.
+    /// The words of all constants by their memberships alone, but of those that were left to a search, which have their
+    /// kept ones; they are taken out of the stack.
     fn take_found(&mut self, alloc: Global, stack: &mut Stack) -> Result<Vec<Word>, AllocError>
         requires ready { IsReady self.old stack.old }
         ensures over { IfOk result (λ words. IsTakenOver self.old self.new words.items) }
@@ -68,7 +69,7 @@ impl Decider {
         fill(alloc, &mut words, declared)?;
         let kept = mem::replace(&mut self.found, Vec::new(alloc));
         take_over(&mut self.constants, &mut words, kept);
-        self.changed.clear();
+        self.changed = mem::replace(&mut self.left, Vec::new(alloc));
         Ok(words)
     }
 }
@@ -97,9 +98,9 @@ fn empty_word(alloc: Global) -> Result<Word, AllocError>
 fn take_over(constants: &mut [Conjuncts], words: &mut [Word], mut found: Vec<Found>)
     requires long { length words.old ≡ length constants.old }
     requires within { All (λ one. one.serial.0 < length constants.old) found.items }
-    ensures { (rs : List Regex) (ms : List (Option Member))
-        → IsTakingOver rs ms constants.old constants.old words.old found.items
-        → IsTakingOver rs ms constants.old constants.new words.new [] }
+    ensures { (rs : List Regex) (ms : List (Option Member)) (left : List Serial)
+        → IsTakingOver rs ms left constants.old constants.old words.old found.items
+        → IsTakingOver rs ms left constants.old constants.new words.new [] }
 {
     while let Some(one) = found.pop() {
         let place = one.serial.0 as usize;

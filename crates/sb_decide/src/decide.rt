@@ -27,10 +27,10 @@ ghost use Rattle.sb_stack.specs.Speaking.{speaks_of};
 ghost use Rattle.sb_stack.specs.Steps.{verdict_in, found};
 ghost use Rattle.sb_term.specs.Numbered.{term_at};
 ghost use Rattle.sb_term.specs.Serials.{all_below};
-ghost use Rattle.sb_decide.specs.Conjoined.{conjoined_at, with_place, without_place, OthersSettled, HasRoom, IsChangedAt};
+ghost use Rattle.sb_decide.specs.Conjoined.{conjoined_at, with_place, without_place, RestSettled, HasRoom, IsChangedAt};
 ghost use Rattle.sb_decide.specs.Deciding.{word_at};
 ghost use Rattle.sb_decide.specs.Knowing.{IsTaken, IsLeastOf, AreKept, Knows, IsDecision, places_of};
-ghost use Rattle.sb_decide.specs.Ready.{IsReady, IsLeftOpen};
+ghost use Rattle.sb_decide.specs.Ready.{IsReady, IsLeftOpen, IsSpoken};
 ghost use Rattle.sb_decide.specs.Laws.{LeavesKnown};
 ghost use Rattle.sb_decide.specs.Members.{AreRooted, IsEmptyAt, IsOther, IsRootOf, ids_in, places_in, words_in};
 ghost use Rattle.sb_decide.specs.Places.{HasNoWordAt, IsPlaceOf};
@@ -38,6 +38,8 @@ ghost use Rattle.sb_decide.specs.Taking.{StayKept, HasAll, AreWords, Fit, IsFoun
 
 use crate::conjuncts::{Conjuncts, Member, conjuncts_at};
 use crate::demand::{demand_of, regex_of};
+use crate::parting::{gather, part};
+use crate::question::spoken;
 use crate::standing::stands;
 use sb_fragment::{Measures, fragment_is_of_each};
 use sb_graph::{Explored, Graph, graph_stays};
@@ -74,7 +76,10 @@ pub struct Decider {
     /// one had from a search: at least those whose kept words are not known to be the least ones of all their
     /// memberships.
     pub changed: Vec<Serial>,
-    /// What the last check found of these constants, until a model takes it over.
+    /// Those that changed too, and that the last check left to a search, since they occur in an assertion of other
+    /// structure.
+    pub left: Vec<Serial>,
+    /// What the last check found of the constants in `changed`, until a model takes it over.
     pub found: Vec<Found>,
     /// A constant that is known to have no word.
     pub dead: Option<Serial>,
@@ -112,6 +117,7 @@ impl Decider {
             others: Vec::new(alloc),
             constants: Vec::new(alloc),
             changed: Vec::new(alloc),
+            left: Vec::new(alloc),
             found: Vec::new(alloc),
             dead: None,
         }
@@ -166,8 +172,8 @@ impl Decider {
         }))
     }
 
-    /// Finds the words that the constants which changed have by their memberships, where all live assertions are taken
-    /// in, and answers whether each has one.
+    /// Finds the words that the constants which changed and occur in no assertion of other structure have by their
+    /// memberships, where all live assertions are taken in, and answers whether each has one.
     fn find_words(&mut self, alloc: Global, stack: &Stack) -> Result<bool, AllocError>
         requires knows { Knows self.old stack.now }
         requires all { HasAll self.old stack.now }
@@ -180,10 +186,57 @@ impl Decider {
         ensures extends { OnOk result (Extends self.old.arena self.new.arena) }
         ensures derivatives_stay { OnOk result (KeepsEntries self.old.graph.memo self.new.graph.memo) }
     {
-        normals_stay();
         if self.dead.is_some() {
             return Ok(false);
         }
+        self.set_aside(alloc, stack)?;
+        let found = self.find_changed(alloc, stack)?;
+        Ok(found)
+    }
+
+    /// Leaves those of the constants that changed to a search that occur in an assertion of other structure.
+    fn set_aside(&mut self, alloc: Global, stack: &Stack) -> Result<(), AllocError>
+        requires knows { Knows self.old stack.now }
+        requires all { HasAll self.old stack.now }
+        ensures knows { OnOk result (Knows self.new stack.now) }
+        ensures all { HasAll self.new stack.now }
+        ensures left { OnOk result
+            (All (λ serial. IsSpoken self.new.others.items stack.now serial.0) self.new.left.items) }
+        ensures others { self.new.others ≡ self.old.others }
+        ensures arena { self.new.arena ≡ self.old.arena }
+        ensures graph { self.new.graph ≡ self.old.graph }
+    {
+        if self.others.is_empty() && self.left.is_empty() {
+            return Ok(());
+        }
+        let serials = spoken(
+            alloc,
+            &mut self.measures,
+            stack.table(),
+            stack.assertions(),
+            self.others.as_slice(),
+        )?;
+        let all = gather(alloc, &mut self.changed, &mut self.left)?;
+        part(all.as_slice(), &serials, &mut self.changed, &mut self.left)?;
+        Ok(())
+    }
+
+    /// Finds the words that the constants which changed, and are not left to a search, have by their memberships, and
+    /// answers whether each has one.
+    fn find_changed(&mut self, alloc: Global, stack: &Stack) -> Result<bool, AllocError>
+        requires knows { Knows self.old stack.now }
+        requires all { HasAll self.old stack.now }
+        requires named { list_all (speaks_of (live_constants stack.now)) (live_terms (state_of stack.now)) ≡ true }
+        requires left { All (λ serial. IsSpoken self.old.others.items stack.now serial.0) self.old.left.items }
+        ensures knows { OnOk result (Knows self.new stack.now) }
+        ensures all { HasAll self.new stack.now }
+        ensures ready { IfOk result (λ found. found ≡ true → IsReady self.new stack.now) }
+        ensures dead { IfOk result (λ found. found ≡ false → is_some self.new.dead ≡ true) }
+        ensures others { self.new.others ≡ self.old.others }
+        ensures extends { OnOk result (Extends self.old.arena self.new.arena) }
+        ensures derivatives_stay { OnOk result (KeepsEntries self.old.graph.memo self.new.graph.memo) }
+    {
+        normals_stay();
         match least_words(
             alloc,
             &mut self.arena,
@@ -399,11 +452,11 @@ fn put(
     place: usize,
 ) -> Result<(), AllocError>
     requires within { serial.0 < length constants.old }
-    requires settled { OthersSettled changed.old.items constants.old }
     requires listed { All (λ other. other.0 < length constants.old) changed.old.items }
     ensures put { OnOk result (IsChangedAt constants.old constants.new serial.0
         (with_place place (conjoined_at constants.old serial.0))) }
-    ensures settled { OnOk result (OthersSettled changed.new.items constants.new) }
+    ensures settled { OnOk result ((left : List Serial) → RestSettled left changed.old.items constants.old
+        → RestSettled left changed.new.items constants.new) }
     ensures listed { OnOk result (All (λ other. other.0 < length constants.old) changed.new.items) }
 {
     let conjuncts = &mut constants[serial.0 as usize];
@@ -422,8 +475,8 @@ fn put_back(
     requires within { serial.0 < length constants.old }
     ensures put { OnOk result (IsChangedAt constants.old constants.new serial.0
         (without_place (conjoined_at constants.old serial.0))) }
-    ensures settled { OnOk result (OthersSettled changed.old.items constants.old
-        → OthersSettled changed.new.items constants.new) }
+    ensures settled { OnOk result ((left : List Serial) → RestSettled left changed.old.items constants.old
+        → RestSettled left changed.new.items constants.new) }
     ensures listed { OnOk result (All (λ other. other.0 < length constants.old) changed.old.items
         → All (λ other. other.0 < length constants.old) changed.new.items) }
 {
@@ -437,8 +490,8 @@ fn put_back(
 
 /// Takes a constant that has its word out of the list, where it is the last one there. Takes no memory.
 fn unlist(constants: &[Conjuncts], changed: &mut Vec<Serial>, serial: Serial)
-    ensures settled { OthersSettled changed.old.items constants.now
-        → OthersSettled changed.new.items constants.now }
+    ensures settled { (left : List Serial) → RestSettled left changed.old.items constants.now
+        → RestSettled left changed.new.items constants.now }
     ensures listed { (n : ℕ) → All (λ other. other.0 < n) changed.old.items
         → All (λ other. other.0 < n) changed.new.items }
 {

@@ -19,6 +19,7 @@ mod conjuncts;
 mod decide;
 mod demand;
 mod laws;
+mod parting;
 mod question;
 mod standing;
 

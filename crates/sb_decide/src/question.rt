@@ -31,8 +31,9 @@ impl Decider {
     /// are sorted. `AllocError` only for want of memory.
     pub fn question(&mut self, alloc: Global, stack: &Stack) -> Result<Vec<usize>, AllocError>
         requires open { IsLeftOpen self.old stack.now }
-        ensures question { IfOk result (λ places. IsQuestion stack.now places.items) }
+        ensures question { IfOk result (λ places. IsQuestion self.old.others.items stack.now places.items) }
         ensures open { OnOk result (IsLeftOpen self.new stack.now) }
+        ensures others { self.new.others ≡ self.old.others }
         ensures arena { self.new.arena ≡ self.old.arena }
         ensures graph { self.new.graph ≡ self.old.graph }
     {
@@ -91,7 +92,7 @@ impl Decider {
 }
 
 /// The constants that occur in the assertions at these places, each once.
-fn spoken(
+pub fn spoken(
     alloc: Global,
     measures: &mut Measures,
     table: &Table,
@@ -147,7 +148,7 @@ fn walk(
 ) -> Result<(), AllocError>
     requires numbers { AllNumbers table.now met.old.keys }
     requires measures { AreMeasures table.now measures.old }
-    ensures reaches { OnOk result (Reaches table.now met.old.keys serials.new.keys) }
+    ensures reaches { OnOk result (Reaches table.now met.old.keys serials.old.keys serials.new.keys) }
     ensures measures { OnOk result (AreMeasures table.now measures.new) }
 {
     let mut at = 0;

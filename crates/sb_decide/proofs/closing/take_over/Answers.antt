@@ -17,15 +17,15 @@ loop-one-preserved c = (
       ∙ c.loop-one.invariant.1,
   front_within _ c.loop-one.found.items c.pop.new.self.items c.in-Some.one c.loop-one.invariant.2
       c.in-Some.ensures.items,
-  λ rs ms t. goes_on rs ms c.args.constants.now c.loop-one.constants _ c.loop-one.words c.put_word.new.words
+  λ rs ms left t. goes_on rs ms left c.args.constants.now c.loop-one.constants _ c.loop-one.words c.put_word.new.words
       c.loop-one.found.items c.pop.new.self.items c.in-Some.one c.index-constants-place.result
-      (c.loop-one.invariant.3 rs ms t) c.in-Some.ensures.items c.index-constants-place.is
+      (c.loop-one.invariant.3 rs ms left t) c.in-Some.ensures.items c.index-constants-place.is
       (ap (set c.loop-one.constants c.in-Some.one.serial.0)
       (settles _ c.index-constants-place.result c.settle.new.self c.settle.ensures c.index-constants-place.is))
       c.put_word.ensures,
 )
 
 pub returns : goal.returns
-returns c = λ rs ms t.
-    over_all rs ms c.args.constants.now c.loop-one.constants c.loop-one.words c.loop-one.found.items
-    (no_items c.loop-one.found c.in_default.ensures.cases.0) (c.loop-one.invariant.3 rs ms t)
+returns c = λ rs ms left t.
+    over_all rs ms left c.args.constants.now c.loop-one.constants c.loop-one.words c.loop-one.found.items
+    (no_items c.loop-one.found c.in_default.ensures.cases.0) (c.loop-one.invariant.3 rs ms left t)

@@ -1,6 +1,7 @@
 use Rattle.std.proofs.Common.{◌≡◌, ◌<◌, List, Option, length}
 use Rattle.std.specs.List.{All}
 use Rattle.sb_lang.specs.Regex.{Regex}
+use Rattle.sb_term.specs.declared.term.Serial.{Serial}
 use Rattle.sb_decide.specs.declared.conjuncts.Member.{Member}
 use Rattle.sb_decide.specs.Taking.{IsTakingOver}
 use Rattle.sb_decide.proofs.closing.take_over.Given as goal
@@ -10,9 +11,9 @@ invariant-loop-one l =
     (length l.constants ≡ length l.fn.constants)
     × (length l.words ≡ length l.fn.words)
     × All (λ one. one.serial.0 < length l.fn.constants) l.found.items
-    × ((rs : List Regex) (ms : List (Option Member))
-    → IsTakingOver rs ms l.fn.constants l.fn.constants l.fn.words l.fn.found.items
-    → IsTakingOver rs ms l.fn.constants l.constants l.words l.found.items)
+    × ((rs : List Regex) (ms : List (Option Member)) (left : List Serial)
+    → IsTakingOver rs ms left l.fn.constants l.fn.constants l.fn.words l.fn.found.items
+    → IsTakingOver rs ms left l.fn.constants l.constants l.words l.found.items)
 
 abbrev pub decreases-loop-one : goal.decreases-loop-one
 decreases-loop-one l = length l.found.items

@@ -13,7 +13,7 @@ returns c =
     (conjoined_within c.args.constants.now c.args.serial.0 c.in-Some.conjuncts.now here.3.0 here.1)
     ∙ (sym c.is_settled.ensures ∙ c.if-not-is_settled.false) in
     record {
-      settled = unlisted c.args.constants.now xs c.pop.new.self.items c.in-Some-last.last.now c.args.serial
-          (sym (rw c.deref.ensures.value at c.in-Some-last.ensures.value)) c.if-not-same.false rest has;
+      settled = λ left. unlisted c.args.constants.now xs c.pop.new.self.items c.in-Some-last.last.now c.args.serial
+          (sym (rw c.deref.ensures.value at c.in-Some-last.ensures.value)) c.if-not-same.false rest has left;
       listed = λ n h. rw rest (All-take (λ other. other.0 < n) (length xs - 1) xs h);
     }

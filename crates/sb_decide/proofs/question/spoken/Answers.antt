@@ -22,6 +22,7 @@ returns-in_err-walk c =
 pub returns : goal.returns
 returns c = record {
   speaks = speaks_of_begun c.args.table.now c.args.assertions.now c.args.places.now c.in_ok-met.met.keys
-      c.walk.new.serials.keys c.in_ok-met.ensures c.in_ok-walk.ensures.reaches;
+      c.new-serials.result.keys c.walk.new.serials.keys c.new-serials.ensures.empty c.in_ok-met.ensures
+      c.in_ok-walk.ensures.reaches;
   measures = c.in_ok-walk.ensures.measures;
 }

@@ -25,15 +25,16 @@ pub loop-at-preserved : goal.loop-at-preserved
 loop-at-preserved c =
     let e = c.in_ok-meet.ensures in
     let below : c.loop-at.at < length c.loop-at.met.keys = omega (arith, c.loop-at-test.true, c.len.ensures.len) in (
-      walking_next c.args.table.now c.args.met.now.keys c.loop-at.met.keys c.meet.new.met.keys c.loop-at.serials.keys
-          c.meet.new.serials.keys c.loop-at.at c.index-term.result.now below c.index-term.ensures e.meets
+      walking_next c.args.table.now c.args.met.now.keys c.loop-at.met.keys c.meet.new.met.keys c.args.serials.now.keys
+          c.loop-at.serials.keys c.meet.new.serials.keys c.loop-at.at c.index-term.result.now below c.index-term.ensures e.meets
           c.loop-at.invariant.0,
       e.measures,
     )
 
 pub returns : goal.returns
 returns c = record {
-  reaches = walking_done c.args.table.now c.args.met.now.keys c.loop-at.met.keys c.loop-at.serials.keys c.loop-at.at
+  reaches = walking_done c.args.table.now c.args.met.now.keys c.loop-at.met.keys c.args.serials.now.keys
+      c.loop-at.serials.keys c.loop-at.at
       (omega (arith, c.loop-at-test.false, c.len.ensures.len)) c.loop-at.invariant.0;
   measures = c.loop-at.invariant.1;
 }

@@ -1,6 +1,10 @@
-use Rattle.std.proofs.Common.{length, refl, sym, ap, ◌∙◌, arith}
+use Rattle.std.proofs.Common.{◌<◌, length, refl, sym, ap, ◌∙◌, arith}
 use Rattle.std.proofs.lemmas.Result.{IfOk-from_err}
-use Rattle.sb_decide.specs.Conjoined.{conjoined_at, is_settled}
+use Rattle.std.specs.List.{All}
+use Rattle.std.specs.declared.vec.Vec.{Vec}
+use Rattle.std.specs.declared.alloc.Global.{Global}
+use Rattle.sb_term.specs.declared.term.Serial.{Serial}
+use Rattle.sb_decide.specs.Conjoined.{conjoined_at, is_listed, is_settled}
 use Rattle.sb_decide.proofs.ModelWords.{closed_of, knows_through, put_over, settled_over}
 use Rattle.sb_decide.proofs.decide.Decider.close.Goals as goal
 
@@ -18,8 +22,13 @@ put_found-requires c =
         ap length c.deref_mut.ensures.value,
       );
       settled = λ n h.
-          ap (λ cs. is_settled (conjoined_at cs n)) c.deref_mut.ensures.value ∙ o.over.settled n refl;
-      listed = λ k d l. absurd (omega (arith, l, ap length o.nothing));
+          ap (λ cs. is_settled (conjoined_at cs n)) c.deref_mut.ensures.value
+          ∙ o.over.settled n (ap (λ (v : Vec Serial Global). is_listed v.items n) (sym o.changed) ∙ h) refl;
+      listed = λ k d l.
+          let all : All (λ (serial : Serial). serial.0 < length c.args.self.now.constants.items)
+          c.take_found.new.self.changed.items = rw o.changed c.requires.ready.knows.taken.left in
+          let one = all k d l in
+          omega (arith, one, o.over.same_length, ap length c.deref_mut.ensures.value);
     }
 
 pub returns-in_err-words : goal.returns-in_err-words

@@ -1,22 +1,10 @@
-use Rattle.std.proofs.Common.{refl, sym, ◌∙◌}
+use Rattle.std.proofs.Common.{refl, subst, sym, ◌∙◌}
 use Rattle.std.proofs.lemmas.Bool.{false≢true}
 use Rattle.std.proofs.lemmas.Result.{IfOk-from_err}
+use Rattle.sb_regex.specs.Numbered.{Extends}
 use Rattle.sb_regex.proofs.CallerLemmas.{extends_same}
-use Rattle.sb_decide.proofs.Knowledge.{knows_dead}
-use Rattle.sb_decide.proofs.TakingOver.{knows_searched, ready_searched}
+use Rattle.sb_decide.proofs.TakingOver.{same_memo}
 use Rattle.sb_decide.proofs.decide.Decider.find_words.Goals as goal
-
-pub least_words-requires : goal.least_words-requires
-least_words-requires c =
-    let taken = c.requires.knows.taken in
-    record {
-      rooted = rw c.deref.ensures.value taken.rooted;
-      places = rw (c.deref.ensures.value, c.deref-2.ensures.value) taken.places;
-      listed = rw (c.deref-2.ensures.value, c.deref-3.ensures.value) taken.listed;
-      kept = rw (c.deref.ensures.value, c.deref-2.ensures.value, c.words.ensures) c.requires.knows.words;
-      graph = taken.graph;
-      plain = taken.plain;
-    }
 
 pub returns-then-is_some : goal.returns-then-is_some
 returns-then-is_some c = record {
@@ -29,51 +17,53 @@ returns-then-is_some c = record {
   derivatives_stay = λ n pieces h. h;
 }
 
-pub returns-in_err-serial : goal.returns-in_err-serial
-returns-in_err-serial c =
+pub set_aside-requires : goal.set_aside-requires
+set_aside-requires c = record { knows = c.requires.knows; all = c.requires.all }
+
+pub returns-in_err-set_aside : goal.returns-in_err-set_aside
+returns-in_err-set_aside c =
     let x = c.from_residual in
     record {
       knows = IfOk-from_err x.result _ x.ensures.0;
-      all = c.requires.all;
+      all = c.set_aside.ensures.all;
       ready = IfOk-from_err x.result _ x.ensures.0;
       dead = IfOk-from_err x.result _ x.ensures.0;
-      others = refl;
+      others = c.set_aside.ensures.others;
       extends = IfOk-from_err x.result _ x.ensures.0;
       derivatives_stay = IfOk-from_err x.result _ x.ensures.0;
     }
 
-pub returns-in-Dead : goal.returns-in-Dead
-returns-in-Dead c =
-    let e = c.in_ok-serial.ensures in
+pub find_changed-requires : goal.find_changed-requires
+find_changed-requires c = record {
+  knows = c.in_ok-set_aside.ensures.knows;
+  all = c.set_aside.ensures.all;
+  named = c.requires.named;
+  left = c.in_ok-set_aside.ensures.left;
+}
+
+pub returns-in_err-found : goal.returns-in_err-found
+returns-in_err-found c =
+    let x = c.from_residual-in_err-found in
     record {
-      knows = knows_dead c.normals_stay.ensures c.args.self.now c.least_words.new.arena c.least_words.new.graph
-          c.least_words.new.plain c.least_words.new.roots c.args.stack.now c.in-Dead.serial e.extends e.graph e.plain
-          (rw c.deref.ensures.value at e.rooted) (rw (c.in-Dead.is, c.deref.ensures.value) at e.words)
-          c.requires.knows;
-      all = c.requires.all;
-      ready = λ t. absurd (false≢true t);
-      dead = λ _. refl;
-      others = refl;
-      extends = e.extends;
-      derivatives_stay = e.derivatives_stay;
+      knows = IfOk-from_err x.result _ x.ensures.0;
+      all = c.find_changed.ensures.all;
+      ready = IfOk-from_err x.result _ x.ensures.0;
+      dead = IfOk-from_err x.result _ x.ensures.0;
+      others = c.find_changed.ensures.others ∙ c.set_aside.ensures.others;
+      extends = IfOk-from_err x.result _ x.ensures.0;
+      derivatives_stay = IfOk-from_err x.result _ x.ensures.0;
     }
 
-pub returns-in-Found : goal.returns-in-Found
-returns-in-Found c =
-    let e = c.in_ok-serial.ensures in
+pub returns : goal.returns
+returns c =
+    let e = c.in_ok-found.ensures in
     record {
-      knows = knows_searched c.normals_stay.ensures c.args.self.now c.least_words.new.arena c.least_words.new.graph
-          c.least_words.new.plain c.least_words.new.roots c.in-Found.found c.args.stack.now c.requires.knows e.extends
-          e.graph e.plain (rw c.deref.ensures.value at e.rooted);
-      all = c.requires.all;
-      ready = λ _. ready_searched c.normals_stay.ensures c.args.self.now c.least_words.new.arena
-          c.least_words.new.graph c.least_words.new.plain c.least_words.new.roots c.in-Found.found c.args.stack.now
-          c.requires.knows c.requires.all c.requires.named e.extends e.graph e.plain
-          (rw c.deref.ensures.value at e.rooted)
-          (rw (c.in-Found.is, c.deref.ensures.value, c.deref-2.ensures.value, c.words.ensures, c.deref-3.ensures.value)
-          at e.words);
-      dead = λ t. absurd (false≢true (sym t));
-      others = refl;
-      extends = e.extends;
-      derivatives_stay = e.derivatives_stay;
+      knows = e.knows;
+      all = c.find_changed.ensures.all;
+      ready = e.ready;
+      dead = e.dead;
+      others = c.find_changed.ensures.others ∙ c.set_aside.ensures.others;
+      extends = subst (λ rs. Extends rs c.find_changed.new.self.arena) c.set_aside.ensures.arena e.extends;
+      derivatives_stay = λ n pieces h. e.derivatives_stay n pieces
+          (same_memo c.args.self.now.graph c.set_aside.new.self.graph c.set_aside.ensures.graph n pieces h);
     }

@@ -18,6 +18,7 @@ returns-in_err-serials c =
     record {
       question = IfOk-from_err x.result _ x.ensures.0;
       «open» = IfOk-from_err x.result _ x.ensures.0;
+      others = refl;
       arena = refl;
       graph = refl;
     }
@@ -28,6 +29,7 @@ returns-in_err-places c =
     record {
       question = IfOk-from_err x.result _ x.ensures.0;
       «open» = IfOk-from_err x.result _ x.ensures.0;
+      others = refl;
       arena = refl;
       graph = refl;
     }
@@ -42,6 +44,7 @@ returns c =
           at e.speaks) c.in_ok-places.ensures;
       «open» = left_open_measured c.args.self.now c.spoken.new.measures c.args.stack.now
           (rw c.table.ensures at e.measures) c.requires.open;
+      others = refl;
       arena = refl;
       graph = refl;
     }

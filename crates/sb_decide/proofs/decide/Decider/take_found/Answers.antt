@@ -51,22 +51,25 @@ returns c =
     c.declared-declared.ensures.value c.in_ok-fill.ensures c.deref_mut.ensures.value c.deref_mut-2.ensures.value
     c.take_over.ensures in
     let words = with_items_is c.fill.new.words c.take_over.new.words
-    (words_long kept.arena kept.members.items kept.constants.items c.take_over.new.constants c.take_over.new.words
+    (words_long kept.arena kept.members.items kept.left.items kept.constants.items c.take_over.new.constants c.take_over.new.words
     c.fill.new.words c.declared-declared.result c.take_words-words.result.items over
     (c.declared-declared.ensures.value ∙ sym all.1) c.in_ok-fill.ensures) in
     let constants = with_items_is kept.constants c.take_over.new.constants
-    (constants_long kept.arena kept.members.items kept.constants c.take_over.new.constants c.take_over.new.words over)
+    (constants_long kept.arena kept.members.items kept.left.items kept.constants c.take_over.new.constants
+    c.take_over.new.words over)
     in
     record {
       over = record {
         over = subst
-            (λ cs. IsTakingOver kept.arena kept.members.items kept.constants.items cs
+            (λ cs. IsTakingOver kept.arena kept.members.items kept.left.items kept.constants.items cs
             (with_items c.fill.new.words c.take_over.new.words).items [])
             (sym constants)
             (subst
-            (λ ws. IsTakingOver kept.arena kept.members.items kept.constants.items c.take_over.new.constants ws [])
+            (λ ws. IsTakingOver kept.arena kept.members.items kept.left.items kept.constants.items
+            c.take_over.new.constants ws [])
             (sym words) over);
-        nothing = c.clear.ensures.items;
+        changed = c.replace.ensures.value;
+        nothing = ap (λ v. v.items) c.replace.ensures.after ∙ c.new-2.ensures.items;
         same = refl;
       };
       taken = c.take_words-words.ensures.rest;

@@ -16,7 +16,7 @@ returns-in_default-last c =
           (c.pop-2.ensures.rest ∙ ap (λ n. take n c.args.self.now.roots.items) few)
           (c.pop-in_default-last.ensures.rest
           ∙ ap (λ n. take (n - 1) c.args.self.now.others.items) c.args.self.now.others.ok.0) refl refl refl refl refl
-          refl refl refl k;
+          refl refl refl refl k;
       fewer = λ _. omega (arith, ap length was, one);
       arena = refl;
       graph = refl;
@@ -77,12 +77,12 @@ returns c =
           refl refl refl refl refl refl
           (back_here c.args.self.now.constants c.deref_mut.result.now c.put_back.new.constants member.serial.0
           c.deref_mut.ensures.value e.put)
-          (λ h. (rw c.deref.ensures.value at c.unlist.ensures.settled)
+          (λ h. (rw c.deref.ensures.value at c.unlist.ensures.settled) c.args.self.now.left.items
           (settled_through c.args.self.now.constants c.deref_mut.result.now c.put_back.new.constants
-          member.serial.0 _ c.put_back.new.changed.items c.deref_mut.ensures.value e.put
-          (e.settled (rw c.deref_mut.ensures.value h))))
+          member.serial.0 _ c.args.self.now.left.items c.put_back.new.changed.items c.deref_mut.ensures.value e.put
+          (e.settled c.args.self.now.left.items (rw c.deref_mut.ensures.value h))))
           (λ h. c.unlist.ensures.listed (length c.args.self.now.constants.items)
-          ((rw c.deref_mut.ensures.value at e.listed) h)) k;
+          ((rw c.deref_mut.ensures.value at e.listed) h)) refl k;
       fewer = λ _. omega (arith, ap length was, one);
       arena = refl;
       graph = refl;

@@ -181,7 +181,6 @@ put-requires c =
           c.requires.more
           (at_place c.args.self.now.members c.args.assertions.now _ c.index-assertions-place.result
           c.len-place.ensures c.index-assertions-place.is) c.in-Some.is demand.ensures.parts);
-      settled = rw c.deref_mut.ensures.value c.requires.taken.settled;
       listed = rw c.deref_mut.ensures.value c.requires.taken.listed;
     }
 
@@ -223,9 +222,10 @@ returns c =
           c.len-place.result (length c.args.self.now.members.items) c.deref_mut.ensures.value place
           c.in_ok-put.ensures.put)
           (settled_through c.args.self.now.constants c.deref_mut.result.now c.put.new.constants
-          demand.demand.serial.0 _ c.put.new.changed.items c.deref_mut.ensures.value c.in_ok-put.ensures.put
-          c.in_ok-put.ensures.settled)
-          (rw c.deref_mut.ensures.value at c.in_ok-put.ensures.listed) refl refl refl refl;
+          demand.demand.serial.0 _ c.args.self.now.left.items c.put.new.changed.items c.deref_mut.ensures.value
+          c.in_ok-put.ensures.put (c.in_ok-put.ensures.settled c.args.self.now.left.items
+          (rw c.deref_mut.ensures.value c.requires.taken.settled)))
+          (rw c.deref_mut.ensures.value at c.in_ok-put.ensures.listed) refl refl refl refl refl;
       words = stay_put c.args.self.now
           (record c.args.self.now {
             arena = c.regex_of.new.arena;

@@ -76,7 +76,7 @@ returns c =
           taken_other c.args.self.now _ c.args.table.now xs a t low there (other refl) e.right
           c.in_ok-push-2.ensures.items c.in_ok-push-3.ensures.items
           (c.in_ok-push.ensures.items ∙ ap (λ i. c.args.self.now.others.items ++ i ∷ []) place) refl refl refl refl refl
-          refl refl;
+          refl refl refl;
       words = stay_other c.args.self.now
           (record c.args.self.now {
             measures = c.fits_structure.new.self;

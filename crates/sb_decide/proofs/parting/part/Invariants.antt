@@ -1,0 +1,6 @@
+use Rattle.std.proofs.Common.{take}
+use Rattle.sb_decide.specs.Parting.{IsParted}
+use Rattle.sb_decide.proofs.parting.part.Given as goal
+
+abbrev pub invariant-loop-serial : goal.invariant-loop-serial
+invariant-loop-serial l = IsParted (take l.serial-index l.all) l.spoken.keys l.changed.items l.left.items
