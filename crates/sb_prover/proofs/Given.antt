@@ -16,7 +16,7 @@ use Rattle.sb_stack.specs.Stacked.{Stacked, state_of, live_constants, value_at, 
 use Rattle.sb_stack.proofs.CallerLemmas.{live_laid}
 use Rattle.sb_decide.specs.declared.decide.Decider.{Decider}
 use Rattle.sb_decide.specs.Places.{asks_of}
-use Rattle.sb_decide.specs.Ready.{IsAbout, OccursNowhereAt, IsQuestion, IsClosed}
+use Rattle.sb_decide.specs.Ready.{IsAbout, IsSpoken, OccursNowhereAt, IsQuestion, IsClosed}
 use Rattle.sb_solve.specs.Solved.{AreTrueAt, OccursAt}
 use Rattle.sb_solve.specs.Values.{truth_in, word_in, word_there, is_valued}
 
@@ -114,6 +114,18 @@ none_there : (s : Stacked) (places : List ℕ) (n : ℕ) → list_any (occurs n)
 none_there s places n none o =
     false≢true (sym none ∙ any_live (occurs n) (live (state_of s)) o.place o.term o.stands o.there)
 
+-- and then it occurs in no assertion of other structure
+silent_at : (others : List ℕ) (s : Stacked) (places : List ℕ) (n : ℕ)
+    → ((place : ℕ) → Contains others place → Contains places place) → OccursNowhereAt s places n
+    → IsSpoken others s n → ⊥
+silent_at others s places n asked nowhere o =
+    false≢true (sym (nowhere o.place o.term (asked o.place o.other) o.there) ∙ o.occurring)
+
+silent_there : (others : List ℕ) (s : Stacked) (n : ℕ) → list_any (occurs n) (live_terms (state_of s)) ≡ false
+    → IsSpoken others s n → ⊥
+silent_there others s n none o =
+    false≢true (sym none ∙ any_live (occurs n) (live (state_of s)) o.place o.term o.there o.occurring)
+
 -- the assertion about a constant alone is the one that stands at the place
 about_this : (s : Stacked) (place n : ℕ) (t : Term) → IsAbout s place n
     → slice_get (live (state_of s)) place ≡ Some (asserted t) → asks_of n t ≡ true
@@ -124,7 +136,7 @@ about_this s place n t a there =
 -- where a search was asked about the assertions at these places, and not each live one is a membership of one constant
 pub given_by : (kept : Decider) (s : Stacked) (places : List ℕ) (found : List (Option (List ℕ))) (truths : List Bool)
     (words : List (List ℕ)) → fits (constants_of (state_of s)) (values_at (live_constants s) words truths) ≡ true
-    → is_plain (state_of s) ≡ false → IsQuestion s places → IsClosed kept s found words
+    → is_plain (state_of s) ≡ false → IsQuestion kept.others.items s places → IsClosed kept s found words
     → AreTrueAt s places found truths → IsGiven (state_of s) [] (values_at (live_constants s) words truths)
 given_by kept s places found truths words fitting not_plain question closed h = record {
   model = and_from (fits (constants_of (state_of s)) (values_at (live_constants s) words truths))
@@ -134,7 +146,7 @@ given_by kept s places found truths words fitting not_plain question closed h = 
   defaults = defaults_are (constants_of (state_of s)) (live_terms (state_of s)) (live_constants s) words truths
       (λ n none.
       let o = unvalued_at found truths n (λ valued. none_there s places n none (h.occur n valued)) in
-      (closed.defaults n o.0 none, o.1));
+      (closed.defaults n o.0 (silent_there kept.others.items s n none) none, o.1));
   least = λ plain. absurd (false≢true (sym not_plain ∙ plain));
 }
   where
@@ -150,4 +162,6 @@ given_by kept s places found truths words fitting not_plain question closed h = 
     true_at place t there (inr other) =
         let none = unvalued_at found truths other.0
         (λ valued. nowhere_there s places other.0 other.2 (h.occur other.0 valued)) in
-        closed.demands other.0 place t truths none.0 there (about_this s place other.0 t other.1 there)
+        closed.demands other.0 place t truths none.0
+        (silent_at kept.others.items s places other.0 question.asked other.2) there
+        (about_this s place other.0 t other.1 there)

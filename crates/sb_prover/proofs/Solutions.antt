@@ -67,20 +67,20 @@ over P rs more memo memos same same-memo h =
 
 -- What a search found.
 
-pub found-by : (s : Stacked) (places : List ℕ) (rs : List Regex) (memo : Memo) (e f : Backing) (budget : Spending)
-    (r : Solved) (o : Option EmptyClause) → IsQuestion s places → IsSolved s places rs memo e f budget r
+pub found-by : (apart : List ℕ) (s : Stacked) (places : List ℕ) (rs : List Regex) (memo : Memo) (e f : Backing)
+    (budget : Spending) (r : Solved) (o : Option EmptyClause) → IsQuestion apart s places → IsSolved s places rs memo e f budget r
     → o ≡ f.refuted → IfSome o (λ empty. kept_at f.kept empty.clause.0 ≡ Some (empty_at empty))
-    → Finds s rs memo e f budget r
-found-by s places rs memo e f budget (solved.Sat words truths) o question h same kept =
+    → Finds apart s rs memo e f budget r
+found-by apart s places rs memo e f budget (solved.Sat words truths) o question h same kept =
     record { places = places; question = question; valued = h }
-found-by s places rs memo e f budget (solved.Unsat id) o question h same kept = empty-found f id o h same kept
-found-by s places rs memo e f budget solved.Spent o question h same kept = h
+found-by apart s places rs memo e f budget (solved.Unsat id) o question h same kept = empty-found f id o h same kept
+found-by apart s places rs memo e f budget solved.Spent o question h same kept = h
 
-pub few-words : (s : Stacked) (rs : List Regex) (memo : Memo) (e f : Backing) (budget : Spending) (r : Solved)
-    → Finds s rs memo e f budget r → AreFew s r
-few-words s rs memo e f budget (solved.Sat words truths) h = (h.valued.few, h.valued.characters)
-few-words s rs memo e f budget (solved.Unsat id) h = tt
-few-words s rs memo e f budget solved.Spent h = tt
+pub few-words : (apart : List ℕ) (s : Stacked) (rs : List Regex) (memo : Memo) (e f : Backing) (budget : Spending)
+    (r : Solved) → Finds apart s rs memo e f budget r → AreFew s r
+few-words apart s rs memo e f budget (solved.Sat words truths) h = (h.valued.few, h.valued.characters)
+few-words apart s rs memo e f budget (solved.Unsat id) h = tt
+few-words apart s rs memo e f budget solved.Spent h = tt
 
 none-some : (w : List ℕ) → None ≡ Some w → ⊥
 none-some w h = cc
@@ -99,7 +99,7 @@ found-characters (word ∷ words) h (suc serial) w there =
 -- Values that were completed may be given, where a reader of the proof kept what the evidence knew before.
 given : (s : Stacked) → AreTerms (asked_in (state_of s)) → is_plain (state_of s) ≡ false → (kept : Decider)
     (rs : List Regex) (memo : Memo) (e : Backing) (before : AllKept) (found : List (Option (List ℕ)))
-    (truths others : List Bool) (words : List (List ℕ)) → AreValues s rs memo e found truths
+    (truths others : List Bool) (words : List (List ℕ)) → AreValues kept.others.items s rs memo e found truths
     → IsClosed kept s found words → others ≡ truths
     → fits (constants_of (state_of s)) (values_at (live_constants s) words truths) ≡ true → Backs rs memo e before
     → IsGiven (state_of s) [] (values_at (live_constants s) words others)
@@ -123,8 +123,8 @@ solved-again s before rs memo e id told backs is = record {
 pub solved-now : (s : Stacked) → AreTerms (asked_in (state_of s)) → is_plain (state_of s) ≡ false → (kept : Decider)
     (before : AllKept) (rs more : List Regex) (memo memos : Memo) (e f : Backing) (budget : Spending) (r : Solved)
     (x : Solution) (old new : Option (List ℕ)) → Backs rs memo e before
-    → Evidences (asked_in (state_of s)) before more memos f budget old new → Finds s rs memo e f budget r
-    → IsCompleted kept s r x → IsSolution s before more memos f x old new
+    → Evidences (asked_in (state_of s)) before more memos f budget old new
+    → Finds kept.others.items s rs memo e f budget r → IsCompleted kept s r x → IsSolution s before more memos f x old new
 solved-now s terms not_plain kept before rs more memo memos e f budget (solved.Sat words truths)
     (solution.Sat full others) old new backs h found is = record {
       after = h.after;
@@ -169,7 +169,8 @@ solved-true rule by again s terms false rs more memo memos e f budget behind old
 -- What was found may be answered.
 pub says-true : (s : Stacked) → AreTerms (asked_in (state_of s)) → is_plain (state_of s) ≡ false → (kept : Decider)
     (rs : List Regex) (memo : Memo) (e f : Backing) (budget : Spending) (r : Solved) (x : Solution)
-    → IsTrue (asked_in (state_of s)) rs memo e → Finds s rs memo e f budget r → IsCompleted kept s r x → SaysTrue s f x
+    → IsTrue (asked_in (state_of s)) rs memo e → Finds kept.others.items s rs memo e f budget r
+    → IsCompleted kept s r x → SaysTrue s f x
 says-true s terms not_plain kept rs memo e f budget (solved.Sat words truths) (solution.Sat full others) t found is =
     given s terms not_plain kept rs memo e t.kept words.items truths.items others.items full.items found is.0 is.1 is.2
     t.backs

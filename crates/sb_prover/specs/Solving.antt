@@ -25,19 +25,19 @@ use Rattle.sb_decide.specs.Ready.{IsQuestion, IsClosed}
 use Rattle.sb_prover.specs.Saying.{said_value, SaysRefuted}
 
 -- Words and truth values of the constants that a search was asked about, where it was asked a question about all of the
--- live assertions.
-pub record AreValues (s : Stacked) (rs : List Regex) (memo : Memo) (e : Backing) (found : List (Option (List ℕ)))
+-- live assertions; the others are those of other structure.
+pub record AreValues (others : List ℕ) (s : Stacked) (rs : List Regex) (memo : Memo) (e : Backing) (found : List (Option (List ℕ)))
     (truths : List Bool) : Type 0
   where
     pub places : List ℕ
-    pub question : IsQuestion s places
+    pub question : IsQuestion others s places
     pub valued : IsValued s places rs memo e found truths
 
 -- what a search says: there are values, or the empty clause is kept, or so many lines were counted as a check may have
-abbrev pub Finds : Stacked → List Regex → Memo → Backing → Backing → Spending → Solved → Type 0
-Finds s rs memo e f budget (solved.Sat words truths) = AreValues s rs memo e words.items truths.items
-Finds s rs memo e f budget (solved.Unsat id) = IsEmptyAt f.kept id.0
-Finds s rs memo e f budget solved.Spent = budget.spent ≡ budget.limit
+abbrev pub Finds : List ℕ → Stacked → List Regex → Memo → Backing → Backing → Spending → Solved → Type 0
+Finds others s rs memo e f budget (solved.Sat words truths) = AreValues others s rs memo e words.items truths.items
+Finds others s rs memo e f budget (solved.Unsat id) = IsEmptyAt f.kept id.0
+Finds others s rs memo e f budget solved.Spent = budget.spent ≡ budget.limit
 
 -- the words of what a search finds are words, and no more than the constants that were declared
 abbrev pub AreFew : Stacked → Solved → Type 0

@@ -165,7 +165,8 @@ fn searched<L: Tape>(
         → Evidences (asked_in (state_of stack.now)) before decider.new.arena decider.new.graph.memo evidence.new
         budget.new (L.Tape.told tape.old) (L.Tape.told tape.new)) }
     ensures solved { IfOk result
-        (Finds stack.now decider.old.arena decider.old.graph.memo evidence.old evidence.new budget.new) }
+        (Finds decider.new.others.items stack.now decider.old.arena decider.old.graph.memo evidence.old evidence.new
+        budget.new) }
     ensures sound { OnOk result (proves ≡ false → AreTerms (asked_in (state_of stack.now))
         → IsTrue (asked_in (state_of stack.now)) decider.old.arena decider.old.graph.memo evidence.old
         → IsTrue (asked_in (state_of stack.now)) decider.new.arena decider.new.graph.memo evidence.new) }
@@ -195,14 +196,15 @@ fn searched_at<L: Tape>(
 ) -> Result<Solved, TapeFault>
     requires open { IsLeftOpen decider.old stack.now }
     requires regexes { HaveRegexesBelow (length decider.old.arena) evidence.old.atoms }
-    requires question { IsQuestion stack.now places.now }
+    requires question { IsQuestion decider.old.others.items stack.now places.now }
     ensures puts { OnOk result (proves ≡ true → (before : AllKept)
         → Backs decider.old.arena decider.old.graph.memo evidence.old before
         → IsCounted (asked_in (state_of stack.now)) before budget.old
         → Evidences (asked_in (state_of stack.now)) before decider.new.arena decider.new.graph.memo evidence.new
         budget.new (L.Tape.told tape.old) (L.Tape.told tape.new)) }
     ensures solved { IfOk result
-        (Finds stack.now decider.old.arena decider.old.graph.memo evidence.old evidence.new budget.new) }
+        (Finds decider.new.others.items stack.now decider.old.arena decider.old.graph.memo evidence.old evidence.new
+        budget.new) }
     ensures sound { OnOk result (proves ≡ false → AreTerms (asked_in (state_of stack.now))
         → IsTrue (asked_in (state_of stack.now)) decider.old.arena decider.old.graph.memo evidence.old
         → IsTrue (asked_in (state_of stack.now)) decider.new.arena decider.new.graph.memo evidence.new) }

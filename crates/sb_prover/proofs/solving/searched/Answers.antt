@@ -24,7 +24,9 @@ searched_at-requires g c =
       «open» = e.open;
       regexes = subst (λ (rs : List Regex). HaveRegexesBelow (length rs) c.args.evidence.now.atoms) (sym e.arena)
           c.requires.regexes;
-      question = subst (λ (places : List ℕ). IsQuestion c.args.stack.now places) (sym c.deref.ensures.value) e.question;
+      question = subst (λ (places : List ℕ). IsQuestion c.question.new.self.others.items c.args.stack.now places)
+          (sym c.deref.ensures.value)
+          (rw e.others e.question);
     }
 
 pub returns-in_err-places : goal.returns-in_err-places
@@ -67,7 +69,7 @@ returns g c =
     record {
       puts = λ proves kept backs. e.puts proves kept (over (λ rs ms. Backs rs ms before kept) old.arena mid.arena
           old.graph.memo mid.graph.memo arena memo backs);
-      solved = over (λ rs ms. Finds s rs ms before c.searched_at.new.evidence c.searched_at.new.budget
+      solved = over (λ rs ms. Finds c.searched_at.new.decider.others.items s rs ms before c.searched_at.new.evidence c.searched_at.new.budget
           c.in_ok-solved.solved) mid.arena old.arena mid.graph.memo old.graph.memo (sym arena) (sym memo) e.solved;
       sound = λ proves terms t. e.sound proves terms (over (λ rs ms. IsTrue (asked_in (state_of s)) rs ms before)
           old.arena mid.arena old.graph.memo mid.graph.memo arena memo t);

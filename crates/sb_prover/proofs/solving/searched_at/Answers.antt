@@ -41,7 +41,7 @@ returns g c =
     let e = c.in_ok-solved.ensures in
     record {
       puts = e.puts;
-      solved = found-by s c.args.places.now old.arena old.graph.memo c.args.evidence.now new.evidence new.budget
+      solved = found-by old.others.items s c.args.places.now old.arena old.graph.memo c.args.evidence.now new.evidence new.budget
           c.in_ok-solved.solved c.refuted-empty.result c.requires.question e.answer c.refuted-empty.ensures.known
           c.refuted-empty.ensures.kept;
       sound = e.sound;

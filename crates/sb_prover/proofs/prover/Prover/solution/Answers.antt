@@ -28,7 +28,7 @@ completed-requires g c =
     let old = c.args.decider.now in
     record {
       «open» = c.in_ok-solved.ensures.open;
-      few = few-words c.args.stack.now old.arena old.graph.memo c.self.inside.evidence c.searched.new.evidence
+      few = few-words c.searched.new.decider.others.items c.args.stack.now old.arena old.graph.memo c.self.inside.evidence c.searched.new.evidence
           c.searched.new.budget c.in_ok-solved.solved c.in_ok-solved.ensures.solved;
     }
 
