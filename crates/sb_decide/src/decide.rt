@@ -7,7 +7,8 @@
 //! constants that they speak of: a kept word that is in the regexes of the new memberships stays, and nothing is made
 //! for it. Memberships speak of no constant of sort Bool, so each of these is false. A decided assertion that is no
 //! membership is taken in too, by its place alone, and while there are such ones a check is left open, where the
-//! memberships alone don't refute it. Assertions are taken in up to the first one that is not decided.
+//! memberships of constants that occur in none of them don't refute it. The search finds the words of those that do, so
+//! none are found here. Assertions are taken in up to the first one that is not decided.
 
 ghost use Rattle.std.specs.Prelude.{◌≡◌, ◌≢◌, ℕ, ◌+◌, ◌<◌, ◌≤◌, [], List, Option, Some, is_some, length, get_or, map, true, false};
 ghost use Rattle.std.specs.Prelude.{All, IfOk, OnOk, IfSome, IfNone, MatchOption};
@@ -124,17 +125,19 @@ impl Decider {
     }
 
     /// What a check of the live assertions finds; `None` where it is left open, since all assertions are decided ones,
-    /// but not all of them are memberships, and each constant has a word by its memberships alone. Then
-    /// [`Decider::question`] says what a search is to be asked about, and [`Decider::close`] gives the words of a model.
+    /// but not all of them are memberships, and each constant that occurs in none of the others has a word by its
+    /// memberships alone. Then [`Decider::question`] says what a search is to be asked about, and [`Decider::close`]
+    /// gives the words of a model.
     ///
     /// Linear in the assertions and constants that are new since the last check with a model, and in the constants that
     /// the new ones, those that were taken back, and the search of that check spoke of. The kept word of such a constant
     /// is matched with the regexes of the memberships behind those that it is known to be the least word of
     /// ([`Plain::matches`]), and stays where it is in all of them. Else, and where one of those was taken back, the check
     /// is linear in the constant's memberships and in what is explored; a regex that was explored before is not expanded
-    /// again. An assertion that is no membership is looked at once, in the time of [`Measures::fits_structure`]. Where it
-    /// finds `Unsat`, [`Decider::dead`] is a constant without a word. Of the script's state it changes the mode and the
-    /// kept words alone. `AllocError` only for want of memory.
+    /// again. An assertion that is no membership is looked at once, in the time of [`Measures::fits_structure`]; while
+    /// there are some, the constants that occur in them are left to the search, and found in the terms of these that are
+    /// not ground, each once. Where it finds `Unsat`, [`Decider::dead`] is a constant without a word. Of the script's
+    /// state it changes the mode and the kept words alone. `AllocError` only for want of memory.
     pub fn decide(
         &mut self,
         alloc: Global,

@@ -7,9 +7,10 @@
 //! for the words of those constants that new assertions speak of; and a least word that is in a new regex too is the
 //! least one still, so it is matched before any intersection is made. The layer above asks [`Decider::decide`] first:
 //! where all assertions are memberships it has the verdict, and where one is not decided the check is outside. Else the
-//! check is left open, for a search over Boolean structure: all assertions are taken in then, and each constant has a
-//! word by its memberships alone. [`Decider::question`] are the places of those assertions that the search is to be asked
-//! about, and [`Decider::close`] puts the words that it found among those of the memberships.
+//! check is left open, for a search over Boolean structure: all assertions are taken in then, and each constant that
+//! occurs in no such structure has a word by its memberships alone. [`Decider::question`] are the places of those
+//! assertions that the search is to be asked about, and [`Decider::close`] puts the words that it found among those of
+//! the memberships.
 //! After an `Unsat` the layer above asks for the constant that has no word, and for the places of its memberships among
 //! the live assertions. Where assertions go it says so by [`Decider::leave`].
 #![tactic(auto)]
