@@ -6,7 +6,7 @@ use Rattle.sb_meaning.specs.Terms.{Sort, Term, Terms, constant, apply, no_terms,
 use Rattle.sb_rulebook.specs.Atoms.{Atom, AtomOver, in_atom, is_well_formed}
 use Rattle.sb_rulebook.specs.AtomRules.{is_declared, has_its_parts}
 use Rattle.sb_rulebook.specs.Translation.{translation}
-use Rattle.sb_script.specs.Brought.{is_membership, is_structure}
+use Rattle.sb_script.specs.Brought.{is_structure}
 use Rattle.sb_script.specs.Pieces.{constant_piece}
 use Rattle.sb_atoms.specs.Numbered.{Names, IsWith}
 
@@ -17,13 +17,6 @@ brought_translation atoms t = if is_structure t then translation atoms t else No
 -- the term has no literal, whatever the table is
 abbrev pub HasNoLiteral : Term → Type 0
 HasNoLiteral t = (atoms : List Atom) → brought_translation atoms t ≡ None
-
--- The literal of a term that asks something of one constant's word alone; of another there is none.
-abbrev pub member_translation : List Atom → Term → Option Lit
-member_translation atoms t = if is_membership t then translation atoms t else None
-
-abbrev pub HasNoMemberLiteral : Term → Type 0
-HasNoMemberLiteral t = (atoms : List Atom) → member_translation atoms t ≡ None
 
 -- the literal's atom, of a constant's word, is added where it is missing, and nothing else is; where there is no
 -- literal, nothing is

@@ -16,7 +16,7 @@ ghost use Rattle.sb_rulebook.specs.Parts.{together};
 ghost use Rattle.sb_rulebook.specs.Translation as rules;
 ghost use Rattle.sb_atoms.specs.Connecting as connecting;
 ghost use Rattle.sb_atoms.specs.Numbered.{atom_in, atoms_in, HaveRegexesBelow, Extends, NameEarlier};
-ghost use Rattle.sb_atoms.specs.Translated.{brought_translation, member_translation, are_members, has_declared, IsAdded, AreDefined, HasNoLiteral, HasNoMemberLiteral};
+ghost use Rattle.sb_atoms.specs.Translated.{brought_translation, are_members, has_declared, IsAdded, AreDefined, HasNoLiteral};
 ghost use Rattle.sb_atoms.specs.Growing.{is_below, are_below, GivesLike, GrownByGates, Finds, AreReady, Moves};
 ghost use Rattle.sb_atoms.specs.Reaching.{connected_parts};
 ghost use Rattle.sb_atoms.specs.Shapes.{IsAtomOf, have_declared_pairs, word_literals, words_literal};
@@ -407,44 +407,5 @@ impl Atoms {
         ensures arena { regex.Extends arena.old arena.new }
     {
         self.find_or_add(false, measures, normals, table, arena, id)
-    }
-
-    /// The literal of a term that asks something of one constant's word alone, of which the atom is added where it is
-    /// missing: of the membership of one String constant, and of its equality with a literal. There is none of others,
-    /// and none of one that is past the limits on sizes.
-    ///
-    /// Constant time, by hash, but that the regular expression, or the literal, is measured, and its normal regex made,
-    /// where they were not yet. `AllocError` only for want of memory; the arena may hold more regexes then, and the table the atom.
-    pub fn translate_member(
-        &mut self,
-        measures: &mut Measures,
-        normals: &mut Normals,
-        table: &Table,
-        arena: &mut Arena,
-        id: TermId,
-    ) -> Result<Option<Lit>, AllocError>
-        requires number { id < length table.now }
-        requires right { AreMeasures table.now measures.old }
-        requires normals { AreNormals table.now arena.old normals.old }
-        requires regexes { HaveRegexesBelow (length arena.old) self.old }
-        ensures ok { IfOk result
-            (λ found. found ≡ member_translation (atoms_in arena.new self.new) (term_at table.now id)) }
-        ensures adds { IfOk result (λ found. IsAdded self.old self.new found) }
-        ensures none { IfOk result (λ found. found ≡ None → HasNoMemberLiteral (term_at table.now id)) }
-        ensures members { are_members self.old ≡ true → are_members self.new ≡ true }
-        ensures earlier { NameEarlier (length self.old) self.new }
-        ensures extends { Extends self.old self.new }
-        ensures regexes { HaveRegexesBelow (length arena.new) self.new }
-        ensures right { AreMeasures table.now measures.new }
-        ensures normals { AreNormals table.now arena.new normals.new }
-        ensures arena { regex.Extends arena.old arena.new }
-    {
-        let Some((serial, pattern)) = membership(table, id) else {
-            return Ok(None);
-        };
-        if !measures.pattern(table, pattern)?.is_regex {
-            return Ok(None);
-        }
-        self.member(true, measures, normals, table, arena, serial, pattern)
     }
 }

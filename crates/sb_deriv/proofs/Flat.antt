@@ -43,8 +43,3 @@ one_more ids ids' more ps ps' f s e h i a b p =
     ap₂ (λ x y. map (choice_of x) y) i p
     ∙ map-append (choice_of (ids ++ more)) ps ((f, (s, e)) ∷ [])
     ∙ ap₂ (λ x y. x ++ y ∷ []) (same_choices ids more ps h) (last_choice ids more f s e a (b ∙ ap length i))
-
-pub still_within : (ids ids' more : List ℕ) (ps : List Span) → AreWithin ids ps → ids' ≡ ids ++ more
-    → AreWithin ids' ps
-still_within ids ids' more ps h i k d l = let a = h k d l in
-    (a.0, omega (arith, a.1, ap length i, length-append ids more))

@@ -13,7 +13,7 @@ use Rattle.sb_deriv.specs.declared.operation.Operation.{Operation}
 use Rattle.sb_deriv.specs.declared.operation.Operation.TheVariants as operation
 use Rattle.sb_deriv.specs.Pieces.{value_from, value_at, rises, covers, are_merged, targets_of}
 use Rattle.sb_deriv.specs.Faithful.{IsMapOf}
-use Rattle.sb_deriv.specs.Choices.{first_of, made, list_of, OperandIsKnown, AreMade, IsFound}
+use Rattle.sb_deriv.specs.Choices.{first_of, made, list_of, OperandIsKnown, AreMade}
 use Rattle.sb_regex.proofs.CallerLemmas.{extends_same, extends_more, at_kept, ats_kept, names_at, names_below, names_kept, numbers_kept}
 use Rattle.sb_deriv.proofs.PieceFacts.{rises_head, rises_rest, rises_from_first, value_here, starts_below, value_pushed, value_below, map_some, covers_rises, covers_first}
 
@@ -220,14 +220,3 @@ made_more old new op cs ms ms' i t e known h is l n name =
 
     one : IsOne new op cs (i, t)
     one = (l, numbers_kept old new (list_of cs i) e n, same)
-
-pub made_below : (rs : List Regex) (op : Operation) (cs : List (ℕ × List ℕ)) (ms : List (ℕ × ℕ)) → AreMade rs op cs ms
-    → All (λ m. m.0 < length cs) ms
-made_below rs op cs ms h k d l = (h k d l).0
-
-pub found_made : (rs : List Regex) (op : Operation) (cs : List (ℕ × List ℕ)) (ms : List (ℕ × ℕ)) (ids : List ℕ) (t : ℕ)
-    → AreMade rs op cs ms → IsFound cs ms ids t → Names rs t (made rs op (regexes_at rs ids))
-found_made rs op cs ms ids t h f =
-    let m = h f.place (0, 0) f.within in
-    subst (λ (x : ℕ). Names rs x (made rs op (regexes_at rs ids))) f.is
-    (subst (λ (xs : List ℕ). Names rs (get_or ms f.place (0, 0)).1 (made rs op (regexes_at rs xs))) f.same m.2)

@@ -1,13 +1,10 @@
 -- Terms that are str.in_re or = of two arguments (SMT-LIB, theories Core and Unicode Strings).
-use Rattle.std.specs.Prelude.{◌≡◌, ℕ, Bool, true, false, List, Option, Some, None}
-use Rattle.sb_lang.specs.Regex.{Regex}
+use Rattle.std.specs.Prelude.{◌≡◌, ℕ, Bool, true, false, List}
 use Rattle.sb_meaning.specs.Terms.{Term, text, constant, word, apply, no_terms, with_term}
 use Rattle.sb_meaning.specs.Terms as symbol
-use Rattle.sb_script.specs.Brought.{asked}
 use Rattle.sb_term.specs.Numbered.{term_at}
 use Rattle.sb_problem.specs.declared.pattern.Pattern.{Pattern}
 use Rattle.sb_problem.specs.declared.pattern.Pattern.TheVariants.{Word}
-use Rattle.sb_problem.specs.Normals.{IsNumberOf}
 
 abbrev pub in_re : Term → Term → Term
 in_re t R = apply symbol.str_in_re (with_term t (with_term R no_terms))
@@ -34,12 +31,3 @@ pub record IsSides (ts : List Term) (one other serial : ℕ) (pattern : Pattern)
   pub letters : List ℕ
   pub literal : term_at ts other ≡ word letters
   pub is : pattern ≡ Word other
-
--- the number of the normal regex of what is asked
-abbrev pub IsNumberAsked : List Regex → Option (ℕ × Term) → Option ℕ → Type 0
-IsNumberAsked rs (Some p) found = IsNumberOf rs p.1 found
-IsNumberAsked rs None found = Unit {0}
-
--- of a term that asks something of one constant's word, the number of the normal regex of what it asks for
-abbrev pub IsMemberRegex : List Regex → Term → Option ℕ → Type 0
-IsMemberRegex rs t found = IsNumberAsked rs (asked t) found

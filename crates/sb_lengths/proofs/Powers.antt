@@ -1,6 +1,6 @@
 -- The sums of so many lengths, by one pass over the counts up to 64: above that one word more makes no difference.
 use Rattle.std.proofs.Common.{◌≡◌, ℕ, zero, suc, ◌+◌, ◌-◌, ◌<◌, ◌≤◌, min, Bool, true, false, ◌&&◌, ◌||◌, ◌==◌, inl, inr, nat_le, nat_lt, List, [], ◌∷◌, ◌++◌, length, refl, sym, ap, ap₂, ◌∙◌, arith, length-append}
-use Rattle.std.proofs.lemmas.Bool.{and_parts, or_cases, or_left, or_right, false≢true}
+use Rattle.std.proofs.lemmas.Bool.{and_parts, or_cases, or_left, or_right}
 use Rattle.std.proofs.lemmas.Bool.Decides.{nat_tests}
 use Rattle.sb_lang.specs.Languages.{Language, cut, power, repeat}
 use Rattle.sb_lang.specs.LanguageLaws.{CutIsSomeCut, RepetitionIsSomePower}
@@ -165,11 +165,3 @@ powers_done cuts law lengths sums these least most le all w l = same_truth _ _
     from k low high h false is =
         let m : 64 ≤ k = grind (arith, nat_tests) in
         all.each 64 w l (omega arith) (omega (arith, m, high)) (down_to_64 cuts (of_lengths lengths) k w m l h)
-
--- with the counts out of order there is none
-pub no_powers : RepetitionIsSomePower → (lengths none least most : ℕ) → most < least
-    → ((n : ℕ) → has none n ≡ false) → (w : List ℕ) → length w < 64
-    → of_lengths none w ≡ repeat (of_lengths lengths) least most w
-no_powers law lengths none least most lt nothing w l = same_truth _ _
-    (λ h. absurd (false≢true (sym (nothing (length w)) ∙ h)))
-    (λ h. let p = (law (of_lengths lengths) least most w).0 h in absurd (omega (arith, lt, p.1, p.2)))

@@ -8,11 +8,10 @@ use Rattle.sb_reader.specs.declared.scan.Place.TheVariants.{InGap, InComment, In
 use Rattle.sb_reader.specs.declared.scan.Step.{Step}
 use Rattle.sb_reader.specs.declared.scan.Step.TheVariants.{To, EndsBefore, EndsBehind}
 use Rattle.sb_reader.specs.declared.scan.Scan.{Scan}
-use Rattle.sb_reader.specs.declared.scan.Found.{Found}
 use Rattle.sb_reader.specs.declared.scan.Found.TheVariants as found
 use Rattle.sb_reader.specs.Tokens.{is_blank, is_line_end, is_run_byte, is_open_gap}
 use Rattle.sb_reader.specs.Entries.{HoldsNoEntry}
-use Rattle.sb_reader.specs.Scanning.{step_in_gap, step_behind_token, step_at, found_at_end, scan_to, IsScan, Scanned, SpellsOne, EndsEntry, FindsEnd, ScansAll}
+use Rattle.sb_reader.specs.Scanning.{step_in_gap, step_behind_token, step_at, found_at_end, scan_to, IsScan, Scanned, SpellsOne, EndsEntry, FindsEnd}
 use Rattle.sb_reader.proofs.Growing.{Spells-grow}
 use Rattle.sb_reader.proofs.Opened.{LeavesOpen-nil}
 use Rattle.sb_reader.proofs.Steps.{Says, step_says, EndsInGap-nil}
@@ -193,10 +192,3 @@ IsScan-comment =
         ends = record { gap = []; inside = []; split = refl; is_gap = EndsInGap-nil; no_line_end = refl };
       };
     }
-
--- no byte is left to scan, if no end is found
-pub scans_all : (f : Found) (scan : Scan) (bytes : List ℕ) → ((n : ℕ) → f ≡ found.End n → ⊥) → ScansAll f scan bytes
-    → scan.scanned ≡ length bytes
-scans_all (found.End n) scan bytes none h = absurd (none n refl)
-scans_all found.Gap scan bytes none h = h
-scans_all found.Part scan bytes none h = h

@@ -68,21 +68,6 @@ push_laid old new forms outer kind bytes count laid count_is nodes_are bytes_are
   marks = marks_are ∙ laid.marks;
 }
 
--- a list is opened
-pub open_laid : (old new : OpenLists) (levels : List Forms) (mark : Mark) → IsLaid old levels
-    → mark.node ≡ length old.nodes.items → mark.byte ≡ length old.bytes.items
-    → new.nodes.items ≡ old.nodes.items ++ node.List 0 0 ∷ [] → new.bytes.items ≡ old.bytes.items
-    → new.marks.items ≡ old.marks.items ++ mark ∷ [] → IsLaid new (none ∷ levels)
-open_laid old new levels mark laid at_node at_byte nodes_are bytes_are marks_are = record {
-  nodes = nodes_are ∙ ap (λ nodes. nodes ++ node.List 0 0 ∷ []) laid.nodes;
-  bytes = bytes_are ∙ laid.bytes ∙ sym (append-nil (open_bytes levels));
-  marks = marks_are ∙ ap (λ marks. marks ++ mark ∷ []) laid.marks
-      ∙ ap (λ m. open_marks levels ++ m ∷ []) (λ j. record {
-        node = (at_node ∙ ap length laid.nodes) j;
-        byte = (at_byte ∙ ap length laid.bytes) j;
-      });
-}
-
 snoc_parts : {A : Type 0} (xs ys : List A) (x y : A) → xs ++ x ∷ [] ≡ ys ++ y ∷ [] → (xs ≡ ys) × (x ≡ y)
 snoc_parts [] [] x y e = (refl, cc)
 snoc_parts [] (b ∷ ys) x y e = absurd (omega (arith, ap length e, length-append ys (y ∷ [])))

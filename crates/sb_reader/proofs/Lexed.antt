@@ -87,10 +87,6 @@ begins_with-not : (p : ℕ → Bool) (xs : List ℕ) → begins_with (λ b. not 
 begins_with-not p [] = refl
 begins_with-not p (x ∷ xs) = not-not (p x)
 
-some_all : (p : ℕ → Bool) (xs : List ℕ) → some_pass p xs ≡ true → all_pass p xs ≡ true
-some_all p [] h = absurd (false≢true h)
-some_all p (x ∷ xs) h = h
-
 -- A run behind a gap, whose first byte begins none of the other tokens.
 record IsRunStart (b : ℕ) : Type 0 where
   semicolon : eqb b 59 ≡ false

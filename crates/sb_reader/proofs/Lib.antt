@@ -22,4 +22,6 @@ pub mod Goes
 pub mod Answered
 pub mod FirstEntries
 pub mod Shortening
+pub mod Slices
+pub mod Quotes
 pub mod CallerLemmas

@@ -74,11 +74,6 @@ bare_answer token front rest bad is atom reads tokens s one =
       ap (λ b. cond b BadToken BareToken) (sym is),
     ))
 
--- the same of a result that is known
-pub ok_answer : (front : List ℕ) (r : Result (Option (Result Sexpr Refusal)) AllocError)
-    (parsed : Option (Result Sexpr Refusal)) → r ≡ Ok parsed → AnswersEntry front parsed → IfOk r (AnswersEntry front)
-ok_answer front r parsed is h = subst (λ o. IfOk o (AnswersEntry front)) (sym is) h
-
 -- an entry is answered
 pub never_none : (bytes : List ℕ) → IsOneEntry bytes → AnswersEntry bytes None → ⊥
 never_none bytes entry h = h entry.tokens entry.spelled entry.one

@@ -28,19 +28,6 @@ pub record IsReading (bytes rest : List ℕ) (lists : List Forms) : Type 0 where
   pub faults : first_fault 1 tokens ≡ first_fault (length lists) left
   pub kinds : are_kinds lists ≡ true
 
-pub reading_starts : (bytes : List ℕ) (tokens : List Token) (lists : List Forms) → IsTail tokens bytes
-    → read_tokens lists ≡ Open ∷ [] → length lists ≡ 1 → are_kinds lists ≡ true → IsReading bytes bytes lists
-reading_starts bytes tokens lists tail read depth kinds = record {
-  tokens = tokens;
-  left = tokens;
-  tail = tail;
-  split = ap (λ front. front ++ tokens) (sym read);
-  spelled = tail.spelled;
-  closes = ap (λ d. closes_at_end d tokens) depth ∙ tail.closes;
-  faults = ap (λ d. first_fault d tokens) (sym depth);
-  kinds = kinds;
-}
-
 -- what one more token does
 split_more : (front tokens others all : List Token) (token : Token) (left new : List Token) → all ≡ front ++ left
     → left ≡ token ∷ others → new ≡ front ++ token ∷ [] → all ≡ new ++ others
@@ -203,14 +190,6 @@ pub record Reads (bytes rest : List ℕ) (lists : OpenLists) : Type 0 where
   pub outer : List Forms
   pub laid : IsLaid lists (forms ∷ outer)
   pub reading : (tokens : List Token) → IsTail tokens bytes → IsReading bytes rest (forms ∷ outer)
-
-pub reads_start : (bytes : List ℕ) (lists : OpenLists) → IsLaid lists (none ∷ []) → Reads bytes bytes lists
-reads_start bytes lists laid = record {
-  forms = none;
-  outer = [];
-  laid = laid;
-  reading = λ tokens tail. reading_starts bytes tokens (none ∷ []) tail refl refl refl;
-}
 
 module _ {bytes rest : List ℕ} {old : OpenLists} (r : Reads bytes rest old) (behind : List ℕ) where
   pub reads_open : (new : OpenLists) → Some (Open, behind) ≡ first_token rest

@@ -9,7 +9,7 @@ use Rattle.std.specs.Cmp.Lexicographic.{slice_cmp}
 use Rattle.std.proofs.lemmas.Bool.{false≢true}
 use Rattle.std.proofs.lemmas.Bool.Decides.{nat_tests}
 use Rattle.std.proofs.lemmas.Cmp.{tied_itself, nat_cmp_total}
-use Rattle.std.proofs.lemmas.List.{drop_more, get_or_past}
+use Rattle.std.proofs.lemmas.List.{drop_more}
 use Rattle.sb_class.specs.Ranges.{Range}
 use Rattle.sb_lang.specs.Regex.{Regex, none, eps, set, cat, alt, and, neg, star, rep, path, regexes}
 use Rattle.sb_lang.specs.Order.{code, range_code, regex_cmp, regex_eq}
@@ -535,9 +535,6 @@ pub parts_of : (rs : List Regex) (a b : ℕ) (d : Difference) (x y : ℕ) → Is
 parts_of rs a b d x y h e = rw e at h
 
 -- Numbers past the end.
-
-pub past_end : (rs : List Regex) (a x n : ℕ) → n ≤ x → x ≡ a → n ≡ length rs → regex_at rs a ≡ none
-past_end rs a x n h e f = get_or_past rs a none (omega arith)
 
 pub none_equal : (r : Regex) → true ≡ is_none r → Equal ≡ regex_cmp none r
 unfolding code

@@ -1,5 +1,5 @@
 -- What a caller cites: of a table of the code, and of names over a table of terms that grows.
-use Rattle.std.proofs.Common.{◌≡◌, ℕ, Bool, true, false, ◌||◌, if◌then◌else◌, List, [], ◌∷◌, ◌++◌, map, take, drop, length, Some, is_some, option_map, refl, sym, ap, ap₂, ◌∙◌}
+use Rattle.std.proofs.Common.{◌≡◌, ℕ, Bool, true, false, if◌then◌else◌, List, [], ◌∷◌, ◌++◌, map, take, drop, length, Some, option_map, refl, sym, ap, ap₂, ◌∙◌}
 use Rattle.std.proofs.lemmas.Bool.{and_parts, and_from, ltb-true, lt-ltb}
 use Rattle.std.proofs.lemmas.List.{take-append-drop}
 use Rattle.std.proofs.lemmas.List.Folds.{list_all-append}
@@ -7,8 +7,7 @@ use Rattle.std.specs.List.{list_all}
 use Rattle.sb_meaning.specs.Terms.{Term}
 use Rattle.sb_script.specs.Names.{Name, is_name}
 use Rattle.sb_script.specs.Scopes as meaning
-use Rattle.sb_script.specs.Scopes.{named, constants_in}
-use Rattle.sb_script.specs.Symbols.{found_in, is_taken, is_theory_name}
+use Rattle.sb_script.specs.Symbols.{found_in}
 use Rattle.sb_term.specs.Numbered.{Extends}
 use Rattle.sb_term.specs.Symbols.{sort_in}
 use Rattle.sb_term.proofs.CallerLemmas.{at_kept, number_kept}
@@ -91,30 +90,3 @@ bodies_taken ts kept count h =
     (drop count kept.names)) ∙ ap (all_bodies ts) (take-append-drop count kept.names) ∙ h)).0
 
 -- What is asked of names alone is the same over each table.
-
-some_by_tables : (ts us : List Term) (ns : List (Name × Named)) (name : Name)
-    → is_some (named (map (naming_in ts) ns) name) ≡ is_some (named (map (naming_in us) ns) name)
-some_by_tables ts us [] name = refl
-some_by_tables ts us (n ∷ ns) name = step (is_name name n.0) (some_by_tables ts us ns name)
-  where
-    step : (b : Bool) → is_some (named (map (naming_in ts) ns) name) ≡ is_some (named (map (naming_in us) ns) name)
-        → is_some (if b then Some (named_in ts n.1) else named (map (naming_in ts) ns) name)
-        ≡ is_some (if b then Some (named_in us n.1) else named (map (naming_in us) ns) name)
-    step true rest = refl
-    step false rest = rest
-
-pub taken_by_names : (ts us : List Term) (kept : ScopeNames) (name : Name)
-    → is_taken (names_in ts kept) name ≡ is_taken (names_in us kept) name
-taken_by_names ts us kept name = ap (λ b. b || is_theory_name name) (some_by_tables ts us kept.names name)
-
-constants_by_tables : (ts us : List Term) (ns : List (Name × Named))
-    → constants_in (map (naming_in ts) ns) ≡ constants_in (map (naming_in us) ns)
-constants_by_tables ts us [] = refl
-constants_by_tables ts us ((name, code.Constant serial sort) ∷ ns) =
-    ap (λ cs. record { name = name; serial = serial.0; sort = sort_in sort } ∷ cs) (constants_by_tables ts us ns)
-constants_by_tables ts us ((name, code.Definition d) ∷ ns) = constants_by_tables ts us ns
-constants_by_tables ts us ((name, code.Marked) ∷ ns) = constants_by_tables ts us ns
-
-pub constants_by_names : (ts us : List Term) (kept : ScopeNames)
-    → constants_in (names_in ts kept) ≡ constants_in (names_in us kept)
-constants_by_names ts us kept = constants_by_tables ts us kept.names

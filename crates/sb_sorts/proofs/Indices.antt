@@ -159,31 +159,3 @@ if_false false c s h = refl
 
 pub power_large : (ds : List ℕ) → 65535 < number_of ds → by_power (Some ds) ≡ Err numeral_too_large
 power_large ds h = if_false (nat_le (number_of ds) 65535) true _ (large (number_of ds) h)
-
-if_both : (b c : Bool) (s : symbol.Symbol) → b ≡ true → c ≡ true
-    → (if b && (c && true) then Ok (head_symbol s) else Err numeral_too_large) ≡ Ok (head_symbol s)
-if_both true true s h k = refl
-if_both true false s h k = absurd (Prim.cc (k))
-if_both false c s h k = absurd (Prim.cc (h))
-
-if_second : (b c : Bool) (s : symbol.Symbol) → b ≡ true → c ≡ false
-    → (if b && (c && true) then Ok (head_symbol s) else Err numeral_too_large) ≡ Err numeral_too_large
-if_second true false s h k = refl
-if_second true true s h k = absurd (Prim.cc (k))
-if_second false c s h k = absurd (Prim.cc (h))
-
-pub loop_small : (ds es : List ℕ) (n m : ℕ) → number_of ds ≡ n → n ≤ 65535 → number_of es ≡ m → m ≤ 65535
-    → by_loop (Some ds) (Some es) ≡ Ok (head_symbol (symbol.re_loop n m))
-loop_small ds es n m is h also k =
-    rw (← is, ← also) (if_both (nat_le (number_of ds) 65535) (nat_le (number_of es) 65535) _
-    (small (number_of ds) (omega (arith, is, h))) (small (number_of es) (omega (arith, also, k))))
-
-pub first_large : (ds es : List ℕ) → 65535 < number_of ds → by_loop (Some ds) (Some es) ≡ Err numeral_too_large
-first_large ds es h =
-    if_false (nat_le (number_of ds) 65535) (nat_le (number_of es) 65535 && true) _ (large (number_of ds) h)
-
-pub second_large : (ds es : List ℕ) (n : ℕ) → number_of ds ≡ n → n ≤ 65535 → 65535 < number_of es
-    → by_loop (Some ds) (Some es) ≡ Err numeral_too_large
-second_large ds es n is h k =
-    if_second (nat_le (number_of ds) 65535) (nat_le (number_of es) 65535) _
-    (small (number_of ds) (omega (arith, is, h))) (large (number_of es) k)

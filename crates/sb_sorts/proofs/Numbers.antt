@@ -1,5 +1,5 @@
 -- Numbers by their digits.
-use Rattle.std.proofs.Common.{◌≡◌, ℕ, ◌+◌, ◌-◌, ◌*◌, ◌<◌, ◌≤◌, List, [], ◌∷◌, drop, length, get_or, ap, sym, ◌∙◌, arith}
+use Rattle.std.proofs.Common.{◌≡◌, ℕ, ◌+◌, ◌-◌, ◌*◌, ◌<◌, ◌≤◌, List, [], ◌∷◌, drop, length, get_or, ap, ◌∙◌, arith}
 use Rattle.std.proofs.lemmas.List.{drop_more}
 use Rattle.sb_script.specs.Texts.{number_of, number_from}
 
@@ -7,11 +7,6 @@ use Rattle.sb_script.specs.Texts.{number_of, number_from}
 number_grows : (n : ℕ) (ds : List ℕ) → n ≤ number_from n ds
 number_grows n [] = omega arith
 number_grows n (d ∷ ds) = omega (arith, number_grows (10 * n + (d - 48)) ds)
-
-pub digit_step : (ds : List ℕ) (i d n new : ℕ) → i < length ds → number_of ds ≡ number_from n (drop i ds)
-    → new ≡ 10 * n + (get_or ds i d - 48) → number_of ds ≡ number_from new (drop (i + 1) ds)
-digit_step ds i d n new within before is =
-    before ∙ ap (number_from n) (drop_more ds i d within) ∙ ap (λ k. number_from k (drop (i + 1) ds)) (sym is)
 
 pub digit_too_large : (ds : List ℕ) (i d n limit : ℕ) → i < length ds → number_of ds ≡ number_from n (drop i ds)
     → limit < 10 * n + (get_or ds i d - 48) → limit < number_of ds

@@ -1,5 +1,5 @@
 -- Forms by their shape, as the code takes them apart.
-use Rattle.std.proofs.Common.{◌≡◌, ℕ, Bool, true, false, not, ◌&&◌, if◌then◌else◌, List, [], ◌∷◌, Option, Some, None, is_some, option_map, Result, Ok, Err, sym, refl, ap, ◌∙◌, true≢false}
+use Rattle.std.proofs.Common.{◌≡◌, ℕ, Bool, true, false, not, if◌then◌else◌, List, [], ◌∷◌, Option, Some, None, is_some, option_map, Result, Ok, Err, sym, refl, ap, ◌∙◌, true≢false}
 use Rattle.sb_reader.specs.Forms.{Form, Forms, Symbol, QuotedSymbol, Keyword, Numeral, OtherNumber, Words, Group, none, more, is_none, only_of, pair_of}
 use Rattle.sb_script.specs.Names.{Name, is_reserved}
 use Rattle.sb_script.specs.Scopes.{Naming}
@@ -8,7 +8,7 @@ use Rattle.sb_script.specs.Heads.{Head, head_term, hexadecimal_digits, character
 use Rattle.sb_meaning.specs.Terms.{word}
 use Rattle.sb_word.specs.LiteralWords.{character_of}
 use Rattle.sb_sorts.specs.Characters.{character_in}
-use Rattle.sb_script.specs.Reading.{is_binding, are_bindings, is_let, read_index_list}
+use Rattle.sb_script.specs.Reading.{is_binding, is_let, read_index_list}
 use Rattle.sb_sorts.specs.Heads.{name_of, has_bindings, beginning_of, some_beginning}
 
 pub some_map : {A B : Type 0} (f : A → B) (o : Option A) → is_some o ≡ is_some (option_map f o)
@@ -138,10 +138,6 @@ let_of_pair (more f none) = no_body f
 let_of_pair (more f (more g none)) = let_bindings f g
 let_of_pair (more f (more g (more h hs))) = two_bodies f g h hs
 
-pub bindings_of_list : (forms : Forms) → has_bindings (Group forms) ≡ not (is_none forms) && are_bindings forms
-bindings_of_list none = refl
-bindings_of_list (more form forms) = refl
-
 pub begun : (names : List Naming) (first : Form) (others : Forms) → is_none others ≡ false
     → some_beginning names first others ≡ beginning_of names first others
 begun names first none some = absurd (true≢false some)
@@ -157,17 +153,6 @@ digits_head : (o : Option ℕ)
     ≡ by_character o
 digits_head None = refl
 digits_head (Some c) = refl
-
-pub no_index_word : (indices : Forms) → only_of indices ≡ None → character_word indices ≡ Err bad_index
-no_index_word none e = refl
-no_index_word (more f none) e = absurd (Prim.cc (e))
-no_index_word (more (Symbol name) (more g gs)) e = refl
-no_index_word (more (QuotedSymbol name) (more g gs)) e = refl
-no_index_word (more (Keyword name) (more g gs)) e = refl
-no_index_word (more (Numeral digits) (more g gs)) e = refl
-no_index_word (more (OtherNumber bytes) (more g gs)) e = refl
-no_index_word (more (Words bytes) (more g gs)) e = refl
-no_index_word (more (Group list) (more g gs)) e = refl
 
 one_index_word : (f : Form) → character_word (more f none) ≡ by_character (character_in f)
 one_index_word (Symbol name) = refl

@@ -13,7 +13,7 @@ use Rattle.sb_script.specs.Heads as meaning
 use Rattle.sb_script.specs.Heads.{head_definition, head_term, head_of, head_of_theory, read_head, character_word, without_indices}
 use Rattle.sb_term.specs.Numbered.{term_at, AllNumbers, Extends}
 use Rattle.sb_term.specs.Symbols.{sort_in}
-use Rattle.sb_term.proofs.CallerLemmas.{at_kept, number_kept, numbers_kept}
+use Rattle.sb_term.proofs.CallerLemmas.{at_kept, numbers_kept}
 use Rattle.sb_sorts.specs.declared.head.Head.{Head}
 use Rattle.sb_sorts.specs.declared.head.Head.TheVariants as head
 use Rattle.sb_sorts.specs.declared.read.ReadFault.{ReadFault}
@@ -212,16 +212,6 @@ head_stays old new (head.Symbol s) e below = refl
 head_stays old new (head.Definition d) e below =
     ap (head_definition (map sort_in d.now.sorts))
     (at_kept old new d.now.body e (ltb-true d.now.body (length old) below))
-
-pub head_number_stays : (old new : List Term) (h : Head) → Extends old new → has_number_below (length old) h ≡ true
-    → has_number_below (length new) h ≡ true
-head_number_stays old new (head.Constant serial sort) e below = refl
-head_number_stays old new (head.Character c) e below = refl
-head_number_stays old new (head.Bound id) e below =
-    lt-ltb id (length new) (number_kept old new id e (ltb-true id (length old) below))
-head_number_stays old new (head.Symbol s) e below = refl
-head_number_stays old new (head.Definition d) e below =
-    lt-ltb d.now.body (length new) (number_kept old new d.now.body e (ltb-true d.now.body (length old) below))
 
 bound_stays : (old new : List Term) (locals : List (Name × ℕ)) → Extends old new
     → AllNumbers old (map (λ (l : Name × ℕ). l.1) locals) → bound_in new locals ≡ bound_in old locals

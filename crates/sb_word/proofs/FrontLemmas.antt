@@ -1,16 +1,16 @@
 -- What the code finds in front of the bytes of a literal, and the word that it reads from them.
-use Rattle.std.proofs.Common.{◌≡◌, ℕ, zero, suc, ◌+◌, ◌-◌, ◌*◌, ◌^◌, ◌<◌, ◌≤◌, Bool, true, false, nat_eq, if◌then◌else◌, List, [], ◌∷◌, ◌++◌, length, take, drop, get_or, Option, Some, None, option_map, refl, sym, ap, ◌∙◌, subst, arith, append_assoc}
+use Rattle.std.proofs.Common.{◌≡◌, ℕ, zero, suc, ◌+◌, ◌-◌, ◌*◌, ◌^◌, ◌<◌, ◌≤◌, Bool, true, nat_eq, if◌then◌else◌, List, [], ◌∷◌, ◌++◌, length, take, drop, get_or, Option, Some, None, option_map, refl, sym, ap, ◌∙◌, subst, arith, append_assoc}
 use Rattle.std.proofs.lemmas.Bool.{and_parts, and_from}
 use Rattle.std.proofs.Math.Nat.{pow-suc}
 use Rattle.std.proofs.lemmas.List.{take_all, drop_at, drop_all, drop_more, length-append, append-nil, length-drop}
 use Rattle.std.proofs.Math.Seq.{drop-nil}
 use Rattle.sb_word.specs.Words.{is_character, are_characters}
-use Rattle.sb_word.specs.Literals.{hex_value, hex_number_from, is_printable}
+use Rattle.sb_word.specs.Literals.{hex_value, hex_number_from}
 use Rattle.sb_word.specs.LiteralWords as meaning
-use Rattle.sb_word.specs.LiteralWords.{before_brace, escape_in_front, in_front, word_behind, word_of_literal, first_bad, first_bad_behind_quote}
-use Rattle.sb_word.specs.Spelling.{IsFront, IsNoFront}
+use Rattle.sb_word.specs.LiteralWords.{before_brace, escape_in_front, in_front, word_behind, word_of_literal, first_bad}
+use Rattle.sb_word.specs.Spelling.{IsFront}
 use Rattle.sb_word.proofs.DigitLemmas.{hex_number-digit}
-use Rattle.sb_word.proofs.LiteralWordLemmas.{HasFront, escape_front, pair_front, byte_front, word_of_rest, moved_more, spelled_character}
+use Rattle.sb_word.proofs.LiteralWordLemmas.{HasFront, escape_front, word_of_rest, moved_more, spelled_character}
 
 -- Digits.
 
@@ -96,15 +96,6 @@ escape_is_front [] s e = absurd (Prim.cc (e))
 escape_is_front (b ∷ bs) s e =
     is_front b bs s (escape_front (b ∷ bs) s e) (ap (chosen b (nat_eq b 34)) e)
 
-pub pair_is_front : (bs : List ℕ) → IsFront (34 ∷ 34 ∷ bs) (34, 2)
-pair_is_front bs = is_front 34 (34 ∷ bs) (34, 2) (pair_front bs) refl
-
-pub byte_is_front : (b : ℕ) (bs : List ℕ) → escape_in_front (b ∷ bs) ≡ None → nat_eq b 34 ≡ false
-    → is_printable b ≡ true → IsFront (b ∷ bs) (b, 1)
-byte_is_front b bs e f printable =
-    is_front b bs (b, 1) (byte_front b bs e f printable)
-    (ap (chosen b (nat_eq b 34)) e ∙ ap (λ t. (b, if t then 2 else 1)) f)
-
 -- What is read so far.
 
 pub record HasRead (bytes codes : List ℕ) (place : ℕ) : Type 0 where
@@ -155,15 +146,6 @@ one_more_read bytes codes more place next s so_far at pushed moved =
       characters = one_character_more codes s.0 so_far.characters front.character;
       within = omega (arith, so_far.within, front.within, length-drop place bytes);
     }))
-
--- a byte that no literal holds
-pub bad_byte : (bytes codes : List ℕ) (place : ℕ) → HasRead bytes codes place
-    → IsNoFront (take (length bytes - place) (drop place bytes))
-    → first_bad bytes ≡ Some place
-bad_byte bytes codes place so_far at =
-    let none = ap first_bad (sym (whole_rest bytes place)) ∙ at in
-    let same : 0 + place ≡ place = omega arith in
-    so_far.bad ∙ ap (option_map (λ here. here + place)) none ∙ ap Some same
 
 -- all is read
 pub all_read : (bytes codes : List ℕ) (place : ℕ) → HasRead bytes codes place → length bytes ≤ place

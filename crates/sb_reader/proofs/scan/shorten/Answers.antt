@@ -1,8 +1,10 @@
 -- What is left out is a gap, and what a comment holds.
-use Rattle.std.proofs.Common.{◌≡◌, ◌+◌, ◌-◌, ◌<◌, length, drop, [], arith}
-use Rattle.std.proofs.lemmas.List.{drop-set, drop_all, length-drop}
-use Rattle.sb_reader.proofs.Shortening.{shortens_to_itself, shortens_to_semicolon, comment_has_a_byte}
+use Rattle.std.proofs.Common.{◌≡◌, ◌+◌, ◌-◌, ◌<◌, length, drop, [], arith, ◌∷◌, set, sym, ap, subst, ◌∙◌}
+use Rattle.std.proofs.lemmas.List.{drop-set, drop_all, length-drop, length-set}
+use Rattle.sb_reader.proofs.Shortening.{shortens_to_itself, shortens_to_semicolon, comment_has_a_byte, shortens_to_nothing}
 use Rattle.sb_reader.proofs.Goes.{in_no_gap, no_gap_in_token, scanned_in_gap}
+use Rattle.sb_reader.specs.Feeding.{ShortensTo}
+use Rattle.sb_reader.specs.Scanning.{IsScan}
 use Rattle.sb_reader.proofs.scan.shorten.Goals as goal
 
 pub returns-in-InComment-clause-shorter : goal.returns-in-InComment-clause-shorter
@@ -42,3 +44,59 @@ returns-in-InText c =
       started = c.requires.started;
       all = c.requires.all;
     }
+
+pub returns-in-InGap-clause-shorter : goal.returns-in-InGap-clause-shorter
+returns-in-InGap-clause-shorter c =
+    let none = drop_all (length c.args.bytes.now) c.args.bytes.now (omega arith) in
+    let left = drop c.args.start c.args.bytes.now in
+    subst (ShortensTo left) (sym none)
+    (shortens_to_nothing c.args.scan.now left c.requires.started.scan_of c.requires.all c.if-scan-eq0.true c.in-InGap.is)
+
+pub returns-in-InGap-clause-short : goal.returns-in-InGap-clause-short
+returns-in-InGap-clause-short c =
+    let none = drop_all (length c.args.bytes.now) c.args.bytes.now (omega arith) in
+    λ alone. omega (arith, ap length none)
+
+pub returns-in-InGap-clause-all : goal.returns-in-InGap-clause-all
+returns-in-InGap-clause-all c =
+    let none = drop_all (length c.args.bytes.now) c.args.bytes.now (omega arith) in
+    c.new.ensures.none ∙ sym (ap length none)
+
+pub returns-in-InComment-clause-started : goal.returns-in-InComment-clause-started
+returns-in-InComment-clause-started c =
+    let bytes = c.args.bytes.now in
+    let last = length bytes - 1 in
+    let a_byte : 0 < length bytes - c.args.start = simp length-drop at
+    (comment_has_a_byte c.args.scan.now (drop c.args.start bytes) c.requires.started.scan_of c.requires.all
+    c.if-scan-eq0-2.true c.in-InComment.is) in
+    let one : drop last (set bytes last 59) ≡ 59 ∷ [] =
+    drop-set bytes last 59 (omega (arith, a_byte))
+    ∙ ap (λ rest. 59 ∷ rest) (drop_all (last + 1) bytes (omega (arith, a_byte))) in
+    record {
+      within = omega (arith, length-set bytes last 59);
+      scan_of = subst (IsScan c.in_comment.result) (sym one) c.in_comment.ensures.scan;
+    }
+
+pub returns-in-InComment-clause-short : goal.returns-in-InComment-clause-short
+returns-in-InComment-clause-short c =
+    let bytes = c.args.bytes.now in
+    let last = length bytes - 1 in
+    let a_byte : 0 < length bytes - c.args.start = simp length-drop at
+    (comment_has_a_byte c.args.scan.now (drop c.args.start bytes) c.requires.started.scan_of c.requires.all
+    c.if-scan-eq0-2.true c.in-InComment.is) in
+    let one : drop last (set bytes last 59) ≡ 59 ∷ [] =
+    drop-set bytes last 59 (omega (arith, a_byte))
+    ∙ ap (λ rest. 59 ∷ rest) (drop_all (last + 1) bytes (omega (arith, a_byte))) in
+    λ alone. omega (arith, ap length one)
+
+pub returns-in-InComment-clause-all : goal.returns-in-InComment-clause-all
+returns-in-InComment-clause-all c =
+    let bytes = c.args.bytes.now in
+    let last = length bytes - 1 in
+    let a_byte : 0 < length bytes - c.args.start = simp length-drop at
+    (comment_has_a_byte c.args.scan.now (drop c.args.start bytes) c.requires.started.scan_of c.requires.all
+    c.if-scan-eq0-2.true c.in-InComment.is) in
+    let one : drop last (set bytes last 59) ≡ 59 ∷ [] =
+    drop-set bytes last 59 (omega (arith, a_byte))
+    ∙ ap (λ rest. 59 ∷ rest) (drop_all (last + 1) bytes (omega (arith, a_byte))) in
+    c.in_comment.ensures.one ∙ sym (ap length one)

@@ -1,5 +1,8 @@
 -- The bytes are those of one entry, and what the parse says of them is the answer.
 use Rattle.sb_reader.proofs.Answered.{entry_is_one, takes_command, takes_refused}
+use Rattle.std.proofs.Common.{ℕ, List, length, ap, arith}
+use Rattle.std.proofs.lemmas.List.{length-drop}
+use Rattle.sb_reader.specs.Feeding.{Unanswered}
 use Rattle.sb_reader.proofs.feed.Feed.take.Goals as goal
 use Rattle.sb_reader.proofs.feed.Feed.take.Goals.{in-Ok, in-Err}
 
@@ -21,3 +24,16 @@ returns-clause-ok c =
           (takes_refused c.self.inside.kept.items c.self.inside.start c.args.end c.self.inside.finished ends
           c.in_ok-sexpr.field-0 says w.in-Err.refusal w.in-Err.is)
     ]
+
+pub invariant_of-self : goal.invariant_of-self
+invariant_of-self c =
+    record {
+      within = omega (
+        arith,
+        c.requires.within,
+        ap (λ (v : Unanswered). length v.0) c.self.view_is,
+        length-drop c.self.inside.start c.self.inside.kept.items,
+        c.self.invariant.within,
+      );
+      scan_of = c.new-self-inside.ensures.scan _;
+    }
