@@ -1,23 +1,9 @@
 -- What literals ask for: it stays as the arena grows, and its words are those that make the literals true.
-use Rattle.std.proofs.Common.{◌≡◌, ℕ, zero, suc, ◌+◌, ◌<◌, ◌≤◌, true, false, ◌&&◌, if◌then◌else◌, List, [], ◌∷◌, ◌++◌, length, get_or, map, take, Some, refl, sym, ap, ap₂, subst, ◌∙◌, arith, Result, Ok, Err, IfOk}
-use Rattle.std.specs.List.{list_all}
-use Rattle.std.proofs.lemmas.Option.{get_or_from_slice_get}
-use Rattle.std.proofs.lemmas.List.{take_more, take_all, map-append}
-use Rattle.std.proofs.lemmas.List.Elements.{All-cons, All-nil, All-push}
-use Rattle.std.proofs.lemmas.List.Folds.{list_all-map}
-use Rattle.sb_lit.specs.declared.clause.Lit.{Lit}
-use Rattle.sb_lang.specs.Regex.{Regex, and, regexes}
-use Rattle.sb_lang.specs.Language.{language}
-use Rattle.sb_lang.specs.Constructors.{mkand, mknot}
-use Rattle.sb_lang.specs.ConstructorLaws.{MkandKeepsLanguage}
-use Rattle.sb_regex.specs.Numbered.{regex_at, regexes_at, Names, AllNumbers, Extends}
-use Rattle.sb_regex.proofs.CallerLemmas.{at_kept, ats_kept, names_at, names_below, names_from, numbers_kept}
-use Rattle.sb_rulebook.specs.Atoms.{AtomOver, bool_atom}
-use Rattle.sb_atoms.specs.Numbered.{Names as NamesAtom, HaveRegexesBelow}
-use Rattle.sb_atoms.proofs.CallerLemmas.{regexes_kept}
-use Rattle.sb_clash.specs.Literals.{IsAbout, AreAbout, number_in, asked_by, asked_by_all, AreClashing}
+use Rattle.sb_clash.proofs.Words.{[], if◌then◌else◌, ◌&&◌, ◌++◌, ◌+◌, ◌<◌, ◌∙◌, ◌∷◌, ◌≡◌, ◌≤◌, List, Some, ap, ap₂, false, get_or, length, map, refl, subst, sym, take, true, ℕ, All-head, All-push, All-tail, All-take, AllNumbers, AreAbout, AreClashing, AtomOver, CanBeAsked, Explores, Extends, Findings, HaveRegexesBelow, IsAbout, IsGraph, Lit, MkandKeepsLanguage, Names, Regex, asked_by, asked_by_all, at_kept, ats_kept, bool_atom, extends_more, extends_same, list_all, mkand, mknot, names_at, names_below, names_from, number_in, numbers_kept, regex_at, regexes_at, regexes_kept, map-append, take_all, take_more, list_all-map, get_or_from_slice_get, language, GraphStays}
+use Rattle.sb_lang.specs.Regex.{and, regexes}
+use Rattle.sb_atoms.specs.Numbered as numbered
 
-pub number_at : (atoms : List (AtomOver ℕ)) (k : ℕ) (a : AtomOver ℕ) → NamesAtom atoms k a
+pub number_at : (atoms : List (AtomOver ℕ)) (k : ℕ) (a : AtomOver ℕ) → numbered.Names atoms k a
     → number_in (get_or atoms k (bool_atom 0)) ≡ number_in a
 number_at atoms k a h = ap number_in (get_or_from_slice_get atoms k a (bool_atom 0) h)
 
@@ -33,29 +19,13 @@ asked_grown rs more atoms x l e below about =
     (at_kept rs more (number_in (get_or atoms l.atom (bool_atom 0))) e
     (regex_below (length rs) atoms x l below about))
 
-pub first_about : (atoms : List (AtomOver ℕ)) (x : ℕ) (l : Lit) (ls : List Lit) → AreAbout atoms x (l ∷ ls)
-    → IsAbout atoms x l
-first_about atoms x l ls h = h 0 l (omega arith)
-
-pub rest_about : (atoms : List (AtomOver ℕ)) (x : ℕ) (l : Lit) (ls : List Lit) → AreAbout atoms x (l ∷ ls)
-    → AreAbout atoms x ls
-rest_about atoms x l ls h = λ k d m. h (suc k) d (omega (arith, m))
-
 pub all_grown : (rs more : List Regex) (atoms : List (AtomOver ℕ)) (x : ℕ) (ls : List Lit) → Extends rs more
     → HaveRegexesBelow (length rs) atoms → AreAbout atoms x ls
     → map (asked_by more atoms) ls ≡ map (asked_by rs atoms) ls
 all_grown rs more atoms x [] e below about = refl
 all_grown rs more atoms x (l ∷ ls) e below about =
-    ap₂ (λ r rest. r ∷ rest) (asked_grown rs more atoms x l e below (first_about atoms x l ls about))
-    (all_grown rs more atoms x ls e below (rest_about atoms x l ls about))
-
-pub front_about : (atoms : List (AtomOver ℕ)) (x : ℕ) (ls : List Lit) (i : ℕ) → AreAbout atoms x ls
-    → AreAbout atoms x (take i ls)
-front_about atoms x ls zero h = λ k d m. absurd (omega (arith, m))
-front_about atoms x [] (suc i) h = h
-front_about atoms x (l ∷ ls) (suc i) h =
-    All-cons (IsAbout atoms x) l (take i ls) (first_about atoms x l ls h)
-    (front_about atoms x ls i (rest_about atoms x l ls h))
+    ap₂ (λ r rest. r ∷ rest) (asked_grown rs more atoms x l e below (All-head (IsAbout atoms x) l ls about))
+    (all_grown rs more atoms x ls e below (All-tail (IsAbout atoms x) l ls about))
 
 -- what all of them ask for is the same regex where an arena grows once more
 pub meet_grown : (rs more most : List Regex) (atoms : List (AtomOver ℕ)) (x : ℕ) (ls : List Lit) → Extends rs more
@@ -100,10 +70,6 @@ pub record IsAskedSofar (rs : List Regex) (atoms : List (AtomOver ℕ)) (ls : Li
   pub known : AllNumbers rs ids
   pub are : regexes_at rs ids ≡ map (asked_by rs atoms) ls
 
-pub asked_none : (rs : List Regex) (atoms : List (AtomOver ℕ)) (ls : List Lit) (ids : List ℕ) → ids ≡ []
-    → IsAskedSofar rs atoms (take 0 ls) ids
-asked_none rs atoms ls ids none = rw none (record { known = All-nil (λ i. i < length rs); are = refl })
-
 pub asked_more : (rs more : List Regex) (atoms : List (AtomOver ℕ)) (x : ℕ) (ls : List Lit) (i : ℕ) (d : Lit)
     (ids : List ℕ) (id : ℕ) → Extends rs more → HaveRegexesBelow (length rs) atoms → AreAbout atoms x ls
     → i < length ls → IsAskedSofar rs atoms (take i ls) ids → Names more id (asked_by more atoms (get_or ls i d))
@@ -114,7 +80,7 @@ asked_more rs more atoms x ls i d ids id e below about l h names = record {
   are = map-append (regex_at more) ids (id ∷ [])
       ∙ ap₂ (λ front one. front ++ one ∷ [])
       (ats_kept rs more ids e h.known ∙ h.are
-      ∙ sym (all_grown rs more atoms x (take i ls) e below (front_about atoms x ls i about)))
+      ∙ sym (all_grown rs more atoms x (take i ls) e below (All-take (IsAbout atoms x) i ls about)))
       (names_at more id (asked_by more atoms (get_or ls i d)) names)
       ∙ sym (ap (map (asked_by more atoms)) (take_more ls i d l)
       ∙ map-append (asked_by more atoms) (take i ls) (get_or ls i d ∷ []));
@@ -141,3 +107,34 @@ pub in_all : MkandKeepsLanguage → (rs : List Regex) (atoms : List (AtomOver �
 in_all keeps rs atoms ls w =
     keeps (map (asked_by rs atoms) ls) w ∙ all_meet (map (asked_by rs atoms) ls) w
     ∙ list_all-map (λ r. language r w) (asked_by rs atoms) ls
+
+-- One word is asked for after the other.
+
+pub explores_none : {rs : List Regex} {found : Findings} → IsGraph rs found → Explores rs rs found found
+explores_none {rs} graph =
+    record { extends = extends_same rs; graph = graph; derivatives = λ n pieces h. h; marks = λ n h. h }
+
+pub explores_arena : {rs more : List Regex} {found : Findings} → GraphStays → Extends rs more → IsGraph rs found
+    → Explores rs more found found
+explores_arena {rs} {more} {found} stays e graph =
+    record { extends = e; graph = stays rs more found e graph; derivatives = λ n pieces h. h; marks = λ n h. h }
+
+pub explores_both : {rs more most : List Regex} {a b c : Findings} → Explores rs more a b → Explores more most b c
+    → Explores rs most a c
+explores_both {rs} {more} {most} p q = record {
+  extends = extends_more rs more most p.extends q.extends;
+  graph = q.graph;
+  derivatives = λ n pieces h. q.derivatives n pieces (p.derivatives n pieces h);
+  marks = λ n h. q.marks n (p.marks n h);
+}
+
+-- it may be asked for later too, and literals that clash go on clashing
+pub can_later : {rs more : List Regex} {old new : Findings} {atoms : List (AtomOver ℕ)} {x : ℕ} {ls : List Lit}
+    → Explores rs more old new → CanBeAsked rs old atoms x ls → CanBeAsked more new atoms x ls
+can_later {rs} {more} {atoms = atoms} e can =
+    record { about = can.about; regexes = regexes_kept rs more atoms e.extends can.regexes; graph = e.graph }
+
+pub clash_later : {rs more : List Regex} {old new : Findings} {atoms : List (AtomOver ℕ)} {x : ℕ} {ls : List Lit}
+    → Explores rs more old new → CanBeAsked rs old atoms x ls → AreClashing rs atoms ls → AreClashing more atoms ls
+clash_later {rs} {more} {atoms = atoms} {x = x} {ls = ls} e can h =
+    clash_grown rs more atoms x ls e.extends can.regexes can.about h

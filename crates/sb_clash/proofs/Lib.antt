@@ -1,3 +1,4 @@
+pub mod Words
 pub mod AskedFacts
 pub mod FewerFacts
 pub mod DenialFacts

@@ -1,2 +1,4 @@
+pub mod Words
 pub mod Literals
+pub mod Asked
 pub mod Denials

@@ -1,14 +1,10 @@
 -- What literals of one constant's memberships ask of its word.
 use Rattle.std.specs.Prelude.{ℕ, ◌≤◌, if◌then◌else◌, List, [], ◌∷◌, map, get_or}
 use Rattle.std.specs.List.{All, count_by}
-use Rattle.sb_lit.specs.declared.clause.Lit.{Lit}
-use Rattle.sb_lit.specs.Clauses.{is_same_literal}
-use Rattle.sb_lang.specs.Regex.{Regex}
+use Rattle.sb_clash.specs.Words.{AtomOver, Lit, Regex, bool_atom, in_atom, is_same_literal, regex_at}
 use Rattle.sb_lang.specs.Constructors.{mkand, mknot}
 use Rattle.sb_lang.specs.Language.{language}
 use Rattle.sb_lang.specs.Least.{HasNoWord}
-use Rattle.sb_regex.specs.Numbered.{regex_at}
-use Rattle.sb_rulebook.specs.Atoms.{AtomOver, bool_atom, in_atom}
 use Rattle.sb_script.specs.Pieces.{constant_piece}
 use Rattle.sb_atoms.specs.Numbered.{Names}
 

@@ -1,15 +1,13 @@
 //! What literals of memberships ask of a constant's word.
 
-ghost use Rattle.std.specs.Prelude.{◌≡◌, get_or, length, All, IfOk};
+ghost use Rattle.std.specs.Prelude.{◌≡◌, get_or, length, IfOk};
 ghost use Rattle.sb_lang.specs.Language.{language};
-ghost use Rattle.sb_regex.specs.Numbered.{Names, Extends};
-ghost use Rattle.sb_deriv.specs.Faithful.{KeepsEntries};
-ghost use Rattle.sb_graph.specs.Findings.{IsGraph, KeepsMarks};
+ghost use Rattle.sb_clash.specs.Words.{Extends, HaveRegexesBelow, bool_atom};
+ghost use Rattle.sb_regex.specs.Numbered.{Names};
 ghost use Rattle.sb_graph.specs.Witness.{IsFinding};
-ghost use Rattle.sb_rulebook.specs.Atoms.{bool_atom};
-ghost use Rattle.sb_atoms.specs.Numbered.{HaveRegexesBelow};
 ghost use Rattle.sb_clash.specs.Literals as meaning;
 ghost use Rattle.sb_clash.specs.Literals.{IsAbout, AreAbout, number_in, asked_by_all};
+ghost use Rattle.sb_clash.specs.Asked.{CanBeAsked, Explores};
 
 use sb_atoms::{Atom, AtomId, Atoms};
 use sb_graph::{Explored, Graph, graph_stays};
@@ -51,7 +49,7 @@ fn asked_by(
 
 /// The intersection of what literals of one constant's memberships ask for: the regex in which its word is where all of
 /// them are true. It takes the time of a union of so many regexes. `AllocError` only for want of memory.
-pub fn meet(
+pub(crate) fn meet(
     alloc: Global,
     arena: &mut Arena,
     atoms: &Atoms,
@@ -72,7 +70,9 @@ pub fn meet(
 }
 
 /// The shortest word that makes all of the literals of one constant's memberships true, the least by code points among
-/// the shortest, or that there is none. Its cost is that of the intersection, and of the exploration.
+/// the shortest, or that there is none: then the intersection is marked as dead where `marks` is true, as it has to be
+/// before lines deny these literals. Its cost is that of the intersection, and of [`Graph::least_word`], or else of
+/// [`Graph::answer`].
 pub fn least_word(
     alloc: Global,
     arena: &mut Arena,
@@ -80,17 +80,16 @@ pub fn least_word(
     atoms: &Atoms,
     serial: Serial,
     literals: &[Lit],
+    marks: bool,
 ) -> Result<Explored, AllocError>
-    requires about { AreAbout atoms.now serial.0 literals.now }
-    requires regexes { HaveRegexesBelow (length arena.old) atoms.now }
-    requires graph { IsGraph arena.old graph.old }
+    requires { CanBeAsked arena.old graph.old atoms.now serial.0 literals.now }
     ensures found { IfOk result (IsFinding (language (asked_by_all arena.new atoms.now literals.now))) }
-    ensures extends { Extends arena.old arena.new }
-    ensures graph { IsGraph arena.new graph.new }
-    ensures marks_stay { KeepsMarks graph.old.dead graph.new.dead }
-    ensures derivatives_stay { KeepsEntries graph.old.memo graph.new.memo }
+    ensures explores { Explores arena.old arena.new graph.old graph.new }
 {
     graph_stays();
     let root = meet(alloc, arena, atoms, serial, literals)?;
+    if marks {
+        return graph.answer(arena, root);
+    }
     graph.least_word(arena, root)
 }

@@ -1,27 +1,19 @@
 //! The clause that some literals of one constant's memberships are not all true, and its lines.
 
-ghost use Rattle.std.specs.Prelude.{◌≡◌, ◌≢◌, ℕ, ◌<◌, true, false, [], map, length, List, IfOk, OnOk};
+ghost use Rattle.std.specs.Prelude.{◌≡◌, ℕ, ◌+◌, ◌<◌, true, false, map, length, List, IfOk, OnOk};
 ghost use Rattle.std.specs.List.{list_all};
 ghost use Rattle.std.specs.List.Sorted.{IsPermutation};
-ghost use Rattle.sb_lit.specs.Clauses.{negation};
-ghost use Rattle.sb_lang.specs.Regex.{Regex};
-ghost use Rattle.sb_regex.specs.Numbered.{Extends};
-ghost use Rattle.sb_deriv.specs.Faithful.{Memo, KeepsEntries};
-ghost use Rattle.sb_graph.specs.Findings.{IsGraph, KeepsMarks};
-ghost use Rattle.sb_rulebook.specs.Atoms.{AtomOver};
-ghost use Rattle.sb_rulebook.specs.Kept.{AllKept, Asked};
+ghost use Rattle.sb_clash.specs.Words.{Ascend, AtomOver, Findings, HaveRegexesBelow, IsGraph, Regex, Traced, negation};
 ghost use Rattle.sb_rulebook.specs.LineLaws.{is_small_literal};
-ghost use Rattle.sb_sound.specs.HintLaws.{Ascend, HasNoSubset};
-ghost use Rattle.sb_atoms.specs.Numbered.{atoms_in, HaveRegexesBelow};
-ghost use Rattle.sb_trace.specs.Putting.{IsCounted, CountsTapeFault, SpendsWithin};
-ghost use Rattle.sb_trace.specs.Tracking.{Traced, Tracks, StaysNumbered};
-ghost use Rattle.sb_clash.specs.Literals.{AreAbout, AreClashing, AreSingle};
-ghost use Rattle.sb_clash.specs.Denials.{CanBeDenied, Denies};
+ghost use Rattle.sb_trace.specs.Putting.{CountsTapeFault, SpendsWithin};
+ghost use Rattle.sb_trace.specs.Tracking.{StaysNumbered};
+ghost use Rattle.sb_clash.specs.Literals.{AreSingle};
+ghost use Rattle.sb_clash.specs.Asked.{Explores};
+ghost use Rattle.sb_clash.specs.Denials.{IsDenial, CanBeDenied, Denying, Ticks, sofar};
 
 use crate::asking::meet;
 use sb_atoms::Atoms;
 use sb_graph::{Graph, graph_stays};
-use sb_lang::constructors::mkand_keeps_language;
 use sb_lit::{Budget, Clause, Lit};
 use sb_proof::{Line, Rule, Tape, TapeFault};
 use sb_regex::Arena;
@@ -71,29 +63,19 @@ pub fn put_denial<L: Tape>(
     tape: &mut L,
     budget: &mut Budget,
 ) -> Result<bool, TapeFault>
-    requires some { clause.now ≢ [] }
-    requires ascend { Ascend clause.now }
-    requires about { AreAbout atoms.now serial.0 clause.now }
-    requires clash { AreClashing arena.old atoms.now (map negation clause.now) }
+    requires denial { IsDenial arena.old atoms.now serial.0 clause.now }
     requires regexes { HaveRegexesBelow (length arena.old) atoms.now }
     requires graph { IsGraph arena.old graph.old }
-    ensures puts { IfOk result (λ done. (asked : Asked) (before : AllKept)
-        → Tracks arena.old graph.old.memo trace.old before → before.atoms ≡ atoms_in arena.old atoms.now
-        → HasNoSubset before.clauses clause.now → IsCounted asked before budget.old
-        → Denies asked before arena.new graph.new.memo trace.new atoms.now clause.now done budget.new
-        (L.Tape.told tape.old) (L.Tape.told tape.new)) }
-    ensures spent { IfOk result (λ done. done ≡ false → budget.new.spent ≡ budget.new.limit) }
-    ensures ticks { IfOk result (λ done. done ≡ true → budget.old.spent < budget.new.spent) }
+    ensures puts { IfOk result
+        (Denying (sofar arena.old graph.old trace.old budget.old (L.Tape.told tape.old))
+        (sofar arena.new graph.new trace.new budget.new (L.Tape.told tape.new)) atoms.now clause.now) }
+    ensures ticks { IfOk result (Ticks budget.old budget.new) }
     ensures steps { SpendsWithin budget.old budget.new }
     ensures stays { StaysNumbered trace.old trace.new }
-    ensures extends { Extends arena.old arena.new }
-    ensures graph { IsGraph arena.new graph.new }
-    ensures marks_stay { KeepsMarks graph.old.dead graph.new.dead }
-    ensures derivatives_stay { KeepsEntries graph.old.memo graph.new.memo }
+    ensures explores { Explores arena.old arena.new graph.old graph.new }
     ensures counts { CountsTapeFault result (L.Tape.faults tape.old) (L.Tape.faults tape.new) }
 {
     graph_stays();
-    mkand_keeps_language();
     let literals = opposite(alloc, clause.literals())?;
     let root = meet(alloc, arena, atoms, serial, &literals)?;
     match trace.explore(arena, graph, root, tape, budget)? {
@@ -110,24 +92,34 @@ fn put_line<L: Tape>(
     tape: &mut L,
     budget: &mut Budget,
 ) -> Result<bool, TapeFault>
-    requires some { clause.now ≢ [] }
-    requires ascend { Ascend clause.now }
-    ensures puts { IfOk result (λ done. (asked : Asked) (before : AllKept) (rs : List Regex) (memo : Memo) (t : Traced)
-        (atoms : List (AtomOver ℕ)) → CanBeDenied rs t atoms clause.now → Tracks rs memo t before
-        → before.atoms ≡ atoms_in rs atoms → HasNoSubset before.clauses clause.now → IsCounted asked before budget.old
-        → Denies asked before rs memo t atoms clause.now done budget.new (L.Tape.told tape.old) (L.Tape.told tape.new)) }
-    ensures spent { IfOk result (λ done. done ≡ false → budget.new.spent ≡ budget.new.limit) }
-    ensures ticks { IfOk result (λ done. done ≡ true → budget.old.spent < budget.new.spent) }
+    ensures puts { IfOk result (λ done. (rs : List Regex) (g : Findings) (t : Traced) (atoms : List (AtomOver ℕ))
+        → CanBeDenied rs t atoms clause.now → Denying (sofar rs g t budget.old (L.Tape.told tape.old))
+        (sofar rs g t budget.new (L.Tape.told tape.new)) atoms clause.now done) }
+    ensures ticks { IfOk result (Ticks budget.old budget.new) }
     ensures steps { SpendsWithin budget.old budget.new }
     ensures counts { CountsTapeFault result (L.Tape.faults tape.old) (L.Tape.faults tape.new) }
 {
     rule_lines_are_exact();
-    if budget.tick().is_err() {
+    if !tick(budget) {
         return Ok(false);
     }
     let literals = copied(alloc, clause.literals())?;
     tape.put(&Line::Rule(Rule::Empty, literals))?;
     Ok(true)
+}
+
+/// Spends a step, if one is left. Takes no memory.
+pub fn tick(budget: &mut Budget) -> bool
+    ensures ticks { Ticks budget.old budget.new result }
+    ensures one { result ≡ true
+        → (budget.old.spent < budget.old.limit) × (budget.new ≡ record budget.old { spent = budget.old.spent + 1 }) }
+    ensures none { result ≡ false → budget.new ≡ budget.old }
+    ensures steps { SpendsWithin budget.old budget.new }
+{
+    if budget.tick().is_err() {
+        return false;
+    }
+    true
 }
 
 /// The literals, of which each has a text.

@@ -1,15 +1,12 @@
 //! A few literals that no word makes true together.
 
-ghost use Rattle.std.specs.Prelude.{◌≡◌, ◌<◌, ◌+◌, true, false, length, IfOk, OnOk, IfSome};
-ghost use Rattle.sb_regex.specs.Numbered.{Extends};
-ghost use Rattle.sb_deriv.specs.Faithful.{KeepsEntries};
-ghost use Rattle.sb_graph.specs.Findings.{IsGraph, KeepsMarks};
-ghost use Rattle.sb_atoms.specs.Numbered.{HaveRegexesBelow};
-ghost use Rattle.sb_clash.specs.Literals.{AreAbout, AreClashing, AreFewer};
+ghost use Rattle.std.specs.Prelude.{◌≡◌, ◌<◌, ◌+◌, true, false, length, IfOk, IfSome};
+ghost use Rattle.sb_clash.specs.Literals.{AreClashing};
+ghost use Rattle.sb_clash.specs.Asked.{CanBeAsked, Explores, IsCore, LeavesOut};
 
 use crate::asking::least_word;
 use sb_atoms::Atoms;
-use sb_graph::{Explored, Graph, graph_stays};
+use sb_graph::{Explored, Graph};
 use sb_lit::Lit;
 use sb_regex::Arena;
 use sb_term::Serial;
@@ -29,27 +26,16 @@ pub fn core(
     serial: Serial,
     literals: &[Lit],
 ) -> Result<Vec<Lit>, AllocError>
-    requires about { AreAbout atoms.now serial.0 literals.now }
-    requires regexes { HaveRegexesBelow (length arena.old) atoms.now }
-    requires graph { IsGraph arena.old graph.old }
+    requires can { CanBeAsked arena.old graph.old atoms.now serial.0 literals.now }
     requires clash { AreClashing arena.old atoms.now literals.now }
-    ensures fewer { IfOk result (λ few. AreFewer few.items literals.now) }
-    ensures clash { IfOk result (λ few. AreClashing arena.new atoms.now few.items) }
-    ensures extends { Extends arena.old arena.new }
-    ensures graph { IsGraph arena.new graph.new }
-    ensures marks_stay { KeepsMarks graph.old.dead graph.new.dead }
-    ensures derivatives_stay { KeepsEntries graph.old.memo graph.new.memo }
+    ensures few { IfOk result (λ few. IsCore arena.new atoms.now literals.now few.items) }
+    ensures explores { Explores arena.old arena.new graph.old graph.new }
 {
-    graph_stays();
-    if let Some(pair) = pair_with_last(alloc, arena, graph, atoms, serial, literals)? {
-        return Ok(pair);
+    let found = pair_with_last(alloc, arena, graph, atoms, serial, literals)?;
+    match found {
+        Some(pair) => Ok(pair),
+        None => leave_out(alloc, arena, graph, atoms, serial, literals),
     }
-    let mut left = Vec::from_slice(alloc, literals)?;
-    if left.len() > MOST_TRIED {
-        return Ok(left);
-    }
-    leave_out(alloc, arena, graph, atoms, serial, &mut left)?;
-    Ok(left)
 }
 
 /// The last literal and another one that clash, if there are such.
@@ -61,15 +47,9 @@ fn pair_with_last(
     serial: Serial,
     literals: &[Lit],
 ) -> Result<Option<Vec<Lit>>, AllocError>
-    requires about { AreAbout atoms.now serial.0 literals.now }
-    requires regexes { HaveRegexesBelow (length arena.old) atoms.now }
-    requires graph { IsGraph arena.old graph.old }
-    ensures fewer { IfOk result (λ found. IfSome found (λ few. AreFewer few.items literals.now)) }
-    ensures clash { IfOk result (λ found. IfSome found (λ few. AreClashing arena.new atoms.now few.items)) }
-    ensures extends { Extends arena.old arena.new }
-    ensures graph { IsGraph arena.new graph.new }
-    ensures marks_stay { KeepsMarks graph.old.dead graph.new.dead }
-    ensures derivatives_stay { KeepsEntries graph.old.memo graph.new.memo }
+    requires { CanBeAsked arena.old graph.old atoms.now serial.0 literals.now }
+    ensures few { IfOk result (λ found. IfSome found (λ few. IsCore arena.new atoms.now literals.now few.items)) }
+    ensures explores { Explores arena.old arena.new graph.old graph.new }
 {
     let Some(last) = literals.len().checked_sub(1) else {
         return Ok(None);
@@ -94,48 +74,42 @@ fn clash(
     serial: Serial,
     literals: &[Lit],
 ) -> Result<bool, AllocError>
-    requires about { AreAbout atoms.now serial.0 literals.now }
-    requires regexes { HaveRegexesBelow (length arena.old) atoms.now }
-    requires graph { IsGraph arena.old graph.old }
+    requires { CanBeAsked arena.old graph.old atoms.now serial.0 literals.now }
     ensures clash { IfOk result (λ b. b ≡ true → AreClashing arena.new atoms.now literals.now) }
-    ensures extends { Extends arena.old arena.new }
-    ensures graph { IsGraph arena.new graph.new }
-    ensures marks_stay { KeepsMarks graph.old.dead graph.new.dead }
-    ensures derivatives_stay { KeepsEntries graph.old.memo graph.new.memo }
+    ensures explores { Explores arena.old arena.new graph.old graph.new }
 {
-    match least_word(alloc, arena, graph, atoms, serial, literals)? {
+    match least_word(alloc, arena, graph, atoms, serial, literals, false)? {
         Explored::Dead => Ok(true),
         Explored::Alive(_) => Ok(false),
     }
 }
 
-/// Leaves out each literal in turn without which the others clash.
+/// What is left of the literals once each is left out in turn without which the others clash, where there are at most
+/// 32; else all of them.
 fn leave_out(
     alloc: Global,
     arena: &mut Arena,
     graph: &mut Graph,
     atoms: &Atoms,
     serial: Serial,
-    left: &mut Vec<Lit>,
-) -> Result<(), AllocError>
-    requires about { AreAbout atoms.now serial.0 left.old.items }
-    requires regexes { HaveRegexesBelow (length arena.old) atoms.now }
-    requires graph { IsGraph arena.old graph.old }
-    requires clash { AreClashing arena.old atoms.now left.old.items }
-    ensures fewer { OnOk result (AreFewer left.new.items left.old.items) }
-    ensures clash { OnOk result (AreClashing arena.new atoms.now left.new.items) }
-    ensures extends { Extends arena.old arena.new }
-    ensures graph { IsGraph arena.new graph.new }
-    ensures marks_stay { KeepsMarks graph.old.dead graph.new.dead }
-    ensures derivatives_stay { KeepsEntries graph.old.memo graph.new.memo }
+    literals: &[Lit],
+) -> Result<Vec<Lit>, AllocError>
+    requires can { CanBeAsked arena.old graph.old atoms.now serial.0 literals.now }
+    requires clash { AreClashing arena.old atoms.now literals.now }
+    ensures few { IfOk result (λ few. IsCore arena.new atoms.now literals.now few.items) }
+    ensures explores { Explores arena.old arena.new graph.old graph.new }
 {
+    let mut left = Vec::from_slice(alloc, literals)?;
+    if left.len() > MOST_TRIED {
+        return Ok(left);
+    }
     let mut place = 0;
     while place < left.len() {
-        if !leaves_out(alloc, arena, graph, atoms, serial, left, place)? {
+        if !leaves_out(alloc, arena, graph, atoms, serial, &mut left, place)? {
             place += 1;
         }
     }
-    Ok(())
+    Ok(left)
 }
 
 /// Leaves out the literal at a place where the others clash without it. Whether it was left out.
@@ -149,19 +123,11 @@ fn leaves_out(
     place: usize,
 ) -> Result<bool, AllocError>
     requires place { place < length left.old.items }
-    requires about { AreAbout atoms.now serial.0 left.old.items }
-    requires regexes { HaveRegexesBelow (length arena.old) atoms.now }
-    requires graph { IsGraph arena.old graph.old }
-    ensures fewer { OnOk result (AreFewer left.new.items left.old.items) }
-    ensures about { OnOk result (AreAbout atoms.now serial.0 left.new.items) }
-    ensures clash { OnOk result
-        (AreClashing arena.old atoms.now left.old.items → AreClashing arena.new atoms.now left.new.items) }
-    ensures shorter { IfOk result (λ out. out ≡ true → length left.new.items + 1 ≡ length left.old.items) }
-    ensures same { IfOk result (λ out. out ≡ false → left.new.items ≡ left.old.items) }
-    ensures extends { Extends arena.old arena.new }
-    ensures graph { IsGraph arena.new graph.new }
-    ensures marks_stay { KeepsMarks graph.old.dead graph.new.dead }
-    ensures derivatives_stay { KeepsEntries graph.old.memo graph.new.memo }
+    requires can { CanBeAsked arena.old graph.old atoms.now serial.0 left.old.items }
+    requires clash { AreClashing arena.old atoms.now left.old.items }
+    ensures ok { IfOk result
+        (LeavesOut arena.new graph.new atoms.now serial.0 left.old.items left.new.items) }
+    ensures explores { Explores arena.old arena.new graph.old graph.new }
 {
     let mut others = Vec::from_slice(alloc, left)?;
     others.remove(place);

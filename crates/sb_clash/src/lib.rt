@@ -10,6 +10,6 @@ mod asking;
 mod denying;
 mod few;
 
-pub use asking::{least_word, meet};
-pub use denying::{denial, put_denial};
+pub use asking::least_word;
+pub use denying::{denial, put_denial, tick};
 pub use few::core;

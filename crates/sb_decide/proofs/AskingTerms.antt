@@ -1,17 +1,6 @@
 -- Terms that ask something of one constant's word, among others: which they are, and which constants they speak of.
-use Rattle.std.proofs.Common.{◌≡◌, ℕ, Bool, true, false, ◌==◌, Option, Some, None, List, [], ◌∷◌, if◌then◌else◌, refl, sym, ap, subst, ◌∙◌}
-use Rattle.std.proofs.lemmas.Bool.{and_parts, eqb-true, false≢true}
-use Rattle.std.specs.List.{list_all}
-use Rattle.sb_meaning.specs.Terms.{Sort, Term, text, constant}
-use Rattle.sb_script.specs.Fragment.{fits}
-use Rattle.sb_script.specs.Models.{occurs, is_about, about, is_plain_term, is_plain_assertion}
-use Rattle.sb_script.specs.State.{Assertion, asserted, a_mark, terms_in}
-use Rattle.sb_stack.specs.Speaking.{speaks_of}
-use Rattle.sb_meaning.specs.Values.{Text}
-use Rattle.sb_meaning.specs.Truth.{all_hold}
-use Rattle.sb_decide.specs.Deciding.{asking, words_asked}
-use Rattle.sb_decide.specs.Demands.{demanded, is_demand}
-use Rattle.sb_decide.specs.Places.{asks_of, is_member}
+use Rattle.std.proofs.Common.{◌≡◌, ℕ, Bool, true, false, not, ◌||◌, ◌&&◌, ◌==◌, Option, Some, None, List, [], ◌∷◌, if◌then◌else◌, refl, sym, ap, subst, ◌∙◌}
+use Rattle.sb_decide.proofs.Words.{Assertion, Sort, Term, Text, Valuation, a_mark, about, all_hold, and_parts, asking, asks_of, asserted, constant, demanded, eqb-true, false≢true, fits, holds, is_about, is_demand, is_member, is_plain_assertion, is_plain_term, list_all, occurs, speaks_of, terms_in, text, words_asked}
 use Rattle.sb_decide.proofs.DemandFacts.{demand_in, demanded_about, demanded_occurs, demanded_speaks}
 
 -- it asks something of this constant alone
@@ -30,6 +19,18 @@ pub words_apart : (n : ℕ) (t : Term) (ts : List Term) (w : List ℕ) → asks_
     → words_asked n (t ∷ ts) w ≡ words_asked n ts w
 words_apart n t ts w e =
     ap (λ (b : Bool). all_hold (if b then t ∷ asking n ts else asking n ts) ((n, Text w) ∷ [])) e
+
+-- those that ask something are true where each one is true or asks nothing
+pub asking_all : (n : ℕ) (ts : List Term) (v : Valuation)
+    → all_hold (asking n ts) v ≡ list_all (λ t. not (asks_of n t) || holds t v) ts
+asking_all n [] v = refl
+asking_all n (t ∷ ts) v = by (asks_of n t) (asking_all n ts v)
+  where
+    by : (b : Bool) → all_hold (asking n ts) v ≡ list_all (λ u. not (asks_of n u) || holds u v) ts
+        → all_hold (if b then t ∷ asking n ts else asking n ts) v
+        ≡ ((not b || holds t v) && list_all (λ u. not (asks_of n u) || holds u v) ts)
+    by true e = ap (λ b. holds t v && b) e
+    by false e = e
 
 -- What a term asks of a constant's word.
 pub record IsAskedOf (n : ℕ) (t : Term) : Type 0 where
@@ -51,28 +52,15 @@ asks_in n t h = step (demanded t) refl h
 pub asked_speaks : (ns : List (ℕ × Sort)) (n : ℕ) (ts : List Term) (w : List ℕ) → list_all (speaks_of ns) ts ≡ true
     → words_asked n ts w ≡ false → speaks_of ns (constant n text) ≡ true
 asked_speaks ns n [] w named h = absurd (false≢true (sym h))
-asked_speaks ns n (t ∷ ts) w named h =
-    step (demanded t) refl (asked_speaks ns n ts w (and_parts (speaks_of ns t) (list_all (speaks_of ns) ts) named).1)
+asked_speaks ns n (t ∷ ts) w named h = by (asks_of n t) refl (asked_speaks ns n ts w parts.1)
   where
-    here : speaks_of ns t ≡ true
-    here = (and_parts (speaks_of ns t) (list_all (speaks_of ns) ts) named).0
+    parts : (speaks_of ns t ≡ true) × (list_all (speaks_of ns) ts ≡ true)
+    parts = and_parts (speaks_of ns t) (list_all (speaks_of ns) ts) named
 
-    none : (o : Option (ℕ × Term)) → demanded t ≡ o
-        → elim o as (λ _. Bool) [ Some p ↦ n == p.0 | None ↦ false ] ≡ false → words_asked n ts w ≡ false
-    none o is other =
-        sym (words_apart n t ts w
-        (ap (λ (x : Option (ℕ × Term)). elim x as (λ _. Bool) [ Some p ↦ n == p.0 | None ↦ false ]) is ∙ other)) ∙ h
-
-    same : (serial : ℕ) (R : Term) (b : Bool) → (n == serial) ≡ b → demanded t ≡ Some (serial, R)
-        → (words_asked n ts w ≡ false → speaks_of ns (constant n text) ≡ true) → speaks_of ns (constant n text) ≡ true
-    same serial R true is asks later =
-        ap (λ m. speaks_of ns (constant m text)) (eqb-true n serial is) ∙ demanded_speaks ns t serial R asks here
-    same serial R false is asks later = later (none (Some (serial, R)) asks is)
-
-    step : (o : Option (ℕ × Term)) → demanded t ≡ o
-        → (words_asked n ts w ≡ false → speaks_of ns (constant n text) ≡ true) → speaks_of ns (constant n text) ≡ true
-    step None is later = later (none None is refl)
-    step (Some p) is later = same p.0 p.1 (n == p.0) refl is later
+    by : (b : Bool) → asks_of n t ≡ b → (words_asked n ts w ≡ false → speaks_of ns (constant n text) ≡ true)
+        → speaks_of ns (constant n text) ≡ true
+    by true e later = let one = asks_in n t e in demanded_speaks ns t n one.expression one.asks parts.0
+    by false e later = later (sym (words_apart n t ts w e) ∙ h)
 
 -- a term in which the constant does not occur asks nothing of it
 pub occurs_not : (n : ℕ) (t : Term) → occurs n t ≡ false → asks_of n t ≡ false

@@ -1,21 +1,9 @@
 -- The words that regexes have in common.
 use Rattle.std.proofs.Common.{◌≡◌, ◌≢◌, ℕ, ◌<◌, true, ◌&&◌, List, [], ◌∷◌, ◌++◌, length, refl, sym, ap, ◌∙◌, arith}
-use Rattle.std.proofs.Math.Bool.{and-true, and_assoc}
-use Rattle.std.specs.List.{list_all}
-use Rattle.std.proofs.lemmas.List.Elements.{All-head, All-tail}
+use Rattle.sb_decide.proofs.Words.{All-head, All-tail, AllNumbers, Extends, HasNoWord, IntersectionIsOfEach, IsShortestLeast, IsWord, Language, MkandKeepsLanguage, Names, Regex, and-true, and_assoc, are_characters, at_kept, in_each, language, list_all, mkand, names_at, regex_at, regexes_at}
 use Rattle.std.specs.Ordering.{nat_cmp}
 use Rattle.std.specs.Cmp.Lexicographic.{slice_cmp}
 use Rattle.std.specs.declared.cmp.Ordering.TheVariants.{Less}
-use Rattle.sb_word.specs.Words.{IsWord, are_characters}
-use Rattle.sb_lang.specs.Languages.{Language}
-use Rattle.sb_lang.specs.Least.{IsShortestLeast, HasNoWord}
-use Rattle.sb_lang.specs.Language.{language}
-use Rattle.sb_lang.specs.Regex.{Regex}
-use Rattle.sb_lang.specs.Constructors.{mkand}
-use Rattle.sb_lang.specs.ConstructorLaws.{MkandKeepsLanguage, IntersectionIsOfEach}
-use Rattle.sb_regex.specs.Numbered.{regex_at, regexes_at, AllNumbers, Extends, Names}
-use Rattle.sb_decide.specs.Deciding.{in_each}
-use Rattle.sb_regex.proofs.CallerLemmas.{at_kept, names_at}
 
 pub in_each-append : (rs : List Regex) (ids : List ℕ) (id : ℕ) (w : List ℕ)
     → in_each rs (ids ++ id ∷ []) w ≡ (in_each rs ids w && language (regex_at rs id) w)

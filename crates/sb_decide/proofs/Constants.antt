@@ -1,18 +1,8 @@
 -- Constants by their place, with the places of their memberships.
-use Rattle.std.proofs.Common.{◌≡◌, ◌≢◌, ℕ, zero, suc, ◌+◌, ◌-◌, ◌<◌, ◌≤◌, Bool, true, false, ◌||◌, ◌==◌, List, [], ◌∷◌, ◌++◌, length, get_or, set, slice_get, take, refl, sym, ap, ◌∙◌, arith, length-append, Option, Some}
-use Rattle.std.proofs.lemmas.Bool.{and_parts, and_from, or_parts, eqb-true, eqb-false}
-use Rattle.std.proofs.lemmas.Bool.Decides.{nat_tests}
-use Rattle.std.proofs.lemmas.List.{take_all, take_more}
-use Rattle.std.proofs.lemmas.Option.{get_or_from_slice_get, slice_get_within}
-use Rattle.std.proofs.Math.Seq.{take-append_seam}
-use Rattle.sb_word.specs.Words.{are_characters}
-use Rattle.sb_stack.specs.Stacked.{are_words}
-use Rattle.sb_term.specs.declared.term.Serial.{Serial}
-use Rattle.sb_decide.specs.declared.conjuncts.Member.{Member}
-use Rattle.sb_decide.specs.Conjoined.{Conjoined, without_last, with_place, without_place, conjoined_at, is_settled, is_listed, RestSettled, IsChangedAt}
-use Rattle.sb_decide.specs.Deciding.{word_at}
-use Rattle.sb_decide.specs.Members.{places_in}
-use Rattle.sb_decide.proofs.MemberFacts.{places_here, places_other}
+use Rattle.std.proofs.Common.{◌≡◌, ◌≢◌, ℕ, zero, suc, ◌+◌, ◌-◌, ◌<◌, ◌≤◌, Bool, true, false, ◌||◌, ◌==◌, List, [], ◌∷◌, ◌++◌, length, get_or, set, slice_get, take, refl, sym, ap, subst, ◌∙◌, arith, length-append, Option, Some, None, append-nil, if◌then◌else◌}
+use Rattle.std.proofs.lemmas.List.Folds.{list_any_at}
+use Rattle.sb_decide.proofs.Words.{All, Conjoined, IsChangedAt, Member, RestSettled, Serial, and_from, and_parts, are_characters, are_words, conjoined_at, eq-eqb, eqb-false, eqb-true, false≢true, get_or_from_slice_get, is_listed, is_settled, nat_tests, or_parts, places_in, slice_get_within, take-append_seam, take_all, take_more, with_place, without_last, without_place, word_at}
+use Rattle.sb_decide.proofs.MemberFacts.{by_number, places_here, places_other}
 
 pub conjoined_within : (cs : List Conjoined) (n : ℕ) (c : Conjoined) → n < length cs → c ≡ get_or cs n c
     → conjoined_at cs n ≡ c
@@ -64,7 +54,20 @@ conjoined_set_other (x ∷ cs) zero (suc n) c h = refl
 conjoined_set_other (x ∷ cs) (suc i) zero c h = refl
 conjoined_set_other (x ∷ cs) (suc i) (suc n) c h = conjoined_set_other cs i n c (λ e. h (ap suc e))
 
--- constants in a list, and the last one
+-- constants in a list, what holds of each of them, and the last one
+pub listed_at : (xs : List Serial) (k : ℕ) (d : Serial) → k < length xs → is_listed xs (get_or xs k d).0 ≡ true
+listed_at xs k d l = list_any_at (λ (x : Serial). x.0 == (get_or xs k d).0) xs k d l (eq-eqb _ _ refl)
+
+pub listed_all : (P : ℕ → Type 0) (xs : List Serial) (n : ℕ) → All (λ serial. P serial.0) xs → is_listed xs n ≡ true
+    → P n
+listed_all P [] n all h = absurd (false≢true h)
+listed_all P (x ∷ xs) n all h =
+    by (x.0 == n) refl h (listed_all P xs n (λ k d l. all (suc k) d (omega (arith, l))))
+  where
+    by : (b : Bool) → (x.0 == n) ≡ b → (b || is_listed xs n) ≡ true → (is_listed xs n ≡ true → P n) → P n
+    by true e k later = subst P (eqb-true x.0 n e) (all 0 x (omega arith))
+    by false e k later = later k
+
 pub listed_last : (rest : List Serial) (last : Serial) (n : ℕ) → is_listed rest n ≡ false → n ≢ last.0
     → is_listed (rest ++ last ∷ []) n ≡ false
 listed_last [] last n h other = ap (λ b. b || false) (differs last.0 n (λ e. other (sym e)))
@@ -89,35 +92,49 @@ pub unlisted : (cs : List Conjoined) (xs rest : List Serial) (last serial : Seri
     → slice_get xs (length xs - 1) ≡ Some last → last.0 ≡ serial.0 → rest ≡ take (length xs - 1) xs
     → is_settled (conjoined_at cs serial.0) ≡ true → (left : List Serial) → RestSettled left xs cs
     → RestSettled left rest cs
-unlisted cs xs rest last serial there same is has left settled = λ n none h. by_test n none h (n == serial.0) refl
-  where
-    by_test : (n : ℕ) → is_listed left n ≡ false → is_listed rest n ≡ false → (b : Bool) → (n == serial.0) ≡ b
-        → is_settled (conjoined_at cs n) ≡ true
-    by_test n none h true t = ap (λ i. is_settled (conjoined_at cs i)) (eqb-true n serial.0 t) ∙ has
-    by_test n none h false t =
-        settled n none (ap (λ ss. is_listed ss n) (with_last xs last there)
-        ∙ listed_last (take (length xs - 1) xs) last n (ap (λ ss. is_listed ss n) (sym is) ∙ h)
-        (λ e. eqb-false n serial.0 t (e ∙ same)))
+unlisted cs xs rest last serial there same is has left settled =
+    by_number (λ n. is_listed left n ≡ false → is_listed rest n ≡ false → is_settled (conjoined_at cs n) ≡ true)
+    serial.0 (λ _ _. has) (λ n other none h.
+    settled n none (ap (λ ss. is_listed ss n) (with_last xs last there)
+    ∙ listed_last (take (length xs - 1) xs) last n (ap (λ ss. is_listed ss n) (sym is) ∙ h) (λ e. other (e ∙ same))))
 
--- the places of a constant's memberships, with one more
-pub places_put : (old new : List Conjoined) (ms : List (Option Member)) (m : Member) (n : ℕ)
-    → ((k : ℕ) → (conjoined_at old k).places ≡ places_in 0 k ms)
-    → IsChangedAt old new m.serial.0 (with_place (length ms) (conjoined_at old m.serial.0))
-    → (conjoined_at new n).places ≡ places_in 0 n (ms ++ Some m ∷ [])
-places_put old new ms m n places p = by_test (n == m.serial.0) refl
+-- what a change of one constant leaves as it was
+pub changed_by : {A : Type 0} (f : Conjoined → A) (old new : List Conjoined) (serial : ℕ) (c : Conjoined)
+    → IsChangedAt old new serial c → f c ≡ f (conjoined_at old serial) → (n : ℕ)
+    → f (conjoined_at new n) ≡ f (conjoined_at old n)
+changed_by f old new serial c p same =
+    by_number (λ n. f (conjoined_at new n) ≡ f (conjoined_at old n)) serial (ap f p.there ∙ same)
+    (λ n other. ap f (p.others n other))
+
+-- One more is taken in, at the place.
+pub record IsPut (o : Option Member) (place : ℕ) (old new : List Conjoined) : Type 0 where
+  pub long : length new ≡ length old
+  pub places : (n : ℕ) → (conjoined_at new n).places ≡ (conjoined_at old n).places ++ places_in place n (o ∷ [])
+  pub known : (n : ℕ) → (conjoined_at new n).known ≡ (conjoined_at old n).known
+
+pub put_none : (place : ℕ) (cs : List Conjoined) → IsPut None place cs cs
+put_none place cs =
+    record { long = refl; places = λ n. sym (append-nil (conjoined_at cs n).places); known = λ n. refl }
+
+pub put_some : (m : Member) (place : ℕ) (old new : List Conjoined)
+    → IsChangedAt old new m.serial.0 (with_place place (conjoined_at old m.serial.0)) → IsPut (Some m) place old new
+put_some m place old new p = record {
+  long = p.same_length;
+  places = λ n. by_test n (n == m.serial.0) refl;
+  known = λ n. changed_by (λ c. c.known) old new m.serial.0 (with_place place (conjoined_at old m.serial.0)) p refl n;
+}
   where
-    by_test : (b : Bool) → (n == m.serial.0) ≡ b → (conjoined_at new n).places ≡ places_in 0 n (ms ++ Some m ∷ [])
-    by_test true k =
-        let e : n ≡ m.serial.0 = eqb-true n m.serial.0 k in
-        ap (λ i. (conjoined_at new i).places) e
+    by_test : (n : ℕ) (b : Bool) → (n == m.serial.0) ≡ b
+        → (conjoined_at new n).places ≡ (conjoined_at old n).places ++ (if b then place ∷ [] else [])
+    by_test n true t =
+        ap (λ i. (conjoined_at new i).places) (eqb-true n m.serial.0 t)
         ∙ (ap (λ (c : Conjoined). c.places) p.there
-        ∙ (ap (λ ps. ps ++ length ms ∷ []) (places m.serial.0)
-        ∙ (sym (places_here m.serial.0 ms m refl) ∙ ap (λ i. places_in 0 i (ms ++ Some m ∷ [])) (sym e))))
-    by_test false k =
-        let e : n ≢ m.serial.0 = eqb-false n m.serial.0 k in
-        ap (λ (c : Conjoined). c.places) (p.others n e) ∙ (places n ∙ sym (places_other n ms m e))
+        ∙ ap (λ i. (conjoined_at old i).places ++ place ∷ []) (sym (eqb-true n m.serial.0 t)))
+    by_test n false t =
+        ap (λ (c : Conjoined). c.places) (p.others n (eqb-false n m.serial.0 t))
+        ∙ sym (append-nil (conjoined_at old n).places)
 
--- and with one less
+-- the places of a constant's memberships, with one less
 pub last_gone : (places : List ℕ) (place : ℕ) → without_last (places ++ place ∷ []) ≡ places
 last_gone places place =
     let long : length (places ++ place ∷ []) - 1 ≡ length places = omega (arith, length-append places (place ∷ [])) in
@@ -127,15 +144,9 @@ pub places_back : (old new : List Conjoined) (ms : List (Option Member)) (m : Me
     → ((k : ℕ) → (conjoined_at old k).places ≡ places_in 0 k (ms ++ Some m ∷ []))
     → IsChangedAt old new m.serial.0 (without_place (conjoined_at old m.serial.0))
     → (conjoined_at new n).places ≡ places_in 0 n ms
-places_back old new ms m n places p = by_test (n == m.serial.0) refl
-  where
-    by_test : (b : Bool) → (n == m.serial.0) ≡ b → (conjoined_at new n).places ≡ places_in 0 n ms
-    by_test true k =
-        let e : n ≡ m.serial.0 = eqb-true n m.serial.0 k in
-        ap (λ i. (conjoined_at new i).places) e
-        ∙ (ap (λ (c : Conjoined). c.places) p.there
-        ∙ (ap without_last (places m.serial.0 ∙ places_here m.serial.0 ms m refl)
-        ∙ (last_gone (places_in 0 m.serial.0 ms) (length ms) ∙ ap (λ i. places_in 0 i ms) (sym e))))
-    by_test false k =
-        let e : n ≢ m.serial.0 = eqb-false n m.serial.0 k in
-        ap (λ (c : Conjoined). c.places) (p.others n e) ∙ (places n ∙ places_other n ms m e)
+places_back old new ms m n places p =
+    by_number (λ k. (conjoined_at new k).places ≡ places_in 0 k ms) m.serial.0
+    (ap (λ (c : Conjoined). c.places) p.there
+    ∙ (ap without_last (places m.serial.0 ∙ places_here m.serial.0 ms m refl)
+    ∙ last_gone (places_in 0 m.serial.0 ms) (length ms)))
+    (λ k e. ap (λ (c : Conjoined). c.places) (p.others k e) ∙ (places k ∙ places_other k ms m e)) n

@@ -1,37 +1,13 @@
 -- Terms that demand something of one constant's word: they ask for it, or are the denial of a term that does. Which
 -- constant stands in them, what they mean, when they are decided ones, and the regexes that they demand.
 use Rattle.std.proofs.Common.{◌≡◌, ℕ, Bool, true, false, ◌&&◌, ◌||◌, ◌==◌, nat_lt, Option, Some, None, option_map, not, List, [], ◌∷◌, length, if◌then◌else◌, refl, sym, ap, subst, ◌∙◌}
-use Rattle.std.proofs.lemmas.Bool.{and_parts, and_from, or_parts, false≢true}
-use Rattle.std.proofs.Math.Bool.{and-true}
-use Rattle.sb_lang.specs.RegLan.{RegLan, re_comp}
-use Rattle.sb_lang.specs.Membership.{in_re}
-use Rattle.sb_lang.specs.Regex.{Regex}
-use Rattle.sb_lang.specs.Constructors.{mknot}
-use Rattle.sb_lang.specs.Normal.{normal}
-use Rattle.sb_regex.specs.Numbered.{Names, regex_at}
-use Rattle.sb_regex.proofs.CallerLemmas.{names_at}
-use Rattle.sb_meaning.specs.Terms.{Sort, Term, text, constant, apply, no_terms, with_term, terms_of}
-use Rattle.sb_meaning.specs.Terms as symbol
-use Rattle.sb_meaning.specs.Values.{Valuation, Text, value_in}
-use Rattle.sb_meaning.specs.Truth.{Meaning, means_word, means_number, means_truth, means_reglan, all_true, truth_in, applied, meaning_of, holds}
-use Rattle.sb_script.specs.Brought.{asked, membership_of, is_regex, is_structure}
-use Rattle.sb_script.specs.Fragment.{fits}
+use Rattle.sb_decide.proofs.Words.{IsAsking, IsNumberOf, IsRegexOf, Meaning, Names, RegLan, Regex, Sort, Term, Text, Valuation, a_membership, a_word_behind, a_word_in_front, all_true, and-false, and-true, and_from, and_parts, applied, apply, asked, asked_holds, asked_looks, asked_occurs, asked_regular, asked_structure, asserted, complement_of, constant, demanded, expression_in, false≢true, fits, has_serials_below, holds, in_re, is_about, is_decided, is_demand, is_of_constant, is_plain_term, is_regex, is_structure, meaning_of, means_number, means_reglan, means_truth, means_word, membership_of, mknot, names_at, negation_of, no_terms, normal, occurs, or_parts, pattern_in, re_comp, regex_at, speaks_of, terms_at, terms_of, text, truth_in, value_in, with_term, none-some}
 use Rattle.sb_script.specs.Sizes.{is_regular}
-use Rattle.sb_script.specs.State.{asserted}
-use Rattle.sb_script.specs.Models.{occurs, is_about, is_of_constant, is_plain_term}
-use Rattle.sb_script.proofs.CallerLemmas.{IsAsking, a_membership, a_word_behind, a_word_in_front, asked_looks, asked_holds, asked_occurs, asked_regular}
-use Rattle.sb_term.specs.Numbered.{terms_at}
-use Rattle.sb_term.specs.Serials.{has_serials_below}
 use Rattle.sb_term.specs.Symbols.{symbol_in}
 use Rattle.sb_term.specs.declared.sort.Symbol.{Symbol}
-use Rattle.sb_term.specs.declared.sort.Symbol.TheVariants as code
-use Rattle.sb_fragment.specs.Rules.{is_decided}
-use Rattle.sb_fragment.proofs.CallerLemmas.{asked_structure}
-use Rattle.sb_problem.specs.Normals.{IsRegexOf, IsNumberOf}
-use Rattle.sb_problem.specs.Patterns.{pattern_in}
-use Rattle.sb_stack.specs.Speaking.{speaks_of}
 use Rattle.sb_decide.specs.declared.demand.Demand.{Demand}
-use Rattle.sb_decide.specs.Demands.{negation_of, complement_of, demanded, is_demand, expression_in}
+use Rattle.sb_meaning.specs.Terms as symbol
+use Rattle.sb_term.specs.declared.sort.Symbol.TheVariants as code
 
 -- The shape of such a term.
 
@@ -91,10 +67,6 @@ demand_in t h = step (demanded t) refl h
         → elim o as (λ _. Bool) [ Some p ↦ is_regex p.1 | None ↦ false ] ≡ true → IsDemanded t
     step (Some p) is kind = record { serial = p.0; expression = p.1; asks = is; kind = kind }
     step None is kind = absurd (false≢true kind)
-
-pub demanded_none : (t : Term) → demanded t ≡ None → is_demand t ≡ false
-demanded_none t h =
-    ap (λ (o : Option (ℕ × Term)). elim o as (λ _. Bool) [ Some p ↦ is_regex p.1 | None ↦ false ]) h
 
 pub demanded_kind : (t : Term) (serial : ℕ) (R : Term) → demanded t ≡ Some (serial, R) → is_demand t ≡ is_regex R
 demanded_kind t serial R h =
@@ -226,7 +198,7 @@ in_complement : (reglan : RegLan) (w : List ℕ) → in_re (re_comp reglan) w �
 unfolding in_re
 in_complement reglan w = refl
 
-same_reglan : (R S : RegLan) → means_reglan R ≡ means_reglan S → R ≡ S
+pub same_reglan : (R S : RegLan) → means_reglan R ≡ means_reglan S → R ≡ S
 same_reglan R S e = cc
 
 complement_means : (v : Valuation) (R : Term) (reglan : RegLan) → meaning_of v R ≡ means_reglan reglan
@@ -284,11 +256,7 @@ pub other_kind : (t : Term) (serial : ℕ) (R : Term) → demanded t ≡ Some (s
 other_kind t serial R h kind = ap (λ b. b && fits t) (demanded_structure t serial R h ∙ kind)
 
 pub too_large : (t : Term) → fits t ≡ false → is_decided (asserted t) ≡ false
-too_large t h = ap (λ b. is_structure t && b) h ∙ and_false (is_structure t)
-  where
-    and_false : (b : Bool) → (b && false) ≡ false
-    and_false true = refl
-    and_false false = refl
+too_large t h = ap (λ b. is_structure t && b) h ∙ and-false (is_structure t)
 
 -- Plain terms.
 
@@ -303,14 +271,11 @@ plain_asks (apply symbol.str_in_re (with_term (constant serial text) (with_term 
     record { serial = serial; expression = R; asks = refl }
 plain_asks _ h = absurd (false≢true h)
 
-something : (p : ℕ × Term) → None ≡ Some p → ⊥
-something p e = cc
-
 plain_demands : (t : Term) → is_plain_term t ≡ true → demanded t ≡ None → ⊥
 plain_demands (apply symbol.core_not (with_term u no_terms)) h none =
     let a = plain_asks u h in
-    something (complemented (a.serial, a.expression)) (sym none ∙ ap (option_map complemented) a.asks)
-plain_demands t h none = let a = plain_asks t h in something (a.serial, a.expression) (sym none ∙ a.asks)
+    none-some (complemented (a.serial, a.expression)) (sym none ∙ ap (option_map complemented) a.asks)
+plain_demands t h none = let a = plain_asks t h in none-some (a.serial, a.expression) (sym none ∙ a.asks)
 
 -- a term that demands nothing of one constant's word alone is not plain
 pub nothing_plain : (t : Term) → demanded t ≡ None → is_plain_term t ≡ false

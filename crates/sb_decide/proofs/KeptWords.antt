@@ -1,25 +1,6 @@
 -- Of how many first regexes a kept word is the least one, as regexes come and go.
 use Rattle.std.proofs.Common.{◌≡◌, ◌≢◌, ℕ, zero, suc, ◌+◌, ◌<◌, ◌≤◌, nat_le, Bool, true, false, ◌&&◌, ◌==◌, if◌then◌else◌, List, [], ◌∷◌, ◌++◌, length, get_or, set, take, drop, refl, sym, ap, ap₂, subst, subst₂, ◌∙◌, arith, Option, Some, None, unwrap_or, length-append}
-use Rattle.std.proofs.lemmas.Bool.{and_from, and_parts, eqb-true, leb-true}
-use Rattle.std.proofs.lemmas.List.{drop-map, get_or-set_other, get_or-set_same, get_or_default, length-map, length-set, map_more, take-append-drop, take-append-le, take_all}
-use Rattle.std.proofs.lemmas.List.Elements.{All-nil, All-push, All-same, All-take}
-use Rattle.std.proofs.lemmas.List.Folds.{list_all-append}
-use Rattle.std.proofs.lemmas.Option.{same_Some}
-use Rattle.std.specs.List.{All}
-use Rattle.sb_word.specs.Words.{IsWord, are_characters}
-use Rattle.sb_lang.specs.Languages.{Language}
-use Rattle.sb_lang.specs.Least.{IsShortestLeast}
-use Rattle.sb_lang.specs.Language.{language}
-use Rattle.sb_lang.specs.Regex.{Regex}
-use Rattle.sb_regex.specs.Numbered.{regex_at, AllNumbers, Extends}
-use Rattle.sb_regex.proofs.CallerLemmas.{at_kept, number_kept, numbers_kept}
-use Rattle.sb_stack.specs.Stacked.{are_words}
-use Rattle.sb_decide.specs.declared.conjuncts.Member.{Member}
-use Rattle.sb_decide.specs.Conjoined.{Conjoined, conjoined_at, is_known_of, is_settled, known_within}
-use Rattle.sb_decide.specs.Deciding.{in_each, word_at}
-use Rattle.sb_decide.specs.Knowing.{AreKept, IsLeastOf}
-use Rattle.sb_decide.specs.Members.{HasRegexBelow, ids_in, places_in, words_in}
-use Rattle.sb_decide.specs.Taking.{IsInEach, id_of, ids_at, with_word}
+use Rattle.sb_decide.proofs.Words.{All, All-nil, All-push, All-same, All-take, AllNumbers, AreKept, Conjoined, Extends, HasRegexBelow, IsInEach, IsLeastOf, IsShortestLeast, IsWord, Language, Member, Regex, and_from, and_parts, are_characters, are_words, at_kept, conjoined_at, drop-map, eqb-true, get_or-set_other, get_or-set_same, get_or_default, id_of, ids_at, ids_in, in_each, is_known_of, is_settled, known_within, language, leb-true, length-map, length-set, list_all-append, map_more, number_kept, numbers_kept, places_in, regex_at, same_Some, take-append-drop, take-append-le, take_all, with_word, word_at, words_in, none-some, false≢true}
 use Rattle.sb_decide.proofs.Conjunctions.{in_each-append, in_each_kept, least_of_all, same_least}
 use Rattle.sb_decide.proofs.MemberFacts.{ids_below}
 
@@ -101,26 +82,17 @@ least_fewer rs ids more k w within l = record {
 
 -- so many first memberships, where there are so many
 pub known_fewer : (count : ℕ) (o : Option ℕ) (k : ℕ) → known_within count o ≡ Some k → (o ≡ Some k) × (k ≤ count)
-known_fewer count None k h = absurd (nothing h)
-  where
-    nothing : None ≡ Some k → ⊥
-    nothing e = cc
+known_fewer count None k h = absurd (none-some k h)
 known_fewer count (Some j) k h = by_test (nat_le j count) refl h
   where
-    nothing : None ≡ Some k → ⊥
-    nothing e = cc
-
     by_test : (b : Bool) → nat_le j count ≡ b → (if b then Some j else None) ≡ Some k
         → (Some j ≡ Some k) × (k ≤ count)
     by_test true t e = let same = same_Some j k e in (e, subst (λ i. i ≤ count) same (leb-true j count t))
-    by_test false t e = absurd (nothing e)
+    by_test false t e = absurd (none-some k e)
 
 -- and where they are all
 pub known_all : (count : ℕ) (o : Option ℕ) → is_known_of count o ≡ true → o ≡ Some count
-known_all count None h = absurd (nothing h)
-  where
-    nothing : false ≡ true → ⊥
-    nothing e = cc
+known_all count None h = absurd (false≢true h)
 known_all count (Some k) h = ap (λ i. Some i) (eqb-true k count h)
 
 -- The regexes at the places of a constant's memberships are its regexes.
@@ -130,20 +102,22 @@ next_place k j = omega arith
 first_place : (k : ℕ) → k ≡ k + 0
 first_place k = omega arith
 
-same_place : (j : ℕ) → 0 + j ≡ j
+pub same_place : (j : ℕ) → 0 + j ≡ j
 same_place j = omega arith
 
-ids_from : (whole ms : List (Option Member)) (k n : ℕ)
-    → ((j : ℕ) → get_or whole (k + j) None ≡ get_or ms j None) → ids_at whole (places_in k n ms) ≡ ids_in ms n
+pub ids_from : (whole ms : List (Option Member)) (k n : ℕ)
+    → ((j : ℕ) → j < length ms → get_or whole (k + j) None ≡ get_or ms j None)
+    → ids_at whole (places_in k n ms) ≡ ids_in ms n
 ids_from whole [] k n h = refl
 ids_from whole (None ∷ ms) k n h =
-    ids_from whole ms (k + 1) n (λ j. ap (λ i. get_or whole i None) (next_place k j) ∙ h (suc j))
+    ids_from whole ms (k + 1) n
+    (λ j l. ap (λ i. get_or whole i None) (next_place k j) ∙ h (suc j) (omega (arith, l)))
 ids_from whole (Some m ∷ ms) k n h =
-    by_test (n == m.serial.0)
-    (ids_from whole ms (k + 1) n (λ j. ap (λ i. get_or whole i None) (next_place k j) ∙ h (suc j)))
+    by_test (n == m.serial.0) (ids_from whole ms (k + 1) n
+    (λ j l. ap (λ i. get_or whole i None) (next_place k j) ∙ h (suc j) (omega (arith, l))))
   where
     here : id_of (get_or whole k None) ≡ m.regex
-    here = ap (λ i. id_of (get_or whole i None)) (first_place k) ∙ ap id_of (h 0)
+    here = ap (λ i. id_of (get_or whole i None)) (first_place k) ∙ ap id_of (h 0 (omega arith))
 
     by_test : (b : Bool) → ids_at whole (places_in (k + 1) n ms) ≡ ids_in ms n
         → ids_at whole (if b then k ∷ places_in (k + 1) n ms else places_in (k + 1) n ms)
@@ -151,8 +125,8 @@ ids_from whole (Some m ∷ ms) k n h =
     by_test true rest = ap₂ (λ i is. i ∷ is) here rest
     by_test false rest = rest
 
-ids_there : (ms : List (Option Member)) (n : ℕ) → ids_at ms (places_in 0 n ms) ≡ ids_in ms n
-ids_there ms n = ids_from ms ms 0 n (λ j. ap (λ i. get_or ms i None) (same_place j))
+pub ids_there : (ms : List (Option Member)) (n : ℕ) → ids_at ms (places_in 0 n ms) ≡ ids_in ms n
+ids_there ms n = ids_from ms ms 0 n (λ j l. ap (λ i. get_or ms i None) (same_place j))
 
 pub ids_long : (ms : List (Option Member)) (n : ℕ) → length (places_in 0 n ms) ≡ length (ids_in ms n)
 ids_long ms n = sym (length-map (places_in 0 n ms) (λ place. id_of (get_or ms place None))) ∙ ap length (ids_there ms n)
@@ -238,7 +212,7 @@ pub word_elsewhere : (words : List (List ℕ)) (place n : ℕ) (o : Option (List
 word_elsewhere words place n None h = refl
 word_elsewhere words place n (Some w) h = get_or-set_other words place n w [] h
 
-words_set : (words : List (List ℕ)) (i : ℕ) (w : List ℕ) → are_words words ≡ true → are_characters w ≡ true
+pub words_set : (words : List (List ℕ)) (i : ℕ) (w : List ℕ) → are_words words ≡ true → are_characters w ≡ true
     → are_words (set words i w) ≡ true
 words_set [] i w h c = refl
 words_set (x ∷ words) zero w h c =

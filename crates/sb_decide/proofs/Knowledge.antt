@@ -1,52 +1,14 @@
 -- What is known of the assertions so far, as more of it becomes known.
-use Rattle.std.proofs.Common.{◌≡◌, ◌≢◌, ℕ, zero, suc, ◌<◌, ◌≤◌, Bool, true, false, ◌&&◌, ◌==◌, nat_lt, List, [], ◌∷◌, ◌++◌, length, get_or, map, take, refl, sym, ap, ◌∙◌, arith, Option, Some, None, IfSome, length-append, if◌then◌else◌, subst, vec_len}
-use Rattle.std.proofs.lemmas.Bool.{eqb-true, eqb-false}
-use Rattle.std.proofs.lemmas.Bool.Decides.{nat_tests}
-use Rattle.std.proofs.lemmas.List.{get_or_append_left, nil_from_length}
-use Rattle.std.proofs.lemmas.List.Elements.{All-push, All-nil}
-use Rattle.std.proofs.Math.Seq.{get_or-append_seam}
-use Rattle.std.proofs.lemmas.Option.{slice_get_within}
-use Rattle.std.specs.List.{All, Contains, list_all}
-use Rattle.std.specs.declared.vec.Vec.{Vec}
-use Rattle.std.specs.declared.alloc.Global.{Global}
-use Rattle.sb_lang.specs.Regex.{Regex}
-use Rattle.sb_lang.specs.Normal.{normal}
-use Rattle.sb_regex.specs.Numbered.{Extends}
-use Rattle.sb_regex.proofs.CallerLemmas.{extends_same, names_below}
-use Rattle.sb_graph.specs.Findings.{Findings, IsGraph}
-use Rattle.sb_graph.specs.Laws.{GraphStays}
-use Rattle.sb_plain.specs.Memory.{Memory, IsRight, RightStays}
-use Rattle.sb_problem.specs.declared.normals.Known.{Known}
-use Rattle.sb_problem.specs.Known.{AreNormals}
-use Rattle.sb_problem.specs.Normals.{IsRegexOf}
-use Rattle.sb_problem.specs.Laws.{NormalsStay}
-use Rattle.sb_meaning.specs.Terms.{Term}
+use Rattle.std.proofs.Common.{◌≡◌, ℕ, zero, suc, ◌<◌, ◌≤◌, Bool, true, false, ◌&&◌, ◌==◌, nat_lt, List, [], ◌∷◌, ◌++◌, length, get_or, slice_get, map, take, refl, sym, ap, ◌∙◌, arith, Option, Some, None, IfSome, if◌then◌else◌, subst, subst₂, vec_len, append-nil, length-append, ◌-◌}
+use Rattle.sb_decide.proofs.Words.{All, All-nil, All-pop, All-push, All-same, AreHeard, AreKept, AreMeasures, AreMembers, AreNormals, AreRooted, Assertion, Conjoined, Contains, Decider, Extends, Findings, Found, Global, GraphStays, HasNumberBelow, HasRegexBelow, HasRoom, HasSerialBelow, IsChangedAt, IsEmptyAt, IsGraph, IsLeastOf, IsLonger, IsMember, IsOther, IsRegexOf, IsRight, IsSameElsewhere, IsTaken, IsTakenAs, Known, Knows, Measure, Member, Memory, NormalsStay, Regex, RestSettled, RightStays, Serial, Stacked, StayKept, Term, Vec, a_mark, all_below, and-false, asserted, assertion_in, assertion_of, conjoined_at, demanded, eqb-false, extends_same, fits, has_serials_below, ids_in, is_decided, is_settled, list_all, measures_kept, nat_tests, nil_from_length, no_measures, other_dead, other_places, places_in, places_of, slice_get_within, take-append-le, term_at, without_last, without_place, word_at}
 use Rattle.sb_term.specs.declared.assertion.Assertion as code
-use Rattle.sb_term.specs.declared.term.Serial.{Serial}
-use Rattle.sb_term.specs.Numbered.{term_at}
 use Rattle.sb_term.specs.Numbered as table
-use Rattle.sb_term.specs.Serials.{has_serials_below, all_below}
 use Rattle.sb_term.proofs.CallerLemmas as table_facts
-use Rattle.sb_script.specs.State.{Assertion, asserted, a_mark}
-use Rattle.sb_script.specs.Fragment.{fits}
-use Rattle.sb_fragment.specs.declared.measure.Measure.{Measure}
-use Rattle.sb_fragment.specs.Measures.{AreMeasures}
-use Rattle.sb_fragment.specs.Rules.{is_decided}
-use Rattle.sb_fragment.proofs.CallerLemmas.{measures_kept, no_measures}
-use Rattle.sb_stack.specs.Stacked.{Stacked, assertion_in, assertion_of, HasNumberBelow, IsLonger}
-use Rattle.sb_decide.specs.declared.conjuncts.Member.{Member}
-use Rattle.sb_decide.specs.declared.decide.Decider.{Decider}
-use Rattle.sb_decide.specs.declared.decide.Found.{Found}
-use Rattle.sb_decide.specs.Conjoined.{Conjoined, conjoined_at, without_last, with_place, without_place, is_settled, RestSettled, HasRoom, IsChangedAt}
-use Rattle.sb_decide.specs.Deciding.{word_at}
-use Rattle.sb_decide.specs.Demands.{demanded}
-use Rattle.sb_decide.specs.Knowing.{IsTaken, IsLeastOf, AreKept, Knows, places_of}
-use Rattle.sb_decide.specs.Members.{IsMember, IsOther, AreMembers, AreRooted, HasRegexBelow, HasSerialBelow, IsEmptyAt, ids_in, places_in, other_places}
-use Rattle.sb_decide.specs.Taking.{StayKept, other_dead}
-use Rattle.sb_decide.proofs.Constants.{last_gone, places_put, places_back}
+use Rattle.sb_decide.proofs.Constants.{last_gone, places_back, IsPut}
 use Rattle.sb_decide.proofs.DemandFacts.{demanded_below, demanded_decided}
+use Rattle.sb_decide.proofs.Hearing.{heard_none, heard_same, heard_told}
 use Rattle.sb_decide.proofs.KeptWords.{ids_long, known_fewer, least_fewer, least_grown, least_more, least_of_none}
-use Rattle.sb_decide.proofs.MemberFacts.{members_grown, members_told, members_longer, members_left, members_few, members_pushed, members_popped, ids_below, ids_here, ids_other, ids_passed, places_here, places_passed, others_pushed, others_passed, others_below, empty_grown, empty_pushed, empty_same}
+use Rattle.sb_decide.proofs.MemberFacts.{by_number, same_left, members_moved, members_told, members_few, members_pushed, members_popped, ids_below, ids_here, ids_other, places_here, others_below, empty_grown, empty_pushed, empty_same, ids_append, places_append, others_append, regex_below}
 use Rattle.sb_decide.proofs.RootFacts.{rooted_grown, rooted_pushed, rooted_popped}
 
 -- of a constant, if there is one
@@ -61,52 +23,60 @@ dead_kept : (old new : List Regex) (ms : List (Option Member)) (dead : Option Se
 dead_kept old new ms dead e known h = some_more (IsEmptyAt old ms) (IsEmptyAt new ms)
     (λ n. empty_grown old new ms n e known) dead h
 
--- the arena grows, and with it what is known of terms
+pub kept_grown : (rs new : List Regex) (ms : List (Option Member)) (cs : List Conjoined) (words : List (List ℕ))
+    → Extends rs new → All (HasRegexBelow (length rs)) ms → AreKept rs ms cs words → AreKept new ms cs words
+kept_grown rs new ms cs words e known kept = record {
+  characters = kept.characters;
+  few = kept.few;
+  least = λ n k h. least_grown rs new (ids_in ms n) k (word_at words n) e (ids_below rs ms n known) (kept.least n k h);
+}
+
+-- more becomes known of regexes and of terms
+pub taken_known : (kept : Decider) (rs : List Regex) (g : Findings) (ks : List Known) (ms : List Measure)
+    (p : Memory) (roots : Vec (Option ℕ) Global) (fs : Vec Found Global) (ts : List Term) (xs : List code.Assertion) →
+    Extends kept.arena rs → IsGraph rs g → AreNormals ts rs ks → AreMeasures ts ms → IsRight rs p →
+    AreRooted rs kept.members.items roots.items → IsTaken kept ts xs → IsTaken
+    (record kept { arena = rs; graph = g; normals = ks; measures = ms; plain = p; roots = roots; found = fs }) ts xs
+taken_known kept rs g ks ms p roots fs ts xs e graph normals measures plain rooted t = record {
+  graph = graph;
+  normals = normals;
+  measures = measures;
+  plain = plain;
+  members = members_moved kept.arena rs ts ts kept.members.items xs e (table_facts.extends_same ts) t.members;
+  rooted = rooted;
+  counted = t.counted;
+  dead = dead_kept kept.arena rs kept.members.items kept.dead e t.rooted.numbers t.dead;
+  heard = t.heard;
+}
+
+pub knows_known : (kept : Decider) (rs : List Regex) (g : Findings) (ks : List Known) (ms : List Measure)
+    (p : Memory) (roots : Vec (Option ℕ) Global) (fs : Vec Found Global) (stack : Stacked) → Extends kept.arena rs →
+    IsGraph rs g → AreNormals stack.table rs ks → AreMeasures stack.table ms → IsRight rs p →
+    AreRooted rs kept.members.items roots.items → Knows kept stack → Knows
+    (record kept { arena = rs; graph = g; normals = ks; measures = ms; plain = p; roots = roots; found = fs }) stack
+knows_known kept rs g ks ms p roots fs stack e graph normals measures plain rooted k = record {
+  taken = taken_known kept rs g ks ms p roots fs stack.table stack.assertions e graph normals measures plain rooted
+      k.taken;
+  words = kept_grown kept.arena rs kept.members.items kept.constants.items stack.words e k.taken.rooted.numbers
+      k.words;
+  declared = k.declared;
+}
+
+-- of terms and their regexes alone
 pub taken_grown : GraphStays → RightStays → (kept : Decider) (rs : List Regex) (ks : List Known) (ms : List Measure)
     (ts : List Term) (xs : List code.Assertion) → Extends kept.arena rs → AreNormals ts rs ks → AreMeasures ts ms →
     IsTaken kept ts xs → IsTaken (record kept { arena = rs; normals = ks; measures = ms }) ts xs
-taken_grown stays right kept rs ks ms ts xs e normals measures t = record {
-  graph = stays kept.arena rs kept.graph e t.graph;
-  normals = normals;
-  measures = measures;
-  plain = right kept.arena rs kept.plain e t.plain;
-  members = members_grown kept.arena rs ts kept.members.items xs e t.members;
-  rooted = rooted_grown kept.arena rs kept.members.items kept.roots.items e t.rooted;
-  within = t.within;
-  places = t.places;
-  others = t.others;
-  settled = t.settled;
-  listed = t.listed;
-  left = t.left;
-  dead = dead_kept kept.arena rs kept.members.items kept.dead e t.rooted.numbers t.dead;
-}
+taken_grown stays right kept rs ks ms ts xs e normals measures t =
+    taken_known kept rs kept.graph ks ms kept.plain kept.roots kept.found ts xs e
+    (stays kept.arena rs kept.graph e t.graph) normals measures (right kept.arena rs kept.plain e t.plain)
+    (rooted_grown kept.arena rs kept.members.items kept.roots.items e t.rooted) t
 
--- more is known of sizes
+-- of sizes alone
 pub taken_measured : (kept : Decider) (ms : List Measure) (ts : List Term) (xs : List code.Assertion)
     → AreMeasures ts ms → IsTaken kept ts xs → IsTaken (record kept { measures = ms }) ts xs
-taken_measured kept ms ts xs measures t = record {
-  graph = t.graph;
-  normals = t.normals;
-  measures = measures;
-  plain = t.plain;
-  members = t.members;
-  rooted = t.rooted;
-  within = t.within;
-  places = t.places;
-  others = t.others;
-  settled = t.settled;
-  listed = t.listed;
-  left = t.left;
-  dead = t.dead;
-}
-
-pub knows_measured : (kept : Decider) (ms : List Measure) (stack : Stacked) → AreMeasures stack.table ms
-    → Knows kept stack → Knows (record kept { measures = ms }) stack
-knows_measured kept ms stack measures k = record {
-  taken = taken_measured kept ms stack.table stack.assertions measures k.taken;
-  words = k.words;
-  declared = k.declared;
-}
+taken_measured kept ms ts xs measures t =
+    taken_known kept kept.arena kept.graph kept.normals ms kept.plain kept.roots kept.found ts xs
+    (extends_same kept.arena) t.graph t.normals measures t.plain t.rooted t
 
 -- there is room for more constants
 serial_more : (n k : ℕ) (o : Option Member) → n ≤ k → HasSerialBelow n o → HasSerialBelow k o
@@ -123,14 +93,17 @@ taken_roomy kept constants count ts xs room l t = record {
   plain = t.plain;
   members = t.members;
   rooted = t.rooted;
-  within = λ k d m. serial_more (length kept.constants.items) (length constants.items) (get_or kept.members.items k d)
-      (omega (arith, room.long, l)) (t.within k d m);
-  places = λ n. ap (λ (c : Conjoined). c.places) (room.same n) ∙ t.places n;
-  others = t.others;
-  settled = λ n h j. ap is_settled (room.same n) ∙ t.settled n h j;
-  listed = λ k d m. let low = t.listed k d m in omega (arith, room.long, l, low);
-  left = λ k d m. let low = t.left k d m in omega (arith, room.long, l, low);
+  counted = record {
+    within = λ k d m. serial_more (length kept.constants.items) (length constants.items)
+        (get_or kept.members.items k d) (omega (arith, room.long, l)) (t.counted.within k d m);
+    places = λ n. ap (λ (c : Conjoined). c.places) (room.same n) ∙ t.counted.places n;
+    apart = t.counted.apart;
+    settled = λ n h j. ap is_settled (room.same n) ∙ t.counted.settled n h j;
+    left_listed = λ k d m. let low = t.counted.left_listed k d m in omega (arith, room.long, l, low);
+    listed = λ k d m. let low = t.counted.listed k d m in omega (arith, room.long, l, low);
+  };
   dead = t.dead;
+  heard = t.heard;
 }
 
 pub kept_roomy : (rs : List Regex) (ms : List (Option Member)) (old new : List Conjoined) (count : ℕ)
@@ -142,37 +115,78 @@ kept_roomy rs ms old new count words room l kept = record {
   least = λ n k h. kept.least n k (sym (ap (λ (c : Conjoined). c.known) (room.same n)) ∙ h);
 }
 
-pub kept_grown : (rs new : List Regex) (ms : List (Option Member)) (cs : List Conjoined) (words : List (List ℕ))
-    → Extends rs new → All (HasRegexBelow (length rs)) ms → AreKept rs ms cs words → AreKept new ms cs words
-kept_grown rs new ms cs words e known kept = record {
+-- one more is taken in
+kept_more : (rs : List Regex) (ms : List (Option Member)) (o : Option Member) (place : ℕ) (old new : List Conjoined)
+    (words : List (List ℕ)) → IsPut o place old new → AreKept rs ms old words → AreKept rs (ms ++ o ∷ []) new words
+kept_more rs ms o place old new words put kept = record {
   characters = kept.characters;
-  few = kept.few;
-  least = λ n k h. least_grown rs new (ids_in ms n) k (word_at words n) e (ids_below rs ms n known) (kept.least n k h);
+  few = omega (arith, kept.few, put.long);
+  least = λ n k h. subst (λ ids. IsLeastOf rs ids k (word_at words n)) (sym (ids_append ms (o ∷ []) n))
+      (least_more rs (ids_in ms n) (ids_in (o ∷ []) n) k (word_at words n) (kept.least n k (sym (put.known n) ∙ h)));
 }
 
--- one constant has a membership more
-kept_put : (rs : List Regex) (ms : List (Option Member)) (old new : List Conjoined) (m : Member) (place : ℕ)
-    (words : List (List ℕ)) → IsChangedAt old new m.serial.0 (with_place place (conjoined_at old m.serial.0))
-    → AreKept rs ms old words → AreKept rs (ms ++ Some m ∷ []) new words
-kept_put rs ms old new m place words p kept = record {
-  characters = kept.characters;
-  few = omega (arith, kept.few, p.same_length);
-  least = λ n k h. by_test n k h (n == m.serial.0) refl;
-}
+pub stay_put : (old new : Decider) (o : Option Member) (place : ℕ) → new.members.items ≡ old.members.items ++ o ∷ []
+    → IsPut o place old.constants.items new.constants.items
+    → ((words : List (List ℕ)) → AreKept old.arena old.members.items old.constants.items words
+    → AreKept new.arena old.members.items old.constants.items words) → StayKept old new
+stay_put old new o place members put grown words k = (
+  put.long,
+  rw members (kept_more new.arena old.members.items o place old.constants.items new.constants.items words put
+      (grown words k)),
+)
+
+pub stay_grown : (old : Decider) (rs : List Regex) (ts : List Term) (xs : List code.Assertion) → Extends old.arena rs
+    → IsTaken old ts xs → (words : List (List ℕ)) → AreKept old.arena old.members.items old.constants.items words
+    → AreKept rs old.members.items old.constants.items words
+stay_grown old rs ts xs e t words k =
+    kept_grown old.arena rs old.members.items old.constants.items words e t.rooted.numbers k
+
+pub taken_more : (kept : Decider) (ts : List Term) (xs : List code.Assertion) (x : code.Assertion)
+    (o : Option Member) (members : Vec (Option Member) Global) (roots : Vec (Option ℕ) Global)
+    (others : Vec ℕ Global) (constants : Vec Conjoined Global) (changed : Vec Serial Global) → IsTaken kept ts xs →
+    length kept.members.items < length xs → x ≡ get_or xs (length kept.members.items) x →
+    IsTakenAs kept.arena ts o x → HasSerialBelow (length kept.constants.items) o →
+    members.items ≡ kept.members.items ++ o ∷ [] → roots.items ≡ kept.roots.items ++ None ∷ [] →
+    others.items ≡ kept.others.items ++ other_places (length kept.members.items) (o ∷ []) →
+    IsPut o (length kept.members.items) kept.constants.items constants.items →
+    RestSettled kept.left.items changed.items constants.items →
+    All (λ other. other.0 < length kept.constants.items) changed.items → IsTaken
+    (record kept { members = members; roots = roots; others = others; constants = constants; changed = changed }) ts xs
+taken_more kept ts xs x o members roots others constants changed t low is one within more none apart put settled listed
+    = record {
+      graph = t.graph;
+      normals = t.normals;
+      measures = t.measures;
+      plain = t.plain;
+      members = subst (λ os. AreMembers kept.arena ts os xs) (sym more)
+          (members_pushed kept.arena ts ms xs o x low is one t.members);
+      rooted = subst₂ (AreRooted kept.arena) (sym more) (sym none)
+          (rooted_pushed kept.arena ms o kept.roots.items (regex_below kept.arena ts o x one) t.rooted);
+      counted = rw more (record {
+        within = rw put.long (All-push (HasSerialBelow (length kept.constants.items)) ms o t.counted.within within);
+        places = λ n. put.places n
+            ∙ (ap (λ ps. ps ++ places_in (length ms) n (o ∷ [])) (t.counted.places n)
+            ∙ sym (places_append 0 n ms (o ∷ []) (length ms) (omega arith)));
+        apart = apart
+            ∙ (ap (λ ps. ps ++ other_places (length ms) (o ∷ [])) t.counted.apart
+            ∙ sym (others_append 0 ms (o ∷ []) (length ms) (omega arith)));
+        settled = settled;
+        left_listed = rw put.long t.counted.left_listed;
+        listed = rw put.long listed;
+      });
+      dead = subst (λ os. IfSome kept.dead (λ s. IsEmptyAt kept.arena os s.0)) (sym more)
+          (some_more (IsEmptyAt kept.arena ms) (IsEmptyAt kept.arena (ms ++ o ∷ []))
+          (λ n h. empty_pushed kept.arena ms (o ∷ []) n h) kept.dead t.dead);
+      heard =
+          let last = other_places (length ms) (o ∷ []) in
+          let long = length-append kept.others.items last in
+          heard_same ts xs kept.others.items others.items kept.heard kept.spoken.keys
+          (ap (take kept.heard) apart ∙ take-append-le kept.heard kept.others.items last t.heard.within)
+          (omega (arith, t.heard.within, ap length apart, long)) t.heard;
+    }
   where
-    by_test : (n k : ℕ) → (conjoined_at new n).known ≡ Some k → (b : Bool) → (n == m.serial.0) ≡ b
-        → IsLeastOf rs (ids_in (ms ++ Some m ∷ []) n) k (word_at words n)
-    by_test n k h true t =
-        let e : n ≡ m.serial.0 = eqb-true n m.serial.0 t in
-        let same : (conjoined_at new n).known ≡ (conjoined_at old n).known =
-        ap (λ i. (conjoined_at new i).known) e
-        ∙ (ap (λ (c : Conjoined). c.known) p.there ∙ ap (λ i. (conjoined_at old i).known) (sym e)) in
-        subst (λ ids. IsLeastOf rs ids k (word_at words n)) (sym (ids_here ms m n e))
-        (least_more rs (ids_in ms n) (m.regex ∷ []) k (word_at words n) (kept.least n k (sym same ∙ h)))
-    by_test n k h false t =
-        let e : n ≢ m.serial.0 = eqb-false n m.serial.0 t in
-        subst (λ ids. IsLeastOf rs ids k (word_at words n)) (sym (ids_other ms m n e))
-        (kept.least n k (sym (ap (λ (c : Conjoined). c.known) (p.others n e)) ∙ h))
+    ms : List (Option Member)
+    ms = kept.members.items
 
 -- and one less
 kept_back : (rs : List Regex) (ms : List (Option Member)) (old new : List Conjoined) (m : Member)
@@ -182,32 +196,27 @@ kept_back : (rs : List Regex) (ms : List (Option Member)) (old new : List Conjoi
 kept_back rs ms old new m words places p kept = record {
   characters = kept.characters;
   few = omega (arith, kept.few, p.same_length);
-  least = λ n k h. by_test n k h (n == m.serial.0) refl;
+  least = by_number (λ n. (k : ℕ) → (conjoined_at new n).known ≡ Some k
+      → IsLeastOf rs (ids_in ms n) k (word_at words n)) m.serial.0 here
+      (λ n e k h. subst (λ ids. IsLeastOf rs ids k (word_at words n)) (ids_other ms m n e)
+      (kept.least n k (sym (ap (λ (c : Conjoined). c.known) (p.others n e)) ∙ h)));
 }
   where
     left : without_last (conjoined_at old m.serial.0).places ≡ places_in 0 m.serial.0 ms
     left = ap without_last (places m.serial.0 ∙ places_here m.serial.0 ms m refl)
         ∙ last_gone (places_in 0 m.serial.0 ms) (length ms)
 
-    by_test : (n k : ℕ) → (conjoined_at new n).known ≡ Some k → (b : Bool) → (n == m.serial.0) ≡ b
-        → IsLeastOf rs (ids_in ms n) k (word_at words n)
-    by_test n k h true t =
-        let e : n ≡ m.serial.0 = eqb-true n m.serial.0 t in
+    here : (k : ℕ) → (conjoined_at new m.serial.0).known ≡ Some k
+        → IsLeastOf rs (ids_in ms m.serial.0) k (word_at words m.serial.0)
+    here k h =
         let fewer = known_fewer (length (without_last (conjoined_at old m.serial.0).places))
-        (conjoined_at old m.serial.0).known k
-        (sym (ap (λ (c : Conjoined). c.known) p.there) ∙ (ap (λ i. (conjoined_at new i).known) (sym e) ∙ h)) in
-        let within : k ≤ length (ids_in ms m.serial.0) =
-        omega (arith, fewer.1, ap length left, ids_long ms m.serial.0) in
-        subst (λ i. IsLeastOf rs (ids_in ms i) k (word_at words i)) (sym e)
-        (least_fewer rs (ids_in ms m.serial.0) (m.regex ∷ []) k (word_at words m.serial.0) within
+        (conjoined_at old m.serial.0).known k (sym (ap (λ (c : Conjoined). c.known) p.there) ∙ h) in
+        least_fewer rs (ids_in ms m.serial.0) (m.regex ∷ []) k (word_at words m.serial.0)
+        (omega (arith, fewer.1, ap length left, ids_long ms m.serial.0))
         (subst (λ ids. IsLeastOf rs ids k (word_at words m.serial.0)) (ids_here ms m m.serial.0 refl)
-        (kept.least m.serial.0 k fewer.0)))
-    by_test n k h false t =
-        let e : n ≢ m.serial.0 = eqb-false n m.serial.0 t in
-        subst (λ ids. IsLeastOf rs ids k (word_at words n)) (ids_other ms m n e)
-        (kept.least n k (sym (ap (λ (c : Conjoined). c.known) (p.others n e)) ∙ h))
+        (kept.least m.serial.0 k fewer.0))
 
--- one more is taken in that is no membership, or one less
+-- the last one is no membership
 kept_same : (rs : List Regex) (ms ms' : List (Option Member)) (cs : List Conjoined) (words : List (List ℕ))
     → ((n : ℕ) → ids_in ms' n ≡ ids_in ms n) → AreKept rs ms cs words → AreKept rs ms' cs words
 kept_same rs ms ms' cs words same kept = record {
@@ -215,101 +224,6 @@ kept_same rs ms ms' cs words same kept = record {
   few = kept.few;
   least = λ n k h. subst (λ ids. IsLeastOf rs ids k (word_at words n)) (sym (same n)) (kept.least n k h);
 }
-
-pub stay_other : (old new : Decider) → new.arena ≡ old.arena → new.members.items ≡ old.members.items ++ None ∷ []
-    → new.constants ≡ old.constants → StayKept old new
-stay_other old new arena members constants words k = rw (arena, members, constants) (
-  refl,
-  kept_same old.arena old.members.items (old.members.items ++ None ∷ []) old.constants.items words
-      (ids_passed old.members.items) k,
-)
-
-pub stay_grown : (old new : Decider) (ts : List Term) (xs : List code.Assertion) → Extends old.arena new.arena
-    → new.members ≡ old.members → new.constants ≡ old.constants → IsTaken old ts xs → StayKept old new
-stay_grown old new ts xs e members same t words k =
-    rw (members, same)
-    (refl, kept_grown old.arena new.arena old.members.items old.constants.items words e t.rooted.numbers k)
-
-pub stay_put : (old new : Decider) (ts : List Term) (xs : List code.Assertion) (m : Member) (place : ℕ)
-    → Extends old.arena new.arena → new.members.items ≡ old.members.items ++ Some m ∷ []
-    → IsChangedAt old.constants.items new.constants.items m.serial.0
-    (with_place place (conjoined_at old.constants.items m.serial.0)) → IsTaken old ts xs → StayKept old new
-stay_put old new ts xs m place e members p t words k = (
-  p.same_length,
-  rw members
-      (kept_put new.arena old.members.items old.constants.items new.constants.items m place words p
-      (kept_grown old.arena new.arena old.members.items old.constants.items words e t.rooted.numbers k)),
-)
-
--- one more membership is taken in
-pub taken_more : GraphStays → RightStays → (kept new : Decider) (ts : List Term) (xs : List code.Assertion)
-    (x : code.Assertion) (m : Member) → IsTaken kept ts xs → length kept.members.items < length xs →
-    x ≡ get_or xs (length kept.members.items) x → IsMember new.arena ts m x →
-    m.serial.0 < length kept.constants.items →
-    Extends kept.arena new.arena → AreNormals ts new.arena new.normals → AreMeasures ts new.measures →
-    new.members.items ≡ kept.members.items ++ Some m ∷ [] → new.roots.items ≡ kept.roots.items ++ None ∷ [] →
-    IsChangedAt kept.constants.items new.constants.items m.serial.0
-    (with_place (length kept.members.items) (conjoined_at kept.constants.items m.serial.0)) →
-    RestSettled new.left.items new.changed.items new.constants.items →
-    All (λ other. other.0 < length kept.constants.items) new.changed.items → new.left ≡ kept.left →
-    new.graph ≡ kept.graph → new.plain ≡ kept.plain → new.others ≡ kept.others → new.dead ≡ kept.dead →
-    IsTaken new ts xs
-taken_more stays right kept new ts xs x m t low is member within e normals measures members roots put settled listed
-    left graph plain others dead = record {
-      graph = rw graph (stays kept.arena new.arena kept.graph e t.graph);
-      normals = normals;
-      measures = measures;
-      plain = rw plain (right kept.arena new.arena kept.plain e t.plain);
-      members = rw members (members_pushed new.arena ts kept.members.items xs (Some m) x low is member
-          (members_grown kept.arena new.arena ts kept.members.items xs e t.members));
-      rooted = rw (members, roots) (rooted_pushed new.arena kept.members.items (Some m) kept.roots.items
-          (names_below new.arena m.regex (normal member.regex.reglan) member.regex.names)
-          (rooted_grown kept.arena new.arena kept.members.items kept.roots.items e t.rooted));
-      within = rw (members, put.same_length)
-          (All-push (HasSerialBelow (length kept.constants.items)) kept.members.items (Some m) t.within within);
-      places = λ n. places_put kept.constants.items new.constants.items kept.members.items m n t.places put
-          ∙ ap (places_in 0 n) (sym members);
-      others = rw (others, members) (t.others ∙ sym (others_passed 0 kept.members.items m));
-      settled = settled;
-      listed = rw put.same_length listed;
-      left = rw (left, put.same_length) t.left;
-      dead = rw (dead, members) (some_more (IsEmptyAt kept.arena kept.members.items)
-          (IsEmptyAt new.arena (kept.members.items ++ Some m ∷ []))
-          (λ n h. empty_pushed new.arena kept.members.items m n
-          (empty_grown kept.arena new.arena kept.members.items n e t.rooted.numbers h)) kept.dead t.dead);
-    }
-
--- one more is taken in that is no membership
-pub taken_other : (kept new : Decider) (ts : List Term) (xs : List code.Assertion) (x : code.Assertion)
-    → IsTaken kept ts xs → length kept.members.items < length xs → x ≡ get_or xs (length kept.members.items) x
-    → IsOther ts x → AreMeasures ts new.measures → new.members.items ≡ kept.members.items ++ None ∷ []
-    → new.roots.items ≡ kept.roots.items ++ None ∷ []
-    → new.others.items ≡ kept.others.items ++ length kept.members.items ∷ [] → new.arena ≡ kept.arena
-    → new.graph ≡ kept.graph → new.normals ≡ kept.normals → new.plain ≡ kept.plain → new.constants ≡ kept.constants
-    → new.changed ≡ kept.changed → new.left ≡ kept.left → new.dead ≡ kept.dead → IsTaken new ts xs
-taken_other kept new ts xs x t low is other measures members roots others arena graph normals plain constants changed
-    left dead = record {
-      graph = rw (arena, graph) t.graph;
-      normals = rw (arena, normals) t.normals;
-      measures = measures;
-      plain = rw (arena, plain) t.plain;
-      members = rw (arena, members) (members_pushed kept.arena ts kept.members.items xs None x low is other t.members);
-      rooted = rw (arena, members, roots)
-          (rooted_pushed kept.arena kept.members.items None kept.roots.items tt t.rooted);
-      within = rw (members, constants)
-          (All-push (HasSerialBelow (length kept.constants.items)) kept.members.items None t.within tt);
-      places = λ n. ap (λ (v : Vec Conjoined Global). (conjoined_at v.items n).places) constants
-          ∙ (t.places n ∙ (sym (places_passed 0 n kept.members.items) ∙ ap (places_in 0 n) (sym members)));
-      others = rw (others, members) (ap (λ is. is ++ length kept.members.items ∷ []) t.others
-          ∙ sym (others_pushed 0 kept.members.items (length kept.members.items) (omega arith)));
-      settled = rw (left, changed, constants) t.settled;
-      listed = rw (changed, constants) t.listed;
-      left = rw (left, constants) t.left;
-      dead = rw (dead, arena, members) (some_more (IsEmptyAt kept.arena kept.members.items)
-          (IsEmptyAt kept.arena (kept.members.items ++ None ∷ []))
-          (λ n h. empty_same kept.arena kept.members.items (kept.members.items ++ None ∷ []) n
-          (ids_passed kept.members.items n) h) kept.dead t.dead);
-    }
 
 -- the last one is taken back
 dead_back : (rs : List Regex) (ms : List (Option Member)) (m : Member) (dead : Option Serial)
@@ -324,104 +238,120 @@ dead_back rs ms m (Some s) h = by_test (s.0 == m.serial.0) refl
     by_test false k =
         empty_same rs (ms ++ Some m ∷ []) ms s.0 (sym (ids_other ms m s.0 (eqb-false s.0 m.serial.0 k))) h
 
-front_within : (n : ℕ) (ms : List (Option Member)) (o : Option Member) → All (HasSerialBelow n) (ms ++ o ∷ [])
-    → All (HasSerialBelow n) ms
-front_within n ms o h i d l =
-    subst (HasSerialBelow n) (get_or_append_left ms (o ∷ []) d i l)
-    (h i d (omega (arith, l, length-append ms (o ∷ []))))
-
 -- its constant is one of those that are known
 pub last_within : (kept : Decider) (m : Member) (ms : List (Option Member)) (stack : Stacked)
     → kept.members.items ≡ ms ++ Some m ∷ [] → Knows kept stack → m.serial.0 < length kept.constants.items
 last_within kept m ms stack was k =
-    let all : All (HasSerialBelow (length kept.constants.items)) (ms ++ Some m ∷ []) = rw was at k.taken.within in
-    subst (HasSerialBelow (length kept.constants.items)) (get_or-append_seam ms (Some m) [] (Some m))
-    (all (length ms) (Some m) (omega (arith, length-append ms (Some m ∷ []))))
+    (All-pop (HasSerialBelow (length kept.constants.items)) kept.members.items ms (Some (Some m)) was
+    k.taken.counted.within).1
 
-pub knows_back : (kept new : Decider) (m : Member) (ms : List (Option Member)) (stack : Stacked)
-    → kept.members.items ≡ ms ++ Some m ∷ []
-    → new.members.items ≡ ms → new.roots.items ≡ take (length ms) kept.roots.items
-    → new.dead ≡ other_dead kept.dead m.serial.0 → new.arena ≡ kept.arena → new.graph ≡ kept.graph
-    → new.normals ≡ kept.normals → new.measures ≡ kept.measures → new.plain ≡ kept.plain
-    → new.others ≡ kept.others → IsChangedAt kept.constants.items new.constants.items m.serial.0
-    (without_place (conjoined_at kept.constants.items m.serial.0))
-    → (RestSettled kept.left.items kept.changed.items kept.constants.items
-    → RestSettled new.left.items new.changed.items new.constants.items)
-    → (All (λ other. other.0 < length kept.constants.items) kept.changed.items
-    → All (λ other. other.0 < length kept.constants.items) new.changed.items) → new.left ≡ kept.left
-    → Knows kept stack → Knows new stack
-knows_back kept new m ms stack was members roots dead arena graph normals measures plain others put settled listed left
-    k = record {
-      taken = record {
-        graph = rw (arena, graph) t.graph;
-        normals = rw (arena, normals) t.normals;
-        measures = rw measures t.measures;
-        plain = rw (arena, plain) t.plain;
-        members = rw (arena, members)
-            (members_popped kept.arena stack.table ms stack.assertions (Some m) (rw was at t.members));
-        rooted = rw (arena, members, roots)
-            (rooted_popped kept.arena ms (Some m) kept.roots.items (rw was at t.rooted));
-        within = rw (members, put.same_length)
-            (front_within (length kept.constants.items) ms (Some m) (rw was at t.within));
-        places = λ n. places_back kept.constants.items new.constants.items ms m n places put
-            ∙ ap (places_in 0 n) (sym members);
-        others = rw (others, members) (t.others ∙ ap (other_places 0) was ∙ others_passed 0 ms m);
-        settled = settled t.settled;
-        listed = rw put.same_length (listed t.listed);
-        left = rw (left, put.same_length) t.left;
-        dead = rw (dead, arena, members) (dead_back kept.arena ms m kept.dead (rw was at t.dead));
-      };
-      words = rw (arena, members)
-          (kept_back kept.arena ms kept.constants.items new.constants.items m stack.words places put
-          (rw was at k.words));
-      declared = omega (arith, k.declared, put.same_length);
-    }
+pub knows_back : (kept : Decider) (m : Member) (members : Vec (Option Member) Global)
+    (roots : Vec (Option ℕ) Global) (constants : Vec Conjoined Global) (changed : Vec Serial Global)
+    (dead : Option Serial) (stack : Stacked) → kept.members.items ≡ members.items ++ Some m ∷ [] →
+    roots.items ≡ take (length members.items) kept.roots.items → dead ≡ other_dead kept.dead m.serial.0 →
+    IsChangedAt kept.constants.items constants.items m.serial.0
+    (without_place (conjoined_at kept.constants.items m.serial.0)) →
+    (RestSettled kept.left.items kept.changed.items kept.constants.items →
+    RestSettled kept.left.items changed.items constants.items) →
+    (All (λ other. other.0 < length kept.constants.items) kept.changed.items →
+    All (λ other. other.0 < length kept.constants.items) changed.items) → Knows kept stack → Knows
+    (record kept { members = members; roots = roots; constants = constants; changed = changed; dead = dead }) stack
+knows_back kept m members roots constants changed dead stack was front gone put settled listed k = record {
+  taken = record {
+    graph = t.graph;
+    normals = t.normals;
+    measures = t.measures;
+    plain = t.plain;
+    members = members_popped kept.arena stack.table ms stack.assertions (Some m) (rw was at t.members);
+    rooted = subst (AreRooted kept.arena ms) (sym front)
+        (rooted_popped kept.arena ms (Some m) kept.roots.items (rw was at t.rooted));
+    counted = record {
+      within = rw put.same_length
+          (All-pop (HasSerialBelow (length kept.constants.items)) kept.members.items ms (Some (Some m)) was
+          t.counted.within).0;
+      places = λ n. places_back kept.constants.items constants.items ms m n places put;
+      apart = t.counted.apart ∙ ap (other_places 0) was
+          ∙ others_append 0 ms (Some m ∷ []) (length ms) (omega arith) ∙ append-nil (other_places 0 ms);
+      settled = settled t.counted.settled;
+      left_listed = rw put.same_length t.counted.left_listed;
+      listed = rw put.same_length (listed t.counted.listed);
+    };
+    dead = subst (λ d. IfSome d (λ s. IsEmptyAt kept.arena ms s.0)) (sym gone)
+        (dead_back kept.arena ms m kept.dead (rw was at t.dead));
+    heard = t.heard;
+  };
+  words = kept_back kept.arena ms kept.constants.items constants.items m stack.words places put (rw was at k.words);
+  declared = omega (arith, k.declared, put.same_length);
+}
   where
     t : IsTaken kept stack.table stack.assertions
     t = k.taken
+
+    ms : List (Option Member)
+    ms = members.items
 
     places : (n : ℕ) → places_of kept n ≡ places_in 0 n (ms ++ Some m ∷ [])
-    places n = t.places n ∙ ap (places_in 0 n) was
+    places n = t.counted.places n ∙ ap (places_in 0 n) was
 
 -- and where it is no membership
-pub knows_back_other : (kept new : Decider) (ms : List (Option Member)) (stack : Stacked)
-    → kept.members.items ≡ ms ++ None ∷ [] → new.members.items ≡ ms
-    → new.roots.items ≡ take (length ms) kept.roots.items → new.others.items ≡ without_last kept.others.items
-    → new.arena ≡ kept.arena → new.graph ≡ kept.graph → new.normals ≡ kept.normals → new.measures ≡ kept.measures
-    → new.plain ≡ kept.plain → new.constants ≡ kept.constants → new.changed ≡ kept.changed → new.left ≡ kept.left
-    → new.dead ≡ kept.dead → Knows kept stack → Knows new stack
-knows_back_other kept new ms stack was members roots others arena graph normals measures plain constants changed left
-    dead k = record {
-      taken = record {
-        graph = rw (arena, graph) t.graph;
-        normals = rw (arena, normals) t.normals;
-        measures = rw measures t.measures;
-        plain = rw (arena, plain) t.plain;
-        members = rw (arena, members)
-            (members_popped kept.arena stack.table ms stack.assertions None (rw was at t.members));
-        rooted = rw (arena, members, roots)
-            (rooted_popped kept.arena ms None kept.roots.items (rw was at t.rooted));
-        within = rw (members, constants)
-            (front_within (length kept.constants.items) ms None (rw was at t.within));
-        places = λ n. ap (λ (v : Vec Conjoined Global). (conjoined_at v.items n).places) constants
-            ∙ (t.places n ∙ (ap (places_in 0 n) was ∙ (places_passed 0 n ms ∙ ap (places_in 0 n) (sym members))));
-        others = rw (others, members) (ap without_last (t.others ∙ ap (other_places 0) was
-            ∙ others_pushed 0 ms (length ms) (omega arith)) ∙ last_gone (other_places 0 ms) (length ms));
-        settled = rw (left, changed, constants) t.settled;
-        listed = rw (changed, constants) t.listed;
-        left = rw (left, constants) t.left;
-        dead = rw (dead, arena, members) (some_more (IsEmptyAt kept.arena (ms ++ None ∷ [])) (IsEmptyAt kept.arena ms)
-            (λ n h. empty_same kept.arena (ms ++ None ∷ []) ms n (sym (ids_passed ms n)) h) kept.dead
-            (rw was at t.dead));
-      };
-      words = rw (arena, members, constants)
-          (kept_same kept.arena (ms ++ None ∷ []) ms kept.constants.items stack.words (λ n. sym (ids_passed ms n))
-          (rw was at k.words));
-      declared = rw constants k.declared;
-    }
+pub knows_back_other : (kept d : Decider) (stack : Stacked) → kept.members.items ≡ d.members.items ++ None ∷ [] →
+    d.roots.items ≡ take (vec_len kept.roots - 1) kept.roots.items →
+    d.others.items ≡ take (vec_len kept.others - 1) kept.others.items →
+    (AreHeard stack.table stack.assertions kept.others.items kept.heard kept.spoken.keys
+    → AreHeard stack.table stack.assertions d.others.items d.heard d.spoken.keys) → Knows kept stack → Knows
+    (record kept { members = d.members; roots = d.roots; others = d.others; spoken = d.spoken; heard = d.heard }) stack
+knows_back_other kept d stack was front rest fewer k = record {
+  taken = record {
+    graph = t.graph;
+    normals = t.normals;
+    measures = t.measures;
+    plain = t.plain;
+    members = members_popped kept.arena stack.table ms stack.assertions None (rw was at t.members);
+    rooted = subst (AreRooted kept.arena ms) (sym (front ∙ ap (λ n. take n kept.roots.items) few))
+        (rooted_popped kept.arena ms None kept.roots.items (rw was at t.rooted));
+    counted = record {
+      within = (All-pop (HasSerialBelow (length kept.constants.items)) kept.members.items ms (Some None) was
+          t.counted.within).0;
+      places = λ n. t.counted.places n
+          ∙ (ap (places_in 0 n) was ∙ (places_append 0 n ms (None ∷ []) (length ms) (omega arith)
+          ∙ append-nil (places_in 0 n ms)));
+      apart = rest ∙ ap (λ n. take (n - 1) kept.others.items) kept.others.ok.0
+          ∙ ap without_last (t.counted.apart ∙ ap (other_places 0) was
+          ∙ others_append 0 ms (None ∷ []) (length ms) (omega arith)) ∙ last_gone (other_places 0 ms) (length ms);
+      settled = t.counted.settled;
+      left_listed = t.counted.left_listed;
+      listed = t.counted.listed;
+    };
+    dead = some_more (IsEmptyAt kept.arena (ms ++ None ∷ [])) (IsEmptyAt kept.arena ms)
+        (λ n h. empty_same kept.arena (ms ++ None ∷ []) ms n (sym (same n)) h) kept.dead (rw was at t.dead);
+    heard = fewer t.heard;
+  };
+  words = kept_same kept.arena (ms ++ None ∷ []) ms kept.constants.items stack.words (λ n. sym (same n))
+      (rw was at k.words);
+  declared = k.declared;
+}
   where
     t : IsTaken kept stack.table stack.assertions
     t = k.taken
+
+    ms : List (Option Member)
+    ms = d.members.items
+
+    few : vec_len kept.roots - 1 ≡ length ms
+    few = omega (arith, t.rooted.abreast, ap length was, length-append ms (None ∷ []), kept.roots.ok.0)
+
+    same : (n : ℕ) → ids_in (ms ++ None ∷ []) n ≡ ids_in ms n
+    same n = ids_append ms (None ∷ []) n ∙ append-nil (ids_in ms n)
+
+-- what stays through one step stays through two
+pub same_again : (a b c : Decider) → IsSameElsewhere a b → IsSameElsewhere b c → IsSameElsewhere a c
+same_again a b c p q = record {
+  arena = q.arena ∙ p.arena;
+  graph = q.graph ∙ p.graph;
+  normals = q.normals ∙ p.normals;
+  measures = q.measures ∙ p.measures;
+  plain = q.plain ∙ p.plain;
+}
 
 -- the assertion at the next place
 pub at_place : (v : Vec (Option Member) Global) (xs : List code.Assertion) (i : ℕ) (x : code.Assertion) → i ≡ vec_len v
@@ -438,11 +368,7 @@ one_outside ts [] i x low is h = absurd (omega arith)
 one_outside ts (y ∷ xs) zero x low is h = rw (← is) (rw h refl)
 one_outside ts (y ∷ xs) (suc i) x low is h =
     ap (λ b. is_decided (assertion_in ts y) && b) (one_outside ts xs i x (omega arith) is h)
-    ∙ and_false (is_decided (assertion_in ts y))
-  where
-    and_false : (b : Bool) → (b && false) ≡ false
-    and_false true = refl
-    and_false false = refl
+    ∙ and-false (is_decided (assertion_in ts y))
 
 -- of this term, or of none
 pub term_outside : (ts : List Term) (xs : List code.Assertion) (i : ℕ) (x : code.Assertion) (o : Option ℕ)
@@ -486,7 +412,7 @@ is_member rs ts xs i x m id R numbers low at there asks fit regex = record {
 }
 
 -- each constant's serial is below the number of constants
-below_in : (n : ℕ) (ts : List Term) (a : Assertion) (o : Option ℕ) → all_below n ts ≡ true
+pub below_in : (n : ℕ) (ts : List Term) (a : Assertion) (o : Option ℕ) → all_below n ts ≡ true
     → IfSome o (λ id. id < length ts) → a ≡ assertion_of ts o → (t : Term) → a ≡ asserted t →
     has_serials_below n t ≡ true
 below_in n ts a None h l is t e = absurd (mark_is_none t (sym is ∙ e))
@@ -511,10 +437,11 @@ serial_within n ts xs i x id serial R h numbers l is there asks =
 -- nothing is known yet
 pub knows_none : (kept : Decider) (stack : Stacked) → length kept.members.items ≡ 0 → length kept.roots.items ≡ 0 →
     length kept.others.items ≡ 0 → length kept.constants.items ≡ 0 → length kept.changed.items ≡ 0 →
-    length kept.left.items ≡ 0 → kept.dead ≡ None → IsGraph kept.arena kept.graph →
+    length kept.left.items ≡ 0 → kept.spoken.keys ≡ [] → kept.heard ≡ 0 → kept.dead ≡ None →
+    IsGraph kept.arena kept.graph →
     AreNormals stack.table kept.arena kept.normals → kept.measures ≡ [] → IsRight kept.arena kept.plain →
     stack.words ≡ [] → Knows kept stack
-knows_none kept stack members roots others constants changed left dead graph normals measures plain words =
+knows_none kept stack members roots others constants changed left spoken heard dead graph normals measures plain words =
     let none : kept.constants.items ≡ [] = nil_from_length kept.constants.items constants in
     let nothing : kept.members.items ≡ [] = nil_from_length kept.members.items members in
     record {
@@ -533,13 +460,16 @@ knows_none kept stack members roots others constants changed left dead graph nor
             slice_get_within kept.members.items place (Some m) at,
           ));
         };
-        within = λ i d l. absurd (omega (arith, l, members));
-        places = λ n. ap (λ cs. (conjoined_at cs n).places) none ∙ ap (places_in 0 n) (sym nothing);
-        others = nil_from_length kept.others.items others ∙ ap (other_places 0) (sym nothing);
-        settled = λ n h j. rw none refl;
-        listed = λ i d l. absurd (omega (arith, l, changed));
-        left = λ i d l. absurd (omega (arith, l, left));
+        counted = record {
+          within = λ i d l. absurd (omega (arith, l, members));
+          places = λ n. ap (λ cs. (conjoined_at cs n).places) none ∙ ap (places_in 0 n) (sym nothing);
+          apart = nil_from_length kept.others.items others ∙ ap (other_places 0) (sym nothing);
+          settled = λ n h j. rw none refl;
+          left_listed = λ i d l. absurd (omega (arith, l, left));
+          listed = λ i d l. absurd (omega (arith, l, changed));
+        };
         dead = rw dead tt;
+        heard = heard_none stack.table stack.assertions kept.others.items kept.heard kept.spoken.keys heard spoken;
       };
       words = record {
         characters = rw words refl;
@@ -550,26 +480,28 @@ knows_none kept stack members roots others constants changed left dead graph nor
       declared = omega (arith, constants);
     }
 
--- another table and other assertions
+-- another table, and other assertions behind those that were taken in
 knows_told : NormalsStay → (kept : Decider) (old new : Stacked) → table.Extends old.table new.table
     → new.words ≡ old.words → length old.scope.sorts ≤ length new.scope.sorts
-    → AreMembers kept.arena new.table kept.members.items new.assertions → Knows kept old → Knows kept new
-knows_told stays kept old new e words constants members k =
-    let t = k.taken in record {
+    → ((p : ℕ) → p < length kept.members.items → slice_get new.assertions p ≡ slice_get old.assertions p)
+    → Knows kept old → Knows kept new
+knows_told stays kept old new e words constants same k =
+    let t = k.taken in
+    let ms = kept.members.items in record {
       taken = record {
         graph = t.graph;
         normals = stays old.table new.table kept.arena kept.arena kept.normals e (extends_same kept.arena) t.normals;
         measures = measures_kept old.table new.table kept.measures e t.measures;
         plain = t.plain;
-        members = members;
+        members = members_told kept.arena new.table ms old.assertions new.assertions same
+            (members_moved kept.arena kept.arena old.table new.table ms old.assertions (extends_same kept.arena) e
+            t.members);
         rooted = t.rooted;
-        within = t.within;
-        places = t.places;
-        others = t.others;
-        settled = t.settled;
-        listed = t.listed;
-        left = t.left;
+        counted = t.counted;
         dead = t.dead;
+        heard = heard_told kept.arena old.table new.table ms old.assertions new.assertions kept.others.items kept.heard
+            kept.spoken.keys e t.members same (All-same (λ p. p < length ms) kept.others.items (other_places 0 ms)
+            t.counted.apart (λ i d l. let one = others_below 0 ms i d l in omega (arith, one))) t.heard;
       };
       words = rw words k.words;
       declared = omega (arith, k.declared, constants);
@@ -580,55 +512,24 @@ pub knows_stays : NormalsStay → (kept : Decider) (old new : Stacked) → table
     → IsLonger old.assertions new.assertions → new.words ≡ old.words → length old.scope.sorts ≤ length new.scope.sorts →
     Knows kept old → Knows kept new
 knows_stays stays kept old new e longer words constants k =
-    knows_told stays kept old new e words constants
-    (rw longer.1 (members_longer kept.arena new.table kept.members.items old.assertions longer.0
-    (members_told kept.arena old.table new.table kept.members.items old.assertions e k.taken.members))) k
+    let few = members_few kept.arena old.table kept.members.items old.assertions k.taken.members in
+    knows_told stays kept old new e words constants (λ p l. ap (λ xs. slice_get xs p) longer.1
+    ∙ same_left old.assertions longer.0 p (omega (arith, l, few))) k
 
 -- the table grows, and assertions go that were not taken in
 pub knows_left : NormalsStay → (kept : Decider) (old new : Stacked) → table.Extends old.table new.table
     → IsLonger new.assertions old.assertions → length kept.members.items ≤ length new.assertions
     → new.words ≡ old.words → length old.scope.sorts ≤ length new.scope.sorts → Knows kept old → Knows kept new
-knows_left stays kept old new e longer few words constants k =
-    knows_told stays kept old new e words constants
-    (members_left kept.arena new.table kept.members.items new.assertions longer.0 few
-    (subst (AreMembers kept.arena new.table kept.members.items) longer.1
-    (members_told kept.arena old.table new.table kept.members.items old.assertions e k.taken.members))) k
+knows_left stays kept old new e longer few words constants =
+    knows_told stays kept old new e words constants (λ p l. sym (ap (λ xs. slice_get xs p) longer.1
+    ∙ same_left new.assertions longer.0 p (omega (arith, l, few))))
 
--- another mode
-pub knows_mode : (kept : Decider) (stack : Stacked) (mode : _) → Knows kept stack
-    → Knows kept (record stack { mode = mode })
-knows_mode kept stack mode k = record { taken = k.taken; words = k.words; declared = k.declared }
-
--- the graph and the arena grow, and intersections and matches are known
-pub taken_searched : NormalsStay → (kept : Decider) (rs : List Regex) (g : Findings) (p : Memory)
-    (roots : Vec (Option ℕ) Global) (fs : Vec Found Global) (ts : List Term) (xs : List code.Assertion) →
-    Extends kept.arena rs → IsGraph rs g → IsRight rs p → AreRooted rs kept.members.items roots.items →
-    IsTaken kept ts xs → IsTaken (record kept { arena = rs; graph = g; plain = p; roots = roots; found = fs }) ts xs
-taken_searched stays kept rs g p roots fs ts xs e graph plain rooted t = record {
-  graph = graph;
-  normals = stays ts ts kept.arena rs kept.normals (table_facts.extends_same ts) e t.normals;
-  measures = t.measures;
-  plain = plain;
-  members = members_grown kept.arena rs ts kept.members.items xs e t.members;
-  rooted = rooted;
-  within = t.within;
-  places = t.places;
-  others = t.others;
-  settled = t.settled;
-  listed = t.listed;
-  left = t.left;
-  dead = dead_kept kept.arena rs kept.members.items kept.dead e t.rooted.numbers t.dead;
-}
-
--- and that a constant has no word
-pub knows_dead : NormalsStay → (kept : Decider) (rs : List Regex) (g : Findings) (p : Memory)
-    (roots : Vec (Option ℕ) Global) (stack : Stacked) (serial : Serial) → Extends kept.arena rs → IsGraph rs g →
-    IsRight rs p → AreRooted rs kept.members.items roots.items → IsEmptyAt rs kept.members.items serial.0 →
-    Knows kept stack →
-    Knows (record kept { arena = rs; graph = g; plain = p; roots = roots; dead = Some serial }) stack
-knows_dead stays kept rs g p roots stack serial e graph plain rooted empty k =
-    let t = taken_searched stays kept rs g p roots kept.found stack.table stack.assertions e graph plain rooted k.taken
-    in record {
+-- a constant is known to have no word
+pub knows_dead : (kept : Decider) (serial : Serial) (stack : Stacked)
+    → IsEmptyAt kept.arena kept.members.items serial.0 → Knows kept stack
+    → Knows (record kept { dead = Some serial }) stack
+knows_dead kept serial stack empty k =
+    let t = k.taken in record {
       taken = record {
         graph = t.graph;
         normals = t.normals;
@@ -636,51 +537,22 @@ knows_dead stays kept rs g p roots stack serial e graph plain rooted empty k =
         plain = t.plain;
         members = t.members;
         rooted = t.rooted;
-        within = t.within;
-        places = t.places;
-        others = t.others;
-        settled = t.settled;
-        listed = t.listed;
-        left = t.left;
+        counted = t.counted;
         dead = empty;
+        heard = t.heard;
       };
-      words = kept_grown kept.arena rs kept.members.items kept.constants.items stack.words e k.taken.rooted.numbers
-          k.words;
+      words = k.words;
       declared = k.declared;
     }
 
 -- all of it grows
-pub taken_all : GraphStays → RightStays → (kept : Decider) (rs : List Regex) (g : Findings) (ks : List Known)
-    (ms : List Measure) (p : Memory) (ts : List Term) (xs : List code.Assertion) → Extends kept.arena rs →
-    IsGraph rs g → AreNormals ts rs ks → AreMeasures ts ms → IsRight rs p → IsTaken kept ts xs →
-    IsTaken (record kept { arena = rs; graph = g; normals = ks; measures = ms; plain = p }) ts xs
-taken_all stays right kept rs g ks ms p ts xs e graph normals measures plain k =
-    let t = taken_grown stays right kept rs ks ms ts xs e normals measures k in record {
-      graph = graph;
-      normals = t.normals;
-      measures = t.measures;
-      plain = plain;
-      members = t.members;
-      rooted = t.rooted;
-      within = t.within;
-      places = t.places;
-      others = t.others;
-      settled = t.settled;
-      listed = t.listed;
-      left = t.left;
-      dead = t.dead;
-    }
-
 pub knows_grown : GraphStays → RightStays → (kept : Decider) (rs : List Regex) (g : Findings) (ks : List Known)
     (ms : List Measure) (p : Memory) (stack : Stacked) → Extends kept.arena rs → IsGraph rs g →
     AreNormals stack.table rs ks → AreMeasures stack.table ms → IsRight rs p → Knows kept stack →
     Knows (record kept { arena = rs; graph = g; normals = ks; measures = ms; plain = p }) stack
-knows_grown stays right kept rs g ks ms p stack e graph normals measures plain k = record {
-  taken = taken_all stays right kept rs g ks ms p stack.table stack.assertions e graph normals measures plain k.taken;
-  words = kept_grown kept.arena rs kept.members.items kept.constants.items stack.words e k.taken.rooted.numbers
-      k.words;
-  declared = k.declared;
-}
+knows_grown stays right kept rs g ks ms p stack e graph normals measures plain k =
+    knows_known kept rs g ks ms p kept.roots kept.found stack e graph normals measures plain
+    (rooted_grown kept.arena rs kept.members.items kept.roots.items e k.taken.rooted) k
 
 -- the places of those that are no memberships are places of assertions
 pub others_within : (kept : Decider) (stack : Stacked) → Knows kept stack → (place : ℕ)
@@ -688,7 +560,7 @@ pub others_within : (kept : Decider) (stack : Stacked) → Knows kept stack → 
 others_within kept stack k place there =
     let few = members_few kept.arena stack.table kept.members.items stack.assertions k.taken.members in
     let below = others_below 0 kept.members.items in
-    let these : Contains (other_places 0 kept.members.items) place = rw k.taken.others at there in
+    let these : Contains (other_places 0 kept.members.items) place = rw k.taken.counted.apart at there in
     let low = below these.0 place these.1 in
     let same : get_or (other_places 0 kept.members.items) these.0 place ≡ place = these.2 in
     omega (arith, few, low, same)

@@ -1,98 +1,147 @@
--- Which of the constants that changed are left to a search.
-use Rattle.std.proofs.Common.{◌≡◌, ℕ, zero, suc, ◌+◌, ◌<◌, ◌≤◌, true, false, ◌||◌, ◌==◌, List, [], ◌∷◌, ◌++◌, length, get_or, slice_get, option_map, take, Some, refl, sym, ap, ap₂, subst, ◌∙◌, arith}
-use Rattle.std.proofs.lemmas.Bool.{or_parts}
-use Rattle.std.proofs.lemmas.List.{take_all, take_more}
-use Rattle.std.proofs.lemmas.List.Elements.{All-append, All-push}
-use Rattle.std.proofs.lemmas.List.Folds.{list_any-append}
+-- The constants that occur in assertions of other structure, and which of those that changed are left to a search.
+use Rattle.std.proofs.Common.{◌≡◌, ℕ, suc, ◌+◌, ◌<◌, ◌≤◌, Bool, true, false, not, ◌&&◌, ◌||◌, ◌==◌, List, [], ◌∷◌, ◌++◌, length, get_or, slice_get, option_map, take, Option, Some, None, refl, sym, ap, ap₂, subst, ◌∙◌, arith}
+use Rattle.sb_decide.proofs.Words.{All, All-contains, All-nil, All-push, AreMeasures, AreSpoken, Assertion, Contains, Decider, IsParted, IsSpoken, Knows, Serial, Speaks, Stacked, a_mark, asserted, assertion_in, assertion_of, false≢true, is_listed, is_silent, list_all, list_any-append, live, live_laid, occurs, or_left, or_parts, or_right, passes_at, state_of, take_all, take_more}
+use Rattle.std.proofs.Math.Bool.{or_assoc, or_comm}
+use Rattle.std.proofs.lemmas.List.Elements.{All-append}
+use Rattle.std.proofs.lemmas.List.Sums.{AllPass-from_list_all}
 use Rattle.std.proofs.lemmas.Option.{slice_get-map}
-use Rattle.std.specs.List.{All}
-use Rattle.std.specs.declared.vec.Vec.{Vec}
-use Rattle.std.specs.declared.alloc.Global.{Global}
-use Rattle.sb_term.specs.declared.term.Serial.{Serial}
-use Rattle.sb_term.specs.Numbered.{term_at}
-use Rattle.sb_fragment.specs.declared.measure.Measure.{Measure}
-use Rattle.sb_fragment.specs.Measures.{AreMeasures}
-use Rattle.sb_stack.specs.Stacked.{Stacked, assertion_in, assertion_of}
-use Rattle.sb_stack.proofs.CallerLemmas.{live_laid}
-use Rattle.sb_decide.specs.declared.decide.Decider.{Decider}
-use Rattle.sb_decide.specs.Conjoined.{is_listed}
-use Rattle.sb_decide.specs.Knowing.{Knows}
-use Rattle.sb_decide.specs.Parting.{IsParted}
-use Rattle.sb_decide.specs.Ready.{IsSpoken}
-use Rattle.sb_decide.specs.Speaking.{OccursIn, Speaks}
+use Rattle.sb_term.specs.declared.assertion.Assertion as code
+use Rattle.sb_decide.specs.Speaking.{passes, passes_in}
+use Rattle.sb_decide.proofs.Constants.{listed_all, listed_at}
 
--- One more constant.
+-- The constants that occur at places.
 
-behind : (xs : List Serial) (s : Serial) (n : ℕ) → is_listed xs n ≡ false → (s.0 == n) ≡ false
-    → is_listed (xs ++ s ∷ []) n ≡ false
-behind xs s n e f =
-    list_any-append (λ (x : Serial). x.0 == n) xs (s ∷ []) ∙ ap₂ (λ a b. a || (b || false)) e f
+-- a place at which a test fails
+record IsFailing (test : ℕ → Bool) (places : List ℕ) : Type 0 where
+  place : ℕ
+  among : Contains places place
+  fails : test place ≡ false
 
--- it is neither one of the first ones nor the last one
-apart : (xs : List Serial) (s : Serial) (n : ℕ) → is_listed (xs ++ s ∷ []) n ≡ false
-    → (is_listed xs n ≡ false) × ((s.0 == n) ≡ false)
-apart xs s n h =
-    let parts = or_parts (is_listed xs n) ((s.0 == n) || false)
-    (sym (list_any-append (λ (x : Serial). x.0 == n) xs (s ∷ [])) ∙ h) in
-    (parts.0, (or_parts (s.0 == n) false parts.1).0)
+not_all : (test : ℕ → Bool) (places : List ℕ) → list_all test places ≡ false → IsFailing test places
+not_all test [] h = absurd (false≢true (sym h))
+not_all test (p ∷ places) h = by (test p) refl h (not_all test places)
+  where
+    by : (b : Bool) → test p ≡ b → (b && list_all test places) ≡ false
+        → (list_all test places ≡ false → IsFailing test places) → IsFailing test (p ∷ places)
+    by true e k later =
+        let one = later k in record {
+          place = one.place;
+          among = (suc one.among.0, (omega (arith, one.among.1)), one.among.2);
+          fails = one.fails;
+        }
+    by false e k later = record { place = p; among = (0, (omega arith), refl); fails = e }
 
-last_of : (b : ℕ) (xs : List Serial) (s : Serial) → All (λ x. x.0 < b) (xs ++ s ∷ []) → s.0 < b
-last_of b [] s h = h 0 s (omega arith)
-last_of b (x ∷ xs) s h = last_of b xs s (λ k d l. h (suc k) d (omega (arith, l)))
+-- the constant does not occur in the assertion, if there is one
+abbrev silent_in : ℕ → Option Assertion → Bool
+silent_in n None = true
+silent_in n (Some a_mark) = true
+silent_in n (Some (asserted t)) = not (occurs n t)
 
-front_of : (b : ℕ) (xs : List Serial) (s : Serial) → All (λ x. x.0 < b) (xs ++ s ∷ []) → All (λ x. x.0 < b) xs
-front_of b [] s h k d l = absurd (omega (arith, l))
-front_of b (x ∷ xs) s h zero d l = h 0 d (omega arith)
-front_of b (x ∷ xs) s h (suc k) d l =
-    front_of b xs s (λ j e m. h (suc j) e (omega (arith, m))) k d (omega (arith, l))
+silent_live : (stack : Stacked) (n place : ℕ) → passes_at (is_silent stack.table n) stack.assertions place
+    ≡ silent_in n (slice_get (live (state_of stack)) place)
+silent_live stack n place =
+    whole (slice_get stack.assertions place)
+    ∙ ap (silent_in n) (sym (slice_get-map (assertion_in stack.table) stack.assertions place)
+    ∙ ap (λ list. slice_get list place) (sym (live_laid stack)))
+  where
+    term : (q : Option ℕ) → passes (is_silent stack.table n) q ≡ silent_in n (Some (assertion_of stack.table q))
+    term None = refl
+    term (Some id) = refl
+
+    whole : (o : Option code.Assertion) → passes_in (is_silent stack.table n) o
+        ≡ silent_in n (option_map (assertion_in stack.table) o)
+    whole None = refl
+    whole (Some a) = term a.term
+
+pub spoken_of : (places : List ℕ) (stack : Stacked) (serials : List Serial)
+    → Speaks stack.table stack.assertions places serials → AreSpoken places stack serials
+spoken_of places stack serials speaks = record {
+  each = λ n o. listed n o (is_listed serials n) refl;
+  only = λ n h.
+      let one = not_all (passes_at (is_silent stack.table n) stack.assertions) places (speaks n ∙ ap not h) in
+      heard n one.place one.among (slice_get (live (state_of stack)) one.place) refl
+      (sym (silent_live stack n one.place) ∙ one.fails);
+}
+  where
+    listed : (n : ℕ) → IsSpoken places stack n → (b : Bool) → is_listed serials n ≡ b → b ≡ true
+    listed n o true e = refl
+    listed n o false e =
+        ap not (sym o.occurring)
+        ∙ (ap (silent_in n) (sym o.there)
+        ∙ (sym (silent_live stack n o.place)
+        ∙ All-contains (λ p. passes_at (is_silent stack.table n) stack.assertions p ≡ true) places o.place
+        (AllPass-from_list_all (passes_at (is_silent stack.table n) stack.assertions) places (speaks n ∙ ap not e))
+        o.other))
+
+    is_true : (b : Bool) → not b ≡ false → b ≡ true
+    is_true true h = refl
+    is_true false h = sym h
+
+    heard : (n place : ℕ) → Contains places place → (o : Option Assertion)
+        → slice_get (live (state_of stack)) place ≡ o → silent_in n o ≡ false → IsSpoken places stack n
+    heard n place c None e h = absurd (false≢true (sym h))
+    heard n place c (Some a_mark) e h = absurd (false≢true (sym h))
+    heard n place c (Some (asserted t)) e h =
+        record { place = place; term = t; other = c; there = e; occurring = is_true (occurs n t) h }
+
+-- Constants are parted.
 
 pub parted_none : (spoken changed left : List Serial) → changed ≡ [] → left ≡ [] → IsParted [] spoken changed left
 parted_none spoken changed left none nothing = rw (none, nothing) (record {
-  each = λ n h k. refl;
-  are_spoken = λ k d l. absurd (omega (arith, l));
-  left_below = λ b h. h;
-  changed_below = λ b h. h;
+  each = λ n. refl;
+  are_spoken = All-nil (λ (serial : Serial). is_listed spoken serial.0 ≡ true);
 })
 
-pub parted_left : (all spoken changed left more : List Serial) (s : Serial) → is_listed spoken s.0 ≡ true
-    → more ≡ left ++ s ∷ [] → IsParted all spoken changed left → IsParted (all ++ s ∷ []) spoken changed more
-parted_left all spoken changed left more s there made p = rw made (record {
-  each = λ n h k. let parts = apart left s n h in behind all s n (p.each n parts.0 k) parts.1;
-  are_spoken = All-push (λ (x : Serial). is_listed spoken x.0 ≡ true) left s p.are_spoken there;
-  left_below = λ b h. All-push (λ (x : Serial). x.0 < b) left s (p.left_below b (front_of b all s h))
-      (last_of b all s h);
-  changed_below = λ b h. p.changed_below b (front_of b all s h);
-})
+listed_both : (n : ℕ) (xs ys : List Serial) → is_listed (xs ++ ys) n ≡ (is_listed xs n || is_listed ys n)
+listed_both n xs ys = list_any-append (λ (x : Serial). x.0 == n) xs ys
 
-pub parted_changed : (all spoken changed left more : List Serial) (s : Serial) → more ≡ changed ++ s ∷ []
-    → IsParted all spoken changed left → IsParted (all ++ s ∷ []) spoken more left
-parted_changed all spoken changed left more s made p = rw made (record {
-  each = λ n h k. let parts = apart changed s n k in behind all s n (p.each n h parts.0) parts.1;
+-- the next one is left
+pub parted_left : (all spoken changed left more : List Serial) (i : ℕ) (d : Serial) → i < length all
+    → is_listed spoken (get_or all i d).0 ≡ true → more ≡ left ++ get_or all i d ∷ []
+    → IsParted (take i all) spoken changed left → IsParted (take (i + 1) all) spoken changed more
+parted_left all spoken changed left more i d l there made p = rw (made, take_more all i d l) (record {
+  each = λ n. listed_both n (take i all) (s ∷ [])
+      ∙ (ap (λ b. b || is_listed (s ∷ []) n) (p.each n)
+      ∙ (or_assoc (is_listed changed n) (is_listed left n) (is_listed (s ∷ []) n)
+      ∙ ap (λ b. is_listed changed n || b) (sym (listed_both n left (s ∷ [])))));
+  are_spoken = All-push (λ (serial : Serial). is_listed spoken serial.0 ≡ true) left s p.are_spoken there;
+})
+  where
+    s : Serial
+    s = get_or all i d
+
+-- or it stays
+pub parted_changed : (all spoken changed left more : List Serial) (i : ℕ) (d : Serial) → i < length all
+    → more ≡ changed ++ get_or all i d ∷ [] → IsParted (take i all) spoken changed left
+    → IsParted (take (i + 1) all) spoken more left
+parted_changed all spoken changed left more i d l made p = rw (made, take_more all i d l) (record {
+  each = λ n. listed_both n (take i all) (s ∷ [])
+      ∙ (ap (λ b. b || is_listed (s ∷ []) n) (p.each n)
+      ∙ (turn (is_listed changed n) (is_listed left n) (is_listed (s ∷ []) n)
+      ∙ ap (λ b. b || is_listed left n) (sym (listed_both n changed (s ∷ [])))));
   are_spoken = p.are_spoken;
-  left_below = λ b h. p.left_below b (front_of b all s h);
-  changed_below = λ b h. All-push (λ (x : Serial). x.0 < b) changed s (p.changed_below b (front_of b all s h))
-      (last_of b all s h);
 })
+  where
+    s : Serial
+    s = get_or all i d
 
-pub parted_next : (all spoken changed left changed' left' : List Serial) (i : ℕ) (d : Serial) → i < length all
-    → ((xs : List Serial) → IsParted xs spoken changed left
-    → IsParted (xs ++ get_or all i d ∷ []) spoken changed' left')
-    → IsParted (take i all) spoken changed left → IsParted (take (i + 1) all) spoken changed' left'
-parted_next all spoken changed left changed' left' i d l step p =
-    subst (λ xs. IsParted xs spoken changed' left') (sym (take_more all i d l)) (step (take i all) p)
+    turn : (a b c : Bool) → ((a || b) || c) ≡ ((a || c) || b)
+    turn true b c = refl
+    turn false b c = or_comm b c
 
 pub parted_done : (all spoken changed left : List Serial) (i : ℕ) → length all ≤ i
     → IsParted (take i all) spoken changed left → IsParted all spoken changed left
-parted_done all spoken changed left i l p =
-    subst (λ xs. IsParted xs spoken changed left) (take_all i all l) p
+parted_done all spoken changed left i l p = subst (λ xs. IsParted xs spoken changed left) (take_all i all l) p
 
 -- The whole.
 
-pub knows_parted : (kept : Decider) (ms : List Measure) (cs ls : Vec Serial Global) (all spoken : List Serial)
-    (stack : Stacked) → AreMeasures stack.table ms → all ≡ kept.changed.items ++ kept.left.items
-    → IsParted all spoken cs.items ls.items → Knows kept stack
-    → Knows (record kept { measures = ms; changed = cs; left = ls }) stack
-knows_parted kept ms cs ls all spoken stack measures is p k =
+pub knows_parted : (kept d : Decider) (all : List Serial) (stack : Stacked) → AreMeasures stack.table d.measures →
+    all ≡ kept.changed.items ++ kept.left.items → IsParted all d.spoken.keys d.changed.items d.left.items →
+    d.heard ≡ length kept.others.items → Speaks stack.table stack.assertions kept.others.items d.spoken.keys →
+    Knows kept stack →
+    Knows (record kept { measures = d.measures; changed = d.changed; left = d.left; spoken = d.spoken; heard = d.heard })
+    stack
+knows_parted kept d all stack measures is p count speaks k =
     let t = k.taken in record {
       taken = record {
         graph = t.graph;
@@ -101,46 +150,45 @@ knows_parted kept ms cs ls all spoken stack measures is p k =
         plain = t.plain;
         members = t.members;
         rooted = t.rooted;
-        within = t.within;
-        places = t.places;
-        others = t.others;
-        settled = λ n h j. t.settled n (parts n h j).1 (parts n h j).0;
-        listed = p.changed_below (length kept.constants.items) within;
-        left = p.left_below (length kept.constants.items) within;
+        counted = record {
+          within = t.counted.within;
+          places = t.counted.places;
+          apart = t.counted.apart;
+          settled = λ n h j.
+              let none = or_parts (is_listed kept.changed.items n) (is_listed kept.left.items n)
+              (sym (each n) ∙ ap₂ ◌||◌ j h) in
+              t.counted.settled n none.1 none.0;
+          left_listed = λ i x l. low (get_or d.left.items i x).0
+              (or_right (is_listed d.changed.items _) (is_listed d.left.items _) (listed_at d.left.items i x l));
+          listed = λ i x l. low (get_or d.changed.items i x).0
+              (or_left (is_listed d.changed.items _) (is_listed d.left.items _) (listed_at d.changed.items i x l));
+        };
         dead = t.dead;
+        heard = record {
+          within = omega (arith, count);
+          speaks = subst (λ ps. Speaks stack.table stack.assertions ps d.spoken.keys)
+              (sym (take_all d.heard kept.others.items (omega (arith, count)))) speaks;
+        };
       };
       words = k.words;
       declared = k.declared;
     }
   where
-    within : All (λ (serial : Serial). serial.0 < length kept.constants.items) all
-    within =
-        rw is (All-append (λ (serial : Serial). serial.0 < length kept.constants.items) kept.changed.items
-        kept.left.items k.taken.listed k.taken.left)
+    each : (n : ℕ) → (is_listed d.changed.items n || is_listed d.left.items n)
+        ≡ (is_listed kept.changed.items n || is_listed kept.left.items n)
+    each n =
+        sym (p.each n)
+        ∙ (ap (λ xs. is_listed xs n) is ∙ listed_both n kept.changed.items kept.left.items)
 
-    parts : (n : ℕ) → is_listed ls.items n ≡ false → is_listed cs.items n ≡ false
-        → (is_listed kept.changed.items n ≡ false) × (is_listed kept.left.items n ≡ false)
-    parts n h j =
-        or_parts (is_listed kept.changed.items n) (is_listed kept.left.items n)
-        (sym (list_any-append (λ (x : Serial). x.0 == n) kept.changed.items kept.left.items)
-        ∙ (ap (λ ss. is_listed ss n) (sym is) ∙ p.each n h j))
-
--- those that are left occur in assertions of other structure
-occurs_live : (places : List ℕ) (stack : Stacked) (n : ℕ) → OccursIn stack.table stack.assertions places n
-    → IsSpoken places stack n
-occurs_live places stack n o = record {
-  place = o.place;
-  term = term_at stack.table o.id;
-  other = o.listed;
-  there = ap (λ list. slice_get list o.place) (live_laid stack)
-      ∙ (slice_get-map (assertion_in stack.table) stack.assertions o.place
-      ∙ (ap (option_map (assertion_in stack.table)) o.there
-      ∙ ap (λ q. Some (assertion_of stack.table q)) o.number));
-  occurring = o.occurring;
-}
+    low : (n : ℕ) → (is_listed d.changed.items n || is_listed d.left.items n) ≡ true → n < length kept.constants.items
+    low n h =
+        listed_all (λ m. m < length kept.constants.items) (kept.changed.items ++ kept.left.items) n
+        (All-append (λ (x : Serial). x.0 < length kept.constants.items) kept.changed.items kept.left.items
+        k.taken.counted.listed k.taken.counted.left_listed)
+        (ap (λ xs. is_listed xs n) (sym is) ∙ (p.each n ∙ h))
 
 pub left_spoken : (places : List ℕ) (stack : Stacked) (all spoken changed left : List Serial)
-    → Speaks stack.table stack.assertions places spoken → IsParted all spoken changed left
+    → AreSpoken places stack spoken → IsParted all spoken changed left
     → All (λ serial. IsSpoken places stack serial.0) left
 left_spoken places stack all spoken changed left speaks p k d l =
-    occurs_live places stack (get_or left k d).0 (speaks.only (get_or left k d).0 (p.are_spoken k d l))
+    speaks.only (get_or left k d).0 (p.are_spoken k d l)

@@ -1,56 +1,13 @@
 -- Intersections that are known, as assertions come and go, and the walk back to the last of them.
-use Rattle.std.proofs.Common.{◌≡◌, ◌≢◌, ℕ, zero, suc, ◌+◌, ◌<◌, Bool, true, false, ◌&&◌, ◌==◌, if◌then◌else◌, List, [], ◌∷◌, ◌++◌, length, get_or, set, take, refl, sym, ap, ap₂, subst, ◌∙◌, arith, Option, Some, None, length-append, append_assoc, add-one, slice_get}
-use Rattle.std.proofs.Math.Bool.{and_assoc, and_comm}
-use Rattle.std.proofs.lemmas.Bool.{eqb-true, eqb-false}
-use Rattle.std.proofs.lemmas.List.{get_or_append_left, get_or-take, take-append-le, length-set, length-take-le}
-use Rattle.std.proofs.Math.Seq.{get_or-append_seam}
-use Rattle.std.proofs.lemmas.List.Elements.{All-cons, All-nil, All-take, All-push}
-use Rattle.std.proofs.lemmas.Option.{slice_get_within}
-use Rattle.std.specs.List.{All}
-use Rattle.sb_lang.specs.Language.{language}
-use Rattle.sb_lang.specs.Regex.{Regex}
-use Rattle.sb_regex.specs.Numbered.{AllNumbers, Extends, regex_at}
-use Rattle.sb_regex.proofs.CallerLemmas.{at_kept, number_kept}
-use Rattle.sb_decide.specs.declared.conjuncts.Member.{Member}
-use Rattle.sb_decide.specs.Deciding.{in_each}
-use Rattle.sb_decide.specs.Members.{AreConjuncts, AreRooted, HasRegexBelow, IsRootOf, ids_in, places_in, root_at, words_in}
+use Rattle.std.proofs.Common.{◌≡◌, ◌≢◌, ℕ, zero, suc, ◌+◌, ◌<◌, Bool, true, false, ◌&&◌, ◌==◌, if◌then◌else◌, List, [], ◌∷◌, ◌++◌, length, get_or, set, take, refl, sym, ap, ap₂, subst, ◌∙◌, arith, Option, Some, None, length-append, append_assoc, slice_get, append-nil}
+use Rattle.sb_decide.proofs.Words.{All, All-cons, All-nil, All-pop, All-push, All-take, AllNumbers, AreConjuncts, AreRooted, Extends, HasRegexBelow, IsRootOf, Member, Regex, and-true, and_assoc, and_comm, at_kept, eqb-true, get_or-take, get_or_append_left, get_or_default, get_or_from_slice_get, id_of, ids_at, in_each, language, length-set, length-take-le, map-append, none-some, number_kept, places_in, regex_at, root_at, same_Some, slice_get_within, take-append-le, words_in}
 use Rattle.sb_decide.proofs.Conjunctions.{in_each-append}
-use Rattle.sb_decide.proofs.MemberFacts.{further_on, ids_here, words_grown}
+use Rattle.sb_decide.proofs.MemberFacts.{by_number, further_on, same_left, words_grown}
+use Rattle.sb_decide.proofs.KeptWords.{same_place, ids_from, ids_there, number_there}
 
 -- elements of lists
-left_of : (ms more : List (Option Member)) (i : ℕ) (o : Option Member) → slice_get ms i ≡ Some o
-    → slice_get (ms ++ more) i ≡ Some o
-left_of [] more i o h = absurd (nothing h)
-  where
-    nothing : None ≡ Some o → ⊥
-    nothing e = cc
-left_of (x ∷ ms) more zero o h = h
-left_of (x ∷ ms) more (suc i) o h = left_of ms more i o h
-
-of_left : (ms more : List (Option Member)) (i : ℕ) (o : Option Member) → i < length ms
-    → slice_get (ms ++ more) i ≡ Some o → slice_get ms i ≡ Some o
-of_left [] more i o l h = absurd (omega (arith, l))
-of_left (x ∷ ms) more zero o l h = h
-of_left (x ∷ ms) more (suc i) o l h = of_left ms more i o (omega (arith, l)) h
-
-pub at_seam : (front behind : List (Option Member)) (o : Option Member)
-    → slice_get (front ++ o ∷ behind) (length front) ≡ Some o
-at_seam [] behind o = refl
-at_seam (x ∷ front) behind o = at_seam front behind o
-
-pub up_to_seam : (front behind : List (Option Member)) (o : Option Member)
-    → take (length front + 1) (front ++ o ∷ behind) ≡ front ++ o ∷ []
-up_to_seam front behind o = ap (λ k. take k (front ++ o ∷ behind)) (add-one (length front)) ∙ by_length front
-  where
-    by_length : (xs : List (Option Member)) → take (suc (length xs)) (xs ++ o ∷ behind) ≡ xs ++ o ∷ []
-    by_length [] = refl
-    by_length (x ∷ xs) = ap (λ os. x ∷ os) (by_length xs)
-
 root_within : (roots : List (Option ℕ)) (i r : ℕ) → root_at roots i ≡ Some r → i < length roots
-root_within [] i r h = absurd (nothing h)
-  where
-    nothing : None ≡ Some r → ⊥
-    nothing e = cc
+root_within [] i r h = absurd (none-some r h)
 root_within (x ∷ roots) zero r h = omega arith
 root_within (x ∷ roots) (suc i) r h = let l = root_within roots i r h in omega (arith, l)
 
@@ -106,7 +63,7 @@ rooted_pushed rs ms o roots low h = record {
       let within : place < length ms = omega (arith, root_within roots place root known, h.abreast) in
       subst (λ front. IsRootOf rs front x.serial.0 root)
       (sym (take-append-le (place + 1) ms (o ∷ []) (omega (arith, within))))
-      (h.right place x root (of_left ms (o ∷ []) place (Some x) within at) known);
+      (h.right place x root (sym (same_left ms (o ∷ []) place within) ∙ at) known);
 }
 
 -- one less
@@ -120,7 +77,7 @@ rooted_popped rs ms o roots h = record {
       let within : place < length ms = slice_get_within ms place (Some x) at in
       subst (λ front. IsRootOf rs front x.serial.0 root)
       (take-append-le (place + 1) ms (o ∷ []) (omega (arith, within)))
-      (h.right place x root (left_of ms (o ∷ []) place (Some x) at)
+      (h.right place x root (same_left ms (o ∷ []) place within ∙ at)
       (sym (get_or-take (length ms) roots place None within) ∙ is));
 }
 
@@ -131,40 +88,22 @@ pub rooted_set : (rs : List Regex) (ms : List (Option Member)) (roots : List (Op
 rooted_set rs ms roots place root m there is h = record {
   numbers = h.numbers;
   abreast = length-set roots place (Some root) ∙ h.abreast;
-  right = λ p x r at known. by_test p x r at known (p == place) refl;
+  right = by_number (λ p. (x : Member) (r : ℕ) → slice_get ms p ≡ Some (Some x)
+      → root_at (set roots place (Some root)) p ≡ Some r → IsRootOf rs (take (p + 1) ms) x.serial.0 r) place
+      (λ x r at known. subst (λ (y : Member). IsRootOf rs (take (place + 1) ms) y.serial.0 r)
+      (same_Some m x (same_Some (Some m) (Some x) (sym there ∙ at)))
+      (subst (IsRootOf rs (take (place + 1) ms) m.serial.0)
+      (same_Some root r (sym (root_set roots place root low) ∙ known)) is))
+      (λ p e x r at known. h.right p x r at (sym (root_set_other roots place p root e) ∙ known));
 }
   where
-    same_member : (x y : Member) → Some (Some x) ≡ Some (Some y) → x ≡ y
-    same_member x y e = cc
+    low : place < length roots
+    low = omega (arith, slice_get_within ms place (Some m) there, h.abreast)
 
-    same_root : (x y : ℕ) → Some x ≡ Some y → x ≡ y
-    same_root x y e = cc
-
-    by_test : (p : ℕ) (x : Member) (r : ℕ) → slice_get ms p ≡ Some (Some x)
-        → root_at (set roots place (Some root)) p ≡ Some r → (b : Bool) → (p == place) ≡ b
-        → IsRootOf rs (take (p + 1) ms) x.serial.0 r
-    by_test p x r at known true k =
-        let e : p ≡ place = eqb-true p place k in
-        let low : place < length roots = omega (arith, slice_get_within ms place (Some m) there, h.abreast) in
-        let member : m ≡ x = same_member m x (sym there ∙ (ap (slice_get ms) (sym e) ∙ at)) in
-        let this : root ≡ r = same_root root r (sym (root_set roots place root low)
-        ∙ (ap (root_at (set roots place (Some root))) (sym e) ∙ known)) in
-        subst (λ q. IsRootOf rs (take (q + 1) ms) x.serial.0 r) (sym e)
-        (subst (λ y. IsRootOf rs (take (place + 1) ms) y.serial.0 r) member
-        (subst (IsRootOf rs (take (place + 1) ms) m.serial.0) this is))
-    by_test p x r at known false k =
-        h.right p x r at (sym (root_set_other roots place p root (eqb-false p place k)) ∙ known)
-
--- of all places, of the last one and of those before it
-pub all_last : (P : ℕ → Type 0) (xs ys : List ℕ) (x : ℕ) → ys ≡ xs ++ x ∷ [] → All P ys → P x
-all_last P xs ys x is h =
-    let all : All P (xs ++ x ∷ []) = rw is at h in
-    subst P (get_or-append_seam xs x [] x) (all (length xs) x (omega (arith, length-append xs (x ∷ []))))
-
-pub all_front : (P : ℕ → Type 0) (xs ys : List ℕ) (x : ℕ) → ys ≡ xs ++ x ∷ [] → All P ys → All P xs
-all_front P xs ys x is h k d l =
-    let all : All P (xs ++ x ∷ []) = rw is at h in
-    subst P (get_or_append_left xs (x ∷ []) d k l) (all k d (omega (arith, l, length-append xs (x ∷ []))))
+-- the last of these places is below, and so are those before it
+pub last_below : (n : ℕ) (left front : List ℕ) (place : ℕ) → left ≡ front ++ place ∷ [] → All (λ p. p < n) left
+    → All (λ p. p < n) front × (place < n)
+last_below n left front place is h = All-pop (λ p. p < n) left front (Some place) is h
 
 pub places_below : (k n : ℕ) (ms : List (Option Member)) → All (λ p. p < k + length ms) (places_in k n ms)
 places_below k n [] = All-nil (λ p. p < k + 0)
@@ -180,247 +119,178 @@ places_below k n (Some m ∷ ms) =
 pub places_within : (n : ℕ) (ms : List (Option Member)) → All (λ p. p < length ms) (places_in 0 n ms)
 places_within n ms k d l = let low = places_below 0 n ms k d l in omega (arith, low)
 
--- The last membership of a constant, which stands at the last of its places.
-pub record IsLastAt (k n : ℕ) (ms : List (Option Member)) (places : List ℕ) (place : ℕ) : Type 0 where
-  pub front : List (Option Member)
-  pub m : Member
-  pub behind : List (Option Member)
-  pub is : ms ≡ front ++ Some m ∷ behind
-  pub at : place ≡ k + length front
-  pub of : m.serial.0 ≡ n
-  pub before : places_in k n front ≡ places
-  pub ids : ids_in ms n ≡ ids_in front n ++ m.regex ∷ []
+-- A membership of a constant that stands at one of its places, with those before it.
+record StandsAt (k n : ℕ) (ms : List (Option Member)) (front : List ℕ) (place : ℕ) : Type 0 where
+  m : Member
+  at : ℕ
+  is : place ≡ k + at
+  there : slice_get ms at ≡ Some (Some m)
+  of : m.serial.0 ≡ n
+  before : places_in k n (take (suc at) ms) ≡ front ++ place ∷ []
 
-no_ids : (k n : ℕ) (ms : List (Option Member)) → places_in k n ms ≡ [] → ids_in ms n ≡ []
-no_ids k n [] h = refl
-no_ids k n (None ∷ ms) h = no_ids (k + 1) n ms h
-no_ids k n (Some m ∷ ms) h = by_test (n == m.serial.0) (no_ids (k + 1) n ms) h
-  where
-    some : (i : ℕ) (is : List ℕ) → i ∷ is ≡ [] → ⊥
-    some i is e = cc
-
-    by_test : (b : Bool) → (places_in (k + 1) n ms ≡ [] → ids_in ms n ≡ [])
-        → (if b then k ∷ places_in (k + 1) n ms else places_in (k + 1) n ms) ≡ []
-        → (if b then m.regex ∷ ids_in ms n else ids_in ms n) ≡ []
-    by_test true rest e = absurd (some k (places_in (k + 1) n ms) e)
-    by_test false rest e = rest e
-
-last_passed : (k n : ℕ) (ms : List (Option Member)) (places : List ℕ) (place : ℕ)
-    → IsLastAt (k + 1) n ms places place → IsLastAt k n (None ∷ ms) places place
-last_passed k n ms places place r = record {
-  front = None ∷ r.front;
-  m = r.m;
-  behind = r.behind;
-  is = ap (λ rest. None ∷ rest) r.is;
-  at = omega (arith, r.at);
-  of = r.of;
-  before = r.before;
-  ids = r.ids;
-}
-
-pub last_at : (k n : ℕ) (ms : List (Option Member)) (places : List ℕ) (place : ℕ)
-    → places_in k n ms ≡ places ++ place ∷ [] → IsLastAt k n ms places place
-last_at k n [] places place h = absurd (nothing places h)
-  where
-    nothing : (ps : List ℕ) → [] ≡ ps ++ place ∷ [] → ⊥
-    nothing [] e = cc
-    nothing (p ∷ ps) e = cc
-last_at k n (None ∷ ms) places place h = last_passed k n ms places place (last_at (k + 1) n ms places place h)
-last_at k n (Some x ∷ ms) places place h =
-    by_test (λ ps e. last_at (k + 1) n ms ps place e) (n == x.serial.0) refl places h
+stands_at : (k n : ℕ) (ms : List (Option Member)) (front behind : List ℕ) (place : ℕ)
+    → places_in k n ms ≡ front ++ place ∷ behind → StandsAt k n ms front place
+stands_at k n [] front behind place h = absurd (omega (arith, ap length h, length-append front (place ∷ behind)))
+stands_at k n (None ∷ ms) front behind place h =
+    let r = stands_at (k + 1) n ms front behind place h in record {
+      m = r.m;
+      at = suc r.at;
+      is = omega (arith, r.is);
+      there = r.there;
+      of = r.of;
+      before = r.before;
+    }
+stands_at k n (Some x ∷ ms) front behind place h =
+    by_test (n == x.serial.0) refl front h (λ ps e. stands_at (k + 1) n ms ps behind place e)
   where
     heads : (i j : ℕ) (is js : List ℕ) → i ∷ is ≡ j ∷ js → (i ≡ j) × (is ≡ js)
     heads i j is js e = (cc, cc)
 
-    with_first : (b : Bool) → (n == x.serial.0) ≡ b → (i : ℕ) (all some : List ℕ) → all ≡ some
-        → (if n == x.serial.0 then i ∷ all else all) ≡ (if b then i ∷ some else some)
-    with_first b t i all some e = rw (t, e) refl
-
-    on : (b : Bool) → (n == x.serial.0) ≡ b → (ps qs : List ℕ)
-        → (if b then k ∷ ps else ps) ≡ qs → IsLastAt (k + 1) n ms ps place → IsLastAt k n (Some x ∷ ms) qs place
-    on b t ps qs same r = record {
-      front = Some x ∷ r.front;
+    on : (b : Bool) → (n == x.serial.0) ≡ b → (ps qs : List ℕ) → (if b then k ∷ ps else ps) ≡ qs
+        → StandsAt (k + 1) n ms ps place → (if b then k ∷ (ps ++ place ∷ []) else ps ++ place ∷ []) ≡ qs ++ place ∷ []
+        → StandsAt k n (Some x ∷ ms) qs place
+    on b t ps qs same r end = record {
       m = r.m;
-      behind = r.behind;
-      is = ap (λ rest. Some x ∷ rest) r.is;
-      at = omega (arith, r.at);
+      at = suc r.at;
+      is = omega (arith, r.is);
+      there = r.there;
       of = r.of;
-      before = with_first b t k (places_in (k + 1) n r.front) ps r.before ∙ same;
-      ids = front_ids (n == x.serial.0) r.ids;
+      before = ap
+          (λ d. if d then k ∷ places_in (k + 1) n (take (suc r.at) ms) else places_in (k + 1) n (take (suc r.at) ms)) t
+          ∙ (ap (λ is. if b then k ∷ is else is) r.before ∙ end);
     }
-      where
-        front_ids : (b : Bool) → ids_in ms n ≡ ids_in r.front n ++ r.m.regex ∷ []
-            → (if b then x.regex ∷ ids_in ms n else ids_in ms n)
-            ≡ (if b then x.regex ∷ ids_in r.front n else ids_in r.front n) ++ r.m.regex ∷ []
-        front_ids true e = ap (λ is. x.regex ∷ is) e
-        front_ids false e = e
 
-    by_test : ((ps : List ℕ) → places_in (k + 1) n ms ≡ ps ++ place ∷ [] → IsLastAt (k + 1) n ms ps place)
-        → (b : Bool) → (n == x.serial.0) ≡ b → (ps : List ℕ)
-        → (if b then k ∷ places_in (k + 1) n ms else places_in (k + 1) n ms) ≡ ps ++ place ∷ []
-        → IsLastAt k n (Some x ∷ ms) ps place
-    by_test further false t ps e = on false t ps ps refl (further ps e)
-    by_test further true t [] e =
-        let both = heads k place (places_in (k + 1) n ms) [] e in record {
-          front = [];
+    by_test : (b : Bool) → (n == x.serial.0) ≡ b → (ps : List ℕ)
+        → (if b then k ∷ places_in (k + 1) n ms else places_in (k + 1) n ms) ≡ ps ++ place ∷ behind
+        → ((qs : List ℕ) → places_in (k + 1) n ms ≡ qs ++ place ∷ behind → StandsAt (k + 1) n ms qs place)
+        → StandsAt k n (Some x ∷ ms) ps place
+    by_test false t ps e further = on false t ps ps refl (further ps e) refl
+    by_test true t [] e further =
+        let first = (heads k place (places_in (k + 1) n ms) behind e).0 in record {
           m = x;
-          behind = ms;
-          is = refl;
-          at = omega (arith, both.0);
+          at = 0;
+          is = omega (arith, first);
+          there = refl;
           of = sym (eqb-true n x.serial.0 t);
-          before = refl;
-          ids = ap (λ b. if b then x.regex ∷ ids_in ms n else ids_in ms n) t
-              ∙ ap (λ is. x.regex ∷ is) (no_ids (k + 1) n ms both.1);
+          before = ap (λ d. if d then k ∷ [] else []) t ∙ ap (λ i. i ∷ []) first;
         }
-    by_test further true t (p ∷ ps) e =
-        let both = heads k p (places_in (k + 1) n ms) (ps ++ place ∷ []) e in
-        on true t ps (p ∷ ps) (ap (λ i. i ∷ ps) both.0) (further ps both.1)
+    by_test true t (p ∷ ps) e further =
+        let both = heads k p (places_in (k + 1) n ms) (ps ++ place ∷ behind) e in
+        on true t ps (p ∷ ps) (ap (λ i. i ∷ ps) both.0) (further ps both.1) (ap (λ i. i ∷ (ps ++ place ∷ [])) both.0)
+
+-- The membership at the place, and the words of those up to it.
+pub record IsMemberAt (rs : List Regex) (ms : List (Option Member)) (n : ℕ) (places : List ℕ) (place : ℕ) : Type 0 where
+  pub m : Member
+  pub there : slice_get ms place ≡ Some (Some m)
+  pub words : (w : List ℕ) → words_in rs (take (place + 1) ms) m.serial.0 w ≡ in_each rs (ids_at ms places) w
+
+pub member_at : (rs : List Regex) (ms : List (Option Member)) (n : ℕ) (front behind : List ℕ) (place : ℕ)
+    → places_in 0 n ms ≡ front ++ place ∷ behind → IsMemberAt rs ms n (front ++ place ∷ []) place
+member_at rs ms n front behind place h =
+    let s = stands_at 0 n ms front behind place h in
+    let here : place ≡ s.at = omega (arith, s.is) in
+    let upto : place + 1 ≡ suc s.at = omega (arith, here) in
+    let long : length (take (suc s.at) ms) ≡ suc s.at =
+    length-take-le (suc s.at) ms (omega (arith, slice_get_within ms s.at (Some s.m) s.there)) in record {
+      m = s.m;
+      there = ap (slice_get ms) here ∙ s.there;
+      words = λ w. ap₂ (λ i j. words_in rs (take i ms) j w) upto s.of
+          ∙ ap (λ ids. in_each rs ids w) (sym (ids_from ms (take (suc s.at) ms) 0 n (λ j l.
+          ap (λ i. get_or ms i None) (same_place j)
+          ∙ sym (get_or-take (suc s.at) ms j None (omega (arith, l, long)))))
+          ∙ ap (ids_at ms) s.before);
+    }
 
 -- the intersection of all memberships stands at the last place
 pub root_of_last : (rs : List Regex) (ms : List (Option Member)) (roots : List (Option ℕ)) (n : ℕ) (places : List ℕ)
     (place root : ℕ) → places_in 0 n ms ≡ places ++ place ∷ [] → IsRootOf rs ms n root → AreRooted rs ms roots
     → AreRooted rs ms (set roots place (Some root))
 root_of_last rs ms roots n places place root h is rooted =
-    let last = last_at 0 n ms places place h in
-    let seam : place ≡ length last.front = omega (arith, last.at) in
-    rooted_set rs ms roots place root last.m
-    (ap₂ slice_get last.is seam ∙ at_seam last.front last.behind (Some last.m))
-    (subst (λ front. IsRootOf rs front last.m.serial.0 root)
-    (sym (ap₂ (λ i xs. take (i + 1) xs) seam last.is ∙ up_to_seam last.front last.behind (Some last.m)))
+    let here = member_at rs ms n places [] place h in
+    rooted_set rs ms roots place root here.m here.there
     (record {
       known = is.known;
-      same = λ w. ap (λ ids. in_each rs ids w) (ids_here last.front last.m last.m.serial.0 refl
-          ∙ (ap (λ i. ids_in last.front i ++ last.m.regex ∷ []) last.of ∙ sym last.ids)) ∙ is.same w;
-    })) rooted
+      same = λ w. here.words w ∙ (ap (λ ids. in_each rs ids w) (ap (ids_at ms) (sym h) ∙ ids_there ms n) ∙ is.same w);
+    }) rooted
 
 -- The regexes that a walk over places from the last one on has met, and those places that are left.
 pub record Walking (rs : List Regex) (ms : List (Option Member)) (n : ℕ) (left ids : List ℕ) : Type 0 where
-  pub front : List (Option Member)
-  pub behind : List (Option Member)
-  pub is : ms ≡ front ++ behind
-  pub places : left ≡ places_in 0 n front
+  pub behind : List ℕ
+  pub is : places_in 0 n ms ≡ left ++ behind
   pub known : AllNumbers rs ids
-  pub same : (w : List ℕ) → (words_in rs front n w && in_each rs ids w) ≡ words_in rs ms n w
+  pub same : (w : List ℕ) → (in_each rs (ids_at ms left) w && in_each rs ids w) ≡ words_in rs ms n w
 
--- the words of the memberships up to the last place
-words_last : (rs : List Regex) (ms : List (Option Member)) (n : ℕ) (places : List ℕ) (place : ℕ)
-    → (last : IsLastAt 0 n ms places place) → (w : List ℕ)
-    → words_in rs ms n w ≡ (words_in rs last.front n w && language (regex_at rs last.m.regex) w)
-words_last rs ms n places place last w =
-    ap (λ ids. in_each rs ids w) last.ids ∙ in_each-append rs (ids_in last.front n) last.m.regex w
+pub walk_start : (rs : List Regex) (ms : List (Option Member)) (n : ℕ) (left ids : List ℕ) → left ≡ places_in 0 n ms
+    → ids ≡ [] → Walking rs ms n left ids
+walk_start rs ms n left ids is none = record {
+  behind = [];
+  is = sym is ∙ sym (append-nil left);
+  known = subst (AllNumbers rs) (sym none) (All-nil (λ i. i < length rs));
+  same = λ w. ap (λ is. in_each rs (ids_at ms left) w && in_each rs is w) none
+      ∙ (and-true (in_each rs (ids_at ms left) w) ∙ ap (λ is. in_each rs is w) (ap (ids_at ms) is ∙ ids_there ms n));
+}
 
-all_of : {rs : List Regex} {ms : List (Option Member)} {n : ℕ} {left ids places : List ℕ} {place : ℕ}
-    → (t : Walking rs ms n left ids) → (last : IsLastAt 0 n t.front places place)
-    → ms ≡ last.front ++ Some last.m ∷ (last.behind ++ t.behind)
-all_of t last =
-    t.is
-    ∙ (ap (λ xs. xs ++ t.behind) last.is ∙ append_assoc last.front (Some last.m ∷ last.behind) t.behind)
-
--- the membership that stands at the last of these places
-there_of : {rs : List Regex} {ms : List (Option Member)} {n : ℕ} {left ids places : List ℕ} (place : ℕ)
-    → (t : Walking rs ms n left ids) → (last : IsLastAt 0 n t.front places place) → (o : Option Member)
-    → get_or ms place o ≡ Some last.m
-there_of place t last o =
-    let seam : place ≡ length last.front = omega (arith, last.at) in
-    ap₂ (λ xs i. get_or xs i o) (all_of t last) seam
-    ∙ get_or-append_seam last.front (Some last.m) (last.behind ++ t.behind) o
+split_again : (all left places behind : List ℕ) (place : ℕ) → left ≡ places ++ place ∷ [] → all ≡ left ++ behind
+    → all ≡ places ++ place ∷ behind
+split_again all left places behind place split is =
+    is ∙ (ap (λ ps. ps ++ behind) split ∙ append_assoc places (place ∷ []) behind)
 
 pub walk_on : (rs : List Regex) (ms : List (Option Member)) (n : ℕ) (left places ids ids' : List ℕ) (place : ℕ)
-    (o : Option Member) (x : Member) → left ≡ places ++ place ∷ [] → get_or ms place o ≡ Some x
+    (o : Option Member) (x : Member) → left ≡ places ++ place ∷ [] → place < length ms → get_or ms place o ≡ Some x
     → ids' ≡ ids ++ x.regex ∷ [] → All (HasRegexBelow (length rs)) ms → Walking rs ms n left ids
     → Walking rs ms n places ids'
-walk_on rs ms n left places ids ids' place o x split there more numbers t = record {
-  front = last.front;
-  behind = Some last.m ∷ (last.behind ++ t.behind);
-  is = all;
-  places = sym last.before;
-  known = rw more (All-push (λ i. i < length rs) ids x.regex t.known low);
-  same = λ w. ap (λ is. words_in rs last.front n w && in_each rs is w) more ∙ same_at w;
+walk_on rs ms n left places ids ids' place o x split within there more numbers t = record {
+  behind = place ∷ t.behind;
+  is = split_again (places_in 0 n ms) left places t.behind place split t.is;
+  known = subst (AllNumbers rs) (sym more) (All-push (λ i. i < length rs) ids x.regex t.known
+      (number_there rs ms place o x numbers within there));
+  same = λ w. ap (λ is. in_each rs (ids_at ms places) w && in_each rs is w) more
+      ∙ (ap (λ b. in_each rs (ids_at ms places) w && b) (in_each-append rs ids x.regex w)
+      ∙ (shuffle (in_each rs (ids_at ms places) w) (in_each rs ids w) (language (regex_at rs x.regex) w)
+      ∙ (ap (λ b. b && in_each rs ids w) (sym (in_each-append rs (ids_at ms places) x.regex w)
+      ∙ ap (λ is. in_each rs is w) (sym last)) ∙ t.same w)));
 }
   where
-    last : IsLastAt 0 n t.front places place
-    last = last_at 0 n t.front places place (sym t.places ∙ split)
-
-    all : ms ≡ last.front ++ Some last.m ∷ (last.behind ++ t.behind)
-    all = all_of t last
-
-    seam : place ≡ length last.front
-    seam = omega (arith, last.at)
-
-    same_member : (y : Member) → Some x ≡ Some y → x ≡ y
-    same_member y e = cc
-
-    this : x ≡ last.m
-    this = same_member last.m (sym there ∙ there_of place t last o)
-
-    within : place < length ms
-    within = slice_get_within ms place (Some last.m)
-        (ap₂ slice_get all seam ∙ at_seam last.front (last.behind ++ t.behind) (Some last.m))
-
-    low : x.regex < length rs
-    low = subst (HasRegexBelow (length rs)) there (numbers place o within)
-
     shuffle : (a i l : Bool) → (a && (i && l)) ≡ ((a && l) && i)
     shuffle a i l = ap (λ b. a && b) (and_comm i l) ∙ sym (and_assoc a l i)
 
-    same_at : (w : List ℕ) → (words_in rs last.front n w && in_each rs (ids ++ x.regex ∷ []) w) ≡ words_in rs ms n w
-    same_at w =
-        ap (λ b. words_in rs last.front n w && b) (in_each-append rs ids x.regex w)
-        ∙ (shuffle (words_in rs last.front n w) (in_each rs ids w) (language (regex_at rs x.regex) w)
-        ∙ (ap
-        (λ (m : Member). (words_in rs last.front n w && language (regex_at rs m.regex) w) && in_each rs ids w) this
-        ∙ (ap (λ b. b && in_each rs ids w) (sym (words_last rs t.front n places place last w)) ∙ t.same w)))
+    last : ids_at ms left ≡ ids_at ms places ++ x.regex ∷ []
+    last = ap (ids_at ms) split
+        ∙ (map-append (λ p. id_of (get_or ms p None)) places (place ∷ [])
+        ∙ ap (λ i. ids_at ms places ++ i ∷ []) (ap id_of (get_or_default ms place None o within ∙ there)))
 
 -- a membership stands at each of its places
 pub no_gap : (rs : List Regex) (ms : List (Option Member)) (n : ℕ) (left places ids : List ℕ) (place : ℕ)
     (o : Option Member) → left ≡ places ++ place ∷ [] → get_or ms place o ≡ None → Walking rs ms n left ids → ⊥
 no_gap rs ms n left places ids place o split there t =
-    nothing last.m (sym there ∙ there_of place t last o)
-  where
-    nothing : (m : Member) → None ≡ Some m → ⊥
-    nothing m e = cc
-
-    last : IsLastAt 0 n t.front places place
-    last = last_at 0 n t.front places place (sym t.places ∙ split)
+    let here = member_at rs ms n places t.behind place
+    (split_again (places_in 0 n ms) left places t.behind place split t.is) in
+    none-some here.m (sym there ∙ get_or_from_slice_get ms place (Some here.m) o here.there)
 
 -- an intersection is met
 pub walk_ends : (rs : List Regex) (ms : List (Option Member)) (roots : List (Option ℕ)) (n : ℕ)
     (left places ids ids' : List ℕ) (place root : ℕ) → left ≡ places ++ place ∷ [] → root_at roots place ≡ Some root
     → ids' ≡ ids ++ root ∷ [] → AreRooted rs ms roots → Walking rs ms n left ids → AreConjuncts rs ms n ids'
 walk_ends rs ms roots n left places ids ids' place root split there more rooted t = record {
-  known = rw more (All-push (λ i. i < length rs) ids root t.known is.known);
+  known = subst (AllNumbers rs) (sym more) (All-push (λ i. i < length rs) ids root t.known is.known);
   same = λ w. ap (λ is. in_each rs is w) more
       ∙ (in_each-append rs ids root w
       ∙ (and_comm (in_each rs ids w) (language (regex_at rs root) w)
-      ∙ (ap (λ b. b && in_each rs ids w) (sym (is.same w) ∙ whole w) ∙ t.same w)));
+      ∙ (ap (λ b. b && in_each rs ids w) (sym (is.same w) ∙ (here.words w
+      ∙ ap (λ ps. in_each rs (ids_at ms ps) w) (sym split))) ∙ t.same w)));
 }
   where
-    last : IsLastAt 0 n t.front places place
-    last = last_at 0 n t.front places place (sym t.places ∙ split)
+    here : IsMemberAt rs ms n (places ++ place ∷ []) place
+    here = member_at rs ms n places t.behind place
+        (split_again (places_in 0 n ms) left places t.behind place split t.is)
 
-    all : ms ≡ last.front ++ Some last.m ∷ (last.behind ++ t.behind)
-    all = all_of t last
-
-    seam : place ≡ length last.front
-    seam = omega (arith, last.at)
-
-    is : IsRootOf rs (last.front ++ Some last.m ∷ []) last.m.serial.0 root
-    is = subst (λ front. IsRootOf rs front last.m.serial.0 root)
-        (ap₂ (λ i xs. take (i + 1) xs) seam all
-        ∙ up_to_seam last.front (last.behind ++ t.behind) (Some last.m))
-        (rooted.right place last.m root
-        (ap₂ slice_get all seam ∙ at_seam last.front (last.behind ++ t.behind) (Some last.m)) there)
-
-    whole : (w : List ℕ) → words_in rs (last.front ++ Some last.m ∷ []) last.m.serial.0 w ≡ words_in rs t.front n w
-    whole w = ap (λ ids. in_each rs ids w)
-        (ids_here last.front last.m last.m.serial.0 refl
-        ∙ (ap (λ i. ids_in last.front i ++ last.m.regex ∷ []) last.of ∙ sym last.ids))
+    is : IsRootOf rs (take (place + 1) ms) here.m.serial.0 root
+    is = rooted.right place here.m root here.there there
 
 -- no place is left
 pub walk_done : (rs : List Regex) (ms : List (Option Member)) (n : ℕ) (left ids : List ℕ) → left ≡ []
     → Walking rs ms n left ids → AreConjuncts rs ms n ids
 walk_done rs ms n left ids none t = record {
   known = t.known;
-  same = λ w. ap (λ is. in_each rs is w && in_each rs ids w) (sym (no_ids 0 n t.front (sym t.places ∙ none)))
-      ∙ t.same w;
+  same = λ w. ap (λ ps. in_each rs (ids_at ms ps) w && in_each rs ids w) (sym none) ∙ t.same w;
 }

@@ -1,52 +1,16 @@
 -- What was found of constants is taken over, and a verdict given.
-use Rattle.std.proofs.Common.{◌≡◌, ◌≢◌, ℕ, zero, suc, ◌+◌, ◌<◌, Bool, true, false, ◌==◌, List, [], ◌∷◌, ◌++◌, length, get_or, set, map, take, refl, sym, ap, ap₂, ◌∙◌, arith, Option, None, Some, IfSome, is_some, unwrap_or, vec_len, subst}
-use Rattle.std.proofs.lemmas.Bool.{false≢true, eq-eqb, eqb-true, eqb-false}
-use Rattle.std.proofs.lemmas.Bool.Decides.{nat_tests}
-use Rattle.std.proofs.lemmas.List.{map-append, map_push, take_all, take_more, length-set, nil_from_length, with_items_is}
-use Rattle.std.proofs.lemmas.Option.{same_Some}
-use Rattle.std.specs.Vec.{with_items}
-use Rattle.std.proofs.lemmas.List.Elements.{All-push}
-use Rattle.std.specs.List.{All, list_all}
-use Rattle.std.specs.declared.vec.Vec.{Vec}
-use Rattle.std.specs.declared.alloc.Global.{Global}
-use Rattle.sb_lang.specs.Least.{IsShortestLeast, HasNoWord}
-use Rattle.sb_lang.specs.Constructors.{mkand}
-use Rattle.sb_lang.specs.ConstructorLaws.{MkandKeepsLanguage, IntersectionIsOfEach}
-use Rattle.sb_lang.specs.Language.{language}
-use Rattle.sb_lang.specs.NormalLaws.{NormalHasTermsWords}
-use Rattle.sb_lang.specs.Regex.{Regex}
-use Rattle.sb_regex.specs.Numbered.{Extends, Names, regex_at, regexes_at}
-use Rattle.sb_regex.proofs.CallerLemmas.{names_below}
-use Rattle.sb_deriv.specs.Faithful.{KeepsEntries, entry_of}
-use Rattle.sb_graph.specs.Findings.{Findings, IsGraph}
-use Rattle.sb_plain.specs.Memory.{Memory, IsRight}
-use Rattle.sb_problem.specs.Laws.{NormalsStay}
-use Rattle.sb_meaning.specs.Terms.{Term}
+use Rattle.std.proofs.Common.{◌≡◌, ◌≢◌, ℕ, ◌+◌, ◌<◌, true, false, List, [], ◌∷◌, ◌++◌, length, get_or, set, map, take, refl, sym, ap, ap₂, ◌∙◌, arith, Option, None, Some, IfSome, is_some, unwrap_or, vec_len, subst}
+use Rattle.sb_decide.proofs.Words.{All, All-pop, All-push, AreConjuncts, AreFilled, AreFound, AreKept, AreMeasures, AreNormals, AreRooted, AreSpoken, Conjoined, Decider, Extends, Findings, Fit, Found, FragmentIsOfEach, Global, GraphStays, HasAll, HasRegexBelow, IntersectionIsOfEach, IsChangedAt, IsEmptyAt, IsFoundAt, IsFoundOf, IsGraph, IsLeastOf, IsReady, IsRight, IsRootOf, IsShortestLeast, IsSofar, IsSpoken, IsTakingOver, IsVerdict, IsWord, KeepsEntries, Known, Knows, Measure, Member, Memory, MkandKeepsLanguage, Names, NormalHasTermsWords, NormalsStay, Regex, RestSettled, RightStays, Searches, Serial, Stacked, Term, Vec, all_known, assertion_in, conjoined_at, entry_of, eq-eqb, extends_more, false≢true, ids_in, is_decided, is_listed, is_member, is_plain, is_plain_assertion, is_settled, is_unsat, language, length-set, list_all, live, live_constants, live_laid, live_terms, map-append, map_push, mkand, names_below, nil_from_length, places_in, regex_at, regexes_at, same_Some, speaks_of, state_of, take_all, take_more, with_items, with_items_is, with_place, with_word, without_place, word_at, word_of, words_in}
 use Rattle.sb_term.specs.declared.assertion.Assertion as code
-use Rattle.sb_term.specs.declared.term.Serial.{Serial}
-use Rattle.sb_script.specs.State.{live, live_terms}
-use Rattle.sb_script.specs.Verdicts.{IsVerdict, is_unsat}
-use Rattle.sb_stack.specs.Speaking.{speaks_of}
-use Rattle.sb_stack.specs.Stacked.{Stacked, state_of, live_constants, assertion_in}
-use Rattle.sb_stack.proofs.CallerLemmas.{live_laid}
-use Rattle.sb_fragment.specs.Rules.{FragmentIsOfEach, is_decided}
-use Rattle.sb_decide.specs.declared.conjuncts.Member.{Member}
-use Rattle.sb_decide.specs.declared.decide.Decider.{Decider}
-use Rattle.sb_decide.specs.declared.decide.Found.{Found}
-use Rattle.sb_decide.specs.Conjoined.{Conjoined, conjoined_at, with_place, without_place, all_known, is_settled, is_listed, RestSettled, IsChangedAt}
-use Rattle.sb_decide.specs.Deciding.{IsSofar, AreFilled, word_at}
-use Rattle.sb_decide.specs.Knowing.{IsLeastOf, AreKept, Knows}
-use Rattle.sb_decide.specs.Members.{AreConjuncts, AreRooted, HasRegexBelow, IsEmptyAt, IsRootOf, ids_in, places_in, words_in}
-use Rattle.sb_decide.specs.Places.{is_member}
-use Rattle.sb_decide.specs.Ready.{IsReady, IsSpoken}
-use Rattle.sb_decide.specs.Taking.{Fit, HasAll, IsFoundAt, IsFoundOf, AreFound, IsTakingOver, with_word, word_of}
-use Rattle.sb_decide.proofs.Conjunctions.{same_least, same_no_word, in_root}
+use Rattle.sb_term.proofs.CallerLemmas as table
+use Rattle.sb_decide.proofs.Conjunctions.{same_least, in_root}
 use Rattle.sb_decide.proofs.Constants.{conjoined_within, conjoined_set, conjoined_set_other, listed_last}
 use Rattle.sb_decide.proofs.KeptWords.{all_least, ids_long, length-with_word, settled_least, word_elsewhere, word_there, words_with}
-use Rattle.sb_decide.proofs.Knowledge.{taken_searched, kept_grown}
-use Rattle.sb_decide.proofs.MemberFacts.{words_grown}
-use Rattle.sb_decide.proofs.OneMembership.{members_alone, members_decided, sofar_of}
+use Rattle.sb_decide.proofs.Knowledge.{kept_grown, knows_grown, knows_known}
+use Rattle.sb_decide.proofs.MemberFacts.{by_number, words_grown}
+use Rattle.sb_decide.proofs.OneMembership.{members_alone, members_decided, none_other, sofar_of}
 use Rattle.sb_decide.proofs.Verdicts.{unsat_given}
+use Rattle.sb_decide.proofs.RootFacts.{rooted_grown}
 
 -- what was found, over words that are the same
 found_filled : (rs : List Regex) (ms : List (Option Member)) (cs : List Conjoined) (words filled : List (List ℕ))
@@ -63,19 +27,14 @@ found_put : (rs : List Regex) (ms : List (Option Member)) (cs : List Conjoined) 
     → IsShortestLeast (words_in rs ms place) (word_at put place) → IsFoundOf rs ms cs words f → IsFoundOf rs ms cs put f
 found_put rs ms cs words put place f others least h = (h.0, by_word f.word h.1)
   where
-    by_test : (b : Bool) → (f.serial.0 == place) ≡ b
-        → IsShortestLeast (words_in rs ms f.serial.0) (word_at words f.serial.0)
-        → IsShortestLeast (words_in rs ms f.serial.0) (word_at put f.serial.0)
-    by_test true t l =
-        subst (λ n. IsShortestLeast (words_in rs ms n) (word_at put n)) (sym (eqb-true f.serial.0 place t)) least
-    by_test false t l =
-        subst (IsShortestLeast (words_in rs ms f.serial.0)) (sym (others f.serial.0 (eqb-false f.serial.0 place t))) l
-
     by_word : (o : Option (List ℕ))
         → IsShortestLeast (words_in rs ms f.serial.0) (unwrap_or o (word_at words f.serial.0))
         → IsShortestLeast (words_in rs ms f.serial.0) (unwrap_or o (word_at put f.serial.0))
-    by_word None l = by_test (f.serial.0 == place) refl l
-    by_word (Some w) l = l
+    by_word None =
+        by_number (λ n. IsShortestLeast (words_in rs ms n) (word_at words n)
+        → IsShortestLeast (words_in rs ms n) (word_at put n)) place (λ _. least)
+        (λ n e l. subst (IsShortestLeast (words_in rs ms n)) (sym (others n e)) l) f.serial.0
+    by_word (Some w) = λ l. l
 
 pub starts : (rs : List Regex) (ms : List (Option Member)) (cs : List Conjoined) (left changed : List Serial)
     (fs : List Found) (words filled : List (List ℕ)) → RestSettled left changed cs
@@ -84,31 +43,15 @@ pub starts : (rs : List Regex) (ms : List (Option Member)) (cs : List Conjoined)
 starts rs ms cs left changed fs words filled settled places kept more found = record {
   same_length = refl;
   long = more.long;
-  characters = more.characters kept.characters;
   each = λ k d l. found_filled rs ms cs words filled (get_or fs k d) more.same (found.each k d l);
-  right = places;
-  places = λ n. refl;
+  places = places;
   settled = rw found.serials settled;
-  least = λ n k h. rw (more.same n) (kept.least n k h);
+  kept = record {
+    characters = more.characters kept.characters;
+    few = omega (arith, more.long);
+    least = λ n k h. rw (more.same n) (kept.least n k h);
+  };
 }
-
-last_of : (P : Found → Type 0) (fs : List Found) (one : Found) → All P (fs ++ one ∷ []) → P one
-last_of P [] one h = h 0 one (omega arith)
-last_of P (f ∷ fs) one h = last_of P fs one (λ k d l. h (suc k) d (omega (arith, l)))
-
-front_of : (P : Found → Type 0) (fs : List Found) (one : Found) → All P (fs ++ one ∷ []) → All P fs
-front_of P [] one h k d l = absurd (omega (arith, l))
-front_of P (f ∷ fs) one h zero d l = h 0 d (omega arith)
-front_of P (f ∷ fs) one h (suc k) d l =
-    front_of P fs one (λ j e m. h (suc j) e (omega (arith, m))) k d (omega (arith, l))
-
-pub last_within : (n : ℕ) (fs rest : List Found) (one : Found) → All (λ f. f.serial.0 < n) fs → fs ≡ rest ++ one ∷ []
-    → one.serial.0 < n
-last_within n fs rest one h is = last_of (λ f. f.serial.0 < n) rest one (rw is at h)
-
-pub front_within : (n : ℕ) (fs rest : List Found) (one : Found) → All (λ f. f.serial.0 < n) fs → fs ≡ rest ++ one ∷ []
-    → All (λ f. f.serial.0 < n) rest
-front_within n fs rest one h is = front_of (λ f. f.serial.0 < n) rest one (rw is at h)
 
 pub goes_on : (rs : List Regex) (ms : List (Option Member)) (left : List Serial) (old new new' : List Conjoined)
     (words words' : List (List ℕ)) (fs rest : List Found) (one : Found) (c : Conjoined)
@@ -118,21 +61,38 @@ pub goes_on : (rs : List Regex) (ms : List (Option Member)) (left : List Serial)
 goes_on rs ms left old new new' words words' fs rest one c t is there grown given = rw (grown, given) (record {
   same_length = length-set new place (all_known c) ∙ t.same_length;
   long = length-with_word words place one.word ∙ t.long;
-  characters = words_with words place one.word t.characters this.1.word;
   each = λ k d l. found_put rs ms old words (with_word words place one.word) place (get_or rest k d)
       (λ n h. word_elsewhere words place n one.word h) least_here
-      (front_of (IsFoundOf rs ms old words) rest one (rw is at t.each) k d l);
-  right = t.right;
-  places = λ n. places_at n (n == place) refl;
-  settled = λ n none h. settled_at n none h (n == place) refl;
-  least = λ n k h. least_at n k h (n == place) refl;
+      ((All-pop (IsFoundOf rs ms old words) fs rest (Some one) is t.each).0 k d l);
+  places = by_number (λ n. (conjoined_at (set new place (all_known c)) n).places ≡ places_in 0 n ms) place
+      (ap (λ (x : Conjoined). x.places) here ∙ places_here)
+      (λ n e. ap (λ (x : Conjoined). x.places) (conjoined_set_other new place n (all_known c) e) ∙ t.places n);
+  settled = by_number (λ n. is_listed left n ≡ false → is_listed (map (λ f. f.serial) rest) n ≡ false
+      → is_settled (conjoined_at (set new place (all_known c)) n) ≡ true) place
+      (λ _ _. ap is_settled here ∙ eq-eqb (length c.places) (length c.places) refl)
+      (λ n e none h. ap is_settled (conjoined_set_other new place n (all_known c) e)
+      ∙ t.settled n none (ap (λ xs. is_listed (map (λ f. f.serial) xs) n) is
+      ∙ (ap (λ ss. is_listed ss n) (map_push (λ f. f.serial) rest one)
+      ∙ listed_last (map (λ f. f.serial) rest) one.serial n h e)));
+  kept = record {
+    characters = words_with words place one.word t.kept.characters this.1.word;
+    few = omega (arith, t.kept.few, length-set new place (all_known c), length-with_word words place one.word);
+    least = by_number (λ n. (k : ℕ) → (conjoined_at (set new place (all_known c)) n).known ≡ Some k
+        → IsLeastOf rs (ids_in ms n) k (word_at (with_word words place one.word) n)) place
+        (λ k h. all_least rs (ids_in ms place) k (word_at (with_word words place one.word) place)
+        (same_Some k (length c.places) (sym h ∙ ap (λ (x : Conjoined). x.known) here)
+        ∙ (ap length places_here ∙ ids_long ms place)) least_here)
+        (λ n e k h. subst (IsLeastOf rs (ids_in ms n) k) (sym (word_elsewhere words place n one.word e))
+        (t.kept.least n k
+        (sym (ap (λ (x : Conjoined). x.known) (conjoined_set_other new place n (all_known c) e)) ∙ h)));
+  };
 })
   where
     place : ℕ
     place = one.serial.0
 
     this : IsFoundOf rs ms old words one
-    this = last_of (IsFoundOf rs ms old words) rest one (rw is at t.each)
+    this = (All-pop (IsFoundOf rs ms old words) fs rest (Some one) is t.each).1
 
     here : conjoined_at (set new place (all_known c)) place ≡ all_known c
     here = conjoined_set new place (all_known c) (omega (arith, this.0, t.same_length))
@@ -141,69 +101,17 @@ goes_on rs ms left old new new' words words' fs rest one c t is there grown give
     least_here = subst (IsShortestLeast (words_in rs ms place))
         (sym (word_there words place one.word (omega (arith, this.0, t.long)))) this.1
 
-    places_at : (n : ℕ) (b : Bool) → (n == place) ≡ b
-        → (conjoined_at (set new place (all_known c)) n).places ≡ (conjoined_at old n).places
-    places_at n true k =
-        let e : n ≡ place = eqb-true n place k in
-        ap (λ m. (conjoined_at (set new place (all_known c)) m).places) e
-        ∙ (ap (λ (x : Conjoined). x.places) here
-        ∙ (sym (ap (λ (x : Conjoined). x.places) (conjoined_within new place c
-        (omega (arith, this.0, t.same_length)) there))
-        ∙ (t.places place ∙ ap (λ m. (conjoined_at old m).places) (sym e))))
-    places_at n false k =
-        ap (λ (x : Conjoined). x.places) (conjoined_set_other new place n (all_known c) (eqb-false n place k))
-        ∙ t.places n
+    places_here : c.places ≡ places_in 0 place ms
+    places_here =
+        sym (ap (λ (x : Conjoined). x.places) (conjoined_within new place c
+        (omega (arith, this.0, t.same_length)) there)) ∙ t.places place
 
-    settled_at : (n : ℕ) → is_listed left n ≡ false → is_listed (map (λ f. f.serial) rest) n ≡ false → (b : Bool)
-        → (n == place) ≡ b → is_settled (conjoined_at (set new place (all_known c)) n) ≡ true
-    settled_at n none h true k =
-        ap (λ m. is_settled (conjoined_at (set new place (all_known c)) m)) (eqb-true n place k)
-        ∙ (ap is_settled here ∙ eq-eqb (length c.places) (length c.places) refl)
-    settled_at n none h false k =
-        let e : n ≢ place = eqb-false n place k in
-        ap is_settled (conjoined_set_other new place n (all_known c) e)
-        ∙ t.settled n none (ap (λ xs. is_listed (map (λ f. f.serial) xs) n) is
-        ∙ (ap (λ ss. is_listed ss n) (map_push (λ f. f.serial) rest one)
-        ∙ listed_last (map (λ f. f.serial) rest) one.serial n h e))
-
-    long_here : length c.places ≡ length (ids_in ms place)
-    long_here =
-        ap (λ (x : Conjoined). length x.places) (sym (conjoined_within new place c
-        (omega (arith, this.0, t.same_length)) there))
-        ∙ (ap length (t.places place ∙ t.right place) ∙ ids_long ms place)
-
-    least_at : (n k : ℕ) → (conjoined_at (set new place (all_known c)) n).known ≡ Some k → (b : Bool)
-        → (n == place) ≡ b → IsLeastOf rs (ids_in ms n) k (word_at (with_word words place one.word) n)
-    least_at n k h true e =
-        let same : n ≡ place = eqb-true n place e in
-        let known : Some k ≡ Some (length c.places) =
-        sym h ∙ (ap (λ m. (conjoined_at (set new place (all_known c)) m).known) same
-        ∙ ap (λ (x : Conjoined). x.known) here) in
-        subst (λ m. IsLeastOf rs (ids_in ms m) k (word_at (with_word words place one.word) m)) (sym same)
-        (all_least rs (ids_in ms place) k (word_at (with_word words place one.word) place)
-        (same_Some k (length c.places) known ∙ long_here) least_here)
-    least_at n k h false e =
-        let other : n ≢ place = eqb-false n place e in
-        subst (IsLeastOf rs (ids_in ms n) k) (sym (word_elsewhere words place n one.word other))
-        (t.least n k
-        (sym (ap (λ (x : Conjoined). x.known) (conjoined_set_other new place n (all_known c) other)) ∙ h))
-
--- all is taken over
-pub kept_over : (rs : List Regex) (ms : List (Option Member)) (left : List Serial) (old new : List Conjoined)
-    (words : List (List ℕ)) → IsTakingOver rs ms left old new words [] → AreKept rs ms new words
-kept_over rs ms left old new words over = record {
-  characters = over.characters;
-  few = omega (arith, over.long, over.same_length);
-  least = over.least;
-}
-
--- and each constant that is not left has its word
+-- all is taken over: each constant that is not left has its word
 pub least_over : (rs : List Regex) (ms : List (Option Member)) (left : List Serial) (old new : List Conjoined)
     (words : List (List ℕ)) → IsTakingOver rs ms left old new words [] → (n : ℕ) → is_listed left n ≡ false
     → IsShortestLeast (words_in rs ms n) (word_at words n)
 least_over rs ms left old new words t n none =
-    settled_least rs ms new words n (t.places n ∙ t.right n) (kept_over rs ms left old new words t)
-    (t.settled n none refl)
+    settled_least rs ms new words n (t.places n) t.kept (t.settled n none refl)
 
 -- all assertions
 all_live : (kept : Decider) (stack : Stacked) → HasAll kept stack
@@ -237,7 +145,20 @@ pub members_live : (kept : Decider) (stack : Stacked) → Knows kept stack → H
 members_live kept stack k all alone =
     ap (list_all is_member) (sym (all_live kept stack all))
     ∙ members_alone kept.arena stack.table 0 kept.members.items stack.assertions k.taken.members
-    (sym k.taken.others ∙ alone)
+    (sym k.taken.counted.apart ∙ alone)
+
+-- of a plain script there are no others
+pub plain_alone : (kept : Decider) (stack : Stacked) → Knows kept stack → is_plain (state_of stack) ≡ true
+    → kept.others.items ≡ []
+plain_alone kept stack k plain =
+    k.taken.counted.apart
+    ∙ none_other kept.arena stack.table 0 kept.members.items stack.assertions k.taken.members
+    (ap (list_all is_plain_assertion) (sym (live_laid stack)) ∙ plain)
+
+-- so no constant occurs in one
+pub plain_silent : (kept : Decider) (stack : Stacked) (n : ℕ) → Knows kept stack → is_plain (state_of stack) ≡ true
+    → IsSpoken kept.others.items stack n → ⊥
+plain_silent kept stack n k plain spoken = omega (arith, spoken.other.1, ap length (plain_alone kept stack k plain))
 
 -- the live terms speak of live constants alone
 abbrev pub Named : Stacked → Type 0
@@ -256,30 +177,30 @@ dead_given law words kept stack k all dead named fit = by_cases kept.dead dead k
         unsat_given law kept.arena (state_of stack) (live_constants stack) (ids_in kept.members.items) serial.0
         (all_sofar words kept stack k all) (decided_live kept stack k all) named (fit [] [] refl) h
 
--- words are known in an arena that grew
+-- what is known of regexes grows, and the words of the constants that changed are found
 pub knows_searched : NormalsStay → (kept : Decider) (rs : List Regex) (g : Findings) (p : Memory)
     (roots : Vec (Option ℕ) Global) (fs : Vec Found Global) (stack : Stacked) → Knows kept stack →
-    Extends kept.arena rs → IsGraph rs g → IsRight rs p → AreRooted rs kept.members.items roots.items →
+    Searches kept.members.items kept.arena kept.graph rs g roots.items → IsRight rs p →
     Knows (record kept { arena = rs; graph = g; plain = p; roots = roots; found = fs }) stack
-knows_searched stays kept rs g p roots fs stack k e graph plain rooted = record {
-  taken = taken_searched stays kept rs g p roots fs stack.table stack.assertions e graph plain rooted k.taken;
-  words = kept_grown kept.arena rs kept.members.items kept.constants.items stack.words e k.taken.rooted.numbers k.words;
-  declared = k.declared;
-}
+knows_searched stays kept rs g p roots fs stack k s plain =
+    knows_known kept rs g kept.normals kept.measures p roots fs stack s.extends s.graph
+    (stays stack.table stack.table kept.arena rs kept.normals (table.extends_same stack.table) s.extends
+    k.taken.normals) k.taken.measures plain s.rooted k
 
--- the check is ready then
 pub ready_searched : NormalsStay → (kept : Decider) (rs : List Regex) (g : Findings) (p : Memory)
     (roots : Vec (Option ℕ) Global) (fs : Vec Found Global) (stack : Stacked) → Knows kept stack → HasAll kept stack →
-    Named stack → Extends kept.arena rs → IsGraph rs g → IsRight rs p → AreRooted rs kept.members.items roots.items →
+    Named stack → Searches kept.members.items kept.arena kept.graph rs g roots.items → IsRight rs p →
+    AreSpoken kept.others.items stack kept.spoken.keys →
     All (λ serial. IsSpoken kept.others.items stack serial.0) kept.left.items →
     AreFound rs kept.members.items kept.constants.items stack.words kept.changed.items fs.items →
     IsReady (record kept { arena = rs; graph = g; plain = p; roots = roots; found = fs }) stack
-ready_searched stays kept rs g p roots fs stack k all named e graph plain rooted left found = record {
+ready_searched stays kept rs g p roots fs stack k all named s plain spoken left found = record {
   decided = decided_live kept stack k all;
   named = named;
   all = all;
-  knows = knows_searched stays kept rs g p roots fs stack k e graph plain rooted;
+  knows = knows_searched stays kept rs g p roots fs stack k s plain;
   found = found;
+  spoken = spoken;
   left = left;
 }
 
@@ -327,50 +248,57 @@ kept_listed rs new ms cs words changed i d c e known kept listed l there k h =
     (kept_grown rs new ms cs words e known kept).least (get_or changed i d).0 k
     (ap (λ (x : Conjoined). x.known) (conjoined_within cs (get_or changed i d).0 c (listed i d l) there) ∙ h)
 
--- the intersection of the regexes that stand for a constant's memberships
-pub root_found : MkandKeepsLanguage → IntersectionIsOfEach → (old mid : List Regex) (ms : List (Option Member)) (n : ℕ)
-    (ids ids' : List ℕ) (root : ℕ) → ids' ≡ ids → AreConjuncts old ms n ids → Extends old mid →
-    All (HasRegexBelow (length old)) ms → Names mid root (mkand (regexes_at old ids')) → IsRootOf mid ms n root
-root_found keeps each old mid ms n ids ids' root same conjuncts e known named =
+-- the intersection of the regexes that stand for a constant's memberships, as a check makes it
+pub root_made : MkandKeepsLanguage → IntersectionIsOfEach → (old mid : List Regex) (ms : List (Option Member)) (n : ℕ)
+    (ids used : List ℕ) (root : ℕ) → used ≡ ids → AreConjuncts old ms n ids → Extends old mid →
+    All (HasRegexBelow (length old)) ms → Names mid root (mkand (regexes_at old used)) → IsRootOf mid ms n root
+root_made keeps each old mid ms n ids used root same conjuncts e known named =
     let here = rw same at named in record {
       known = names_below mid root (mkand (regexes_at old ids)) here;
       same = λ w. words_grown old mid ms n w e known
           ∙ (sym (conjuncts.same w) ∙ in_root keeps each old mid ids root here w);
     }
 
--- as a check makes it
-pub root_made : MkandKeepsLanguage → IntersectionIsOfEach → (old mid : List Regex) (ms : List (Option Member)) (n : ℕ)
-    (places : List ℕ) (roots now : List (Option ℕ)) (ids used : List ℕ) (root : ℕ) → now ≡ roots → used ≡ ids →
-    places ≡ places_in 0 n ms → AreRooted old ms roots →
-    ((rs : List Regex) (m : ℕ) → places ≡ places_in 0 m ms → AreRooted rs ms now → AreConjuncts rs ms m ids) →
-    Extends old mid → Names mid root (mkand (regexes_at old used)) → IsRootOf mid ms n root
-root_made keeps each old mid ms n places roots now ids used root same given is rooted conjuncts e named =
-    root_found keeps each old mid ms n ids used root given (conjuncts old n is (rw same rooted)) e rooted.numbers named
+-- its words are those of the memberships, also in an arena that grew
+pub root_words : (mid new : List Regex) (ms : List (Option Member)) (n root : ℕ) → IsRootOf mid ms n root
+    → Extends mid new → All (HasRegexBelow (length mid)) ms → (w : List ℕ) → IsWord w
+    → words_in new ms n w ≡ language (regex_at mid root) w
+root_words mid new ms n root is e known w c = words_grown mid new ms n w e known ∙ is.same w
 
--- its word, and that it has none
-pub word_found : (mid new : List Regex) (ms : List (Option Member)) (n root : ℕ) (word : List ℕ)
-    → IsRootOf mid ms n root → Extends mid new → All (HasRegexBelow (length mid)) ms
-    → IsShortestLeast (language (regex_at mid root)) word → IsShortestLeast (words_in new ms n) word
-word_found mid new ms n root word is e known least =
-    same_least (language (regex_at mid root)) (words_in new ms n) word
-    (λ w _. words_grown mid new ms n w e known ∙ is.same w) least
+-- What is found on the way.
 
-pub none_found : (mid new : List Regex) (ms : List (Option Member)) (n root : ℕ) → IsRootOf mid ms n root
-    → Extends mid new → All (HasRegexBelow (length mid)) ms → HasNoWord (language (regex_at mid root))
-    → IsEmptyAt new ms n
-none_found mid new ms n root is e known none =
-    same_no_word (language (regex_at mid root)) (words_in new ms n)
-    (λ w _. words_grown mid new ms n w e known ∙ is.same w) none
+pub searches_grown : {old new : List Regex} {g : Findings} {ms : List (Option Member)} {roots : List (Option ℕ)}
+    → GraphStays → Extends old new → IsGraph old g → AreRooted new ms roots → Searches ms old g new g roots
+searches_grown {old} {new} {g} stays e graph rooted =
+    record { extends = e; graph = stays old new g e graph; entries = λ n pieces h. h; rooted = rooted }
 
--- a vector without elements, and one with some
+pub searches_both : {ms : List (Option Member)} {a b c : List Regex} {g h i : Findings} {roots others : List (Option ℕ)}
+    → Searches ms a g b h roots → Searches ms b h c i others → Searches ms a g c i others
+searches_both {ms} {a} {b} {c} p q = record {
+  extends = extends_more a b c p.extends q.extends;
+  graph = q.graph;
+  entries = λ n pieces x. q.entries n pieces (p.entries n pieces x);
+  rooted = q.rooted;
+}
+
+pub searches_behind : {ms : List (Option Member)} {a b c : List Regex} {g i : Findings} {roots : List (Option ℕ)}
+    → Extends a b → Searches ms b g c i roots → Searches ms a g c i roots
+searches_behind {ms} {a} {b} {c} e q =
+    record { extends = extends_more a b c e q.extends; graph = q.graph; entries = q.entries; rooted = q.rooted }
+
+pub searches_asked : {ms : List (Option Member)} {a b c : List Regex} {i : Findings} {roots : List (Option ℕ)}
+    → (g : Findings) → Extends a b → AreRooted b ms roots → Extends b c → IsGraph c i → KeepsEntries g.memo i.memo
+    → Searches ms a g c i roots
+searches_asked {ms} {a} {b} {c} {i} {roots} g e rooted more graph entries = record {
+  extends = extends_more a b c e more;
+  graph = graph;
+  entries = entries;
+  rooted = rooted_grown b c ms roots more rooted;
+}
+
+-- a vector without elements
 pub no_items : {X : Type 0} (v : Vec X Global) → vec_len v ≡ 0 → length v.items ≡ 0
 no_items v h = omega (arith, v.ok.0, h)
-
-pub is_nil : {X : Type 0} (v : Vec X Global) → (vec_len v == 0) ≡ true → v.items ≡ []
-is_nil v h = nil_from_length v.items (no_items v (eqb-true (vec_len v) 0 h))
-
-pub some_items : {X : Type 0} (v : Vec X Global) → (vec_len v == 0) ≡ false → 0 < length v.items
-some_items v h = let some : 0 < vec_len v = grind (arith, nat_tests, h) in omega (arith, v.ok.0, some)
 
 pub over_all : (rs : List Regex) (ms : List (Option Member)) (left : List Serial) (old new : List Conjoined)
     (words : List (List ℕ)) (fs : List Found) → length fs ≡ 0 → IsTakingOver rs ms left old new words fs
@@ -421,7 +349,7 @@ over_of kept stack fs count given filled cs new before after r same_found same_w
     let begun : IsTakingOver kept.arena kept.members.items kept.left.items kept.constants.items kept.constants.items
     filled kept.found.items =
     starts kept.arena kept.members.items kept.constants.items kept.left.items kept.changed.items kept.found.items
-    stack.words filled k.taken.settled k.taken.places k.words (rw (same_words, long) at more) r.found in
+    stack.words filled k.taken.counted.settled k.taken.counted.places k.words (rw (same_words, long) at more) r.found in
     let there = over kept.arena kept.members.items kept.left.items in
     (rw (same_cs, same_before, same_found) at there) begun
 
@@ -430,17 +358,6 @@ pub found_within : (kept : Decider) (stack : Stacked) (fs : List Found) → IsRe
     → All (λ one. one.serial.0 < length kept.constants.items) fs
 found_within kept stack fs r is = rw is (λ k d l. (r.found.each k d l).0)
 
-pub words_long : (rs : List Regex) (ms : List (Option Member)) (left : List Serial) (old new : List Conjoined)
-    (words : List (List ℕ)) (v : Vec (List ℕ) Global) (count : ℕ) (given : List (List ℕ))
-    → IsTakingOver rs ms left old new words [] → count ≡ length old → AreFilled count given v.items
-    → length words ≡ v.len
-words_long rs ms left old new words v count given t same more = omega (arith, t.long, same, more.long, v.ok.0)
-
-pub constants_long : (rs : List Regex) (ms : List (Option Member)) (left : List Serial) (v : Vec Conjoined Global)
-    (new : List Conjoined) (words : List (List ℕ)) → IsTakingOver rs ms left v.items new words []
-    → length new ≡ v.len
-constants_long rs ms left v new words t = omega (arith, t.same_length, v.ok.0)
-
 -- the entries of the memo stay
 pub same_memo : (old new : Findings) → new ≡ old → KeepsEntries old.memo new.memo
 same_memo old new same n pieces h = ap (λ (g : Findings). entry_of g.memo n) same ∙ h
@@ -448,3 +365,22 @@ same_memo old new same n pieces h = ap (λ (g : Findings). entry_of g.memo n) sa
 -- a constant whose word is found
 pub settles : (there c new : Conjoined) → new ≡ all_known there → c ≡ there → new ≡ all_known c
 settles there c new is same = rw same is
+
+-- a check that is ready, as all of it grows
+pub ready_grown : GraphStays → RightStays → (kept : Decider) (rs : List Regex) (g : Findings) (ks : List Known)
+    (ms : List Measure) (p : Memory) (stack : Stacked) → Extends kept.arena rs → IsGraph rs g →
+    AreNormals stack.table rs ks → AreMeasures stack.table ms → IsRight rs p → IsReady kept stack →
+    IsReady (record kept { arena = rs; graph = g; normals = ks; measures = ms; plain = p }) stack
+ready_grown stays right kept rs g ks ms p stack e graph normals measures plain r = record {
+  decided = r.decided;
+  named = r.named;
+  all = r.all;
+  knows = knows_grown stays right kept rs g ks ms p stack e graph normals measures plain r.knows;
+  found = record {
+    each = λ k d l. found_grown kept.arena rs kept.members.items kept.constants.items stack.words
+        (get_or kept.found.items k d) e r.knows.taken.rooted.numbers (r.found.each k d l);
+    serials = r.found.serials;
+  };
+  spoken = r.spoken;
+  left = r.left;
+}

@@ -1,27 +1,11 @@
 -- From the words of constants to the verdict.
-use Rattle.std.proofs.Common.{◌≡◌, ℕ, Bool, true, false, ◌&&◌, ◌==◌, if◌then◌else◌, List, [], ◌∷◌, refl, sym, ap, ◌∙◌}
-use Rattle.std.specs.List.{list_all}
-use Rattle.std.proofs.lemmas.Bool.{and_parts, and_from, eqb-true, false≢true}
-use Rattle.sb_word.specs.Words.{IsWord}
-use Rattle.sb_lang.specs.Regex.{Regex}
-use Rattle.sb_lang.specs.Least.{IsShortestLeast, HasNoWord}
-use Rattle.sb_stack.specs.Speaking.{is_one_of, speaks_of}
-use Rattle.sb_stack.specs.Stacked.{value_at, values_at}
-use Rattle.sb_stack.proofs.CallerLemmas.{same_sort}
+use Rattle.std.proofs.Common.{◌≡◌, ℕ, Bool, true, false, ◌&&◌, ◌==◌, if◌then◌else◌, List, [], ◌∷◌, refl, sym, ap, ◌∙◌, ◌≤◌, length, arith}
+use Rattle.sb_decide.proofs.Words.{AreShortestLeast, FragmentIsOfEach, HasNoWord, Int, IsShortestLeast, IsSofar, IsVerdict, IsWord, Language, Regex, Satisfiable, Sort, State, Term, Text, Truth, Valuation, Value, all_hold, and_from, and_parts, asking, asks_of, boolean, constants_of, eqb-true, false≢true, holds, in_each, integer, is_decided, is_member, is_of, is_one_of, is_plain, is_unsat, list_all, list_any, live, live_terms, occurs, or_parts, reglan, same_sort, speaks_of, text, value_at, value_in, values_at, word_at, words_asked, words_for}
 use Rattle.sb_meaning.specs.Sorts.{is_same_sort}
-use Rattle.sb_meaning.specs.Terms.{Term, Sort, boolean, integer, text, reglan}
-use Rattle.sb_meaning.specs.Values.{Valuation, Value, Text, Int, Truth, is_of, value_in}
 use Rattle.sb_script.specs.Scopes.{Constant}
-use Rattle.sb_script.specs.State.{State, live, live_terms, constants_of, fits, Satisfiable}
-use Rattle.sb_meaning.specs.Truth.{all_hold}
-use Rattle.sb_fragment.specs.Rules.{FragmentIsOfEach, is_decided}
-use Rattle.sb_decide.specs.Deciding.{IsSofar, in_each, words_asked, word_at}
-use Rattle.sb_decide.specs.Places.{is_member}
-use Rattle.sb_decide.proofs.AskingTerms.{about_is, asked_speaks}
+use Rattle.sb_script.specs.State.{fits}
+use Rattle.sb_decide.proofs.AskingTerms.{about_is, asked_speaks, occurs_not}
 use Rattle.sb_decide.proofs.Conjunctions.{same_least}
-use Rattle.sb_decide.proofs.DefaultValues.{default_values}
-use Rattle.sb_script.specs.Models.{is_plain, words_for, AreShortestLeast}
-use Rattle.sb_script.specs.Verdicts.{IsVerdict, is_sat, is_unsat}
 
 all_shortest : (ts : List Term) (words : List (List ℕ)) (truths : List Bool) (cs : List (ℕ × Sort))
     → ((n : ℕ) → IsShortestLeast (words_for n ts) (word_at words n)) → AreShortestLeast ts (values_at cs words truths)
@@ -38,31 +22,16 @@ pub asked_least : (rs : List Regex) (s : State) (found : ℕ → List ℕ) (word
 asked_least rs s found words n f least =
     same_least (in_each rs (found n)) (words_asked n (live_terms s)) (word_at words n) (f.words n) least
 
-pub sat_given : FragmentIsOfEach → (rs : List Regex) (s : State) (cs : List (ℕ × Sort)) (found : ℕ → List ℕ)
-    (words : List (List ℕ)) → IsSofar rs (live s) found → list_all is_decided (live s) ≡ true
-    → list_all is_member (live s) ≡ true → list_all (speaks_of cs) (live_terms s) ≡ true
-    → fits (constants_of s) (values_at cs words []) ≡ true
-    → ((n : ℕ) → IsShortestLeast (in_each rs (found n)) (word_at words n))
-    → IsVerdict s [] (is_sat (values_at cs words []))
-sat_given law rs s cs found words f decided members named fitting least = (
-  law s ∙ decided,
-  record {
-    model = and_from (fits (constants_of s) (values_at cs words []))
-        (all_hold (live_terms s) (values_at cs words [])) fitting
-        (f.together members cs words [] named (λ n. (shortest n).member));
-    defaults = default_values (constants_of s) (live_terms s) cs words shortest;
-    least = λ plain. all_shortest (live_terms s) words [] cs (λ n. shortest_about n plain);
-  },
-)
-  where
-    shortest : (n : ℕ) → IsShortestLeast (words_asked n (live_terms s)) (word_at words n)
-    shortest n = asked_least rs s found words n f (least n)
-
-    shortest_about : (n : ℕ) → is_plain s ≡ true → IsShortestLeast (words_for n (live_terms s)) (word_at words n)
-    shortest_about n plain =
-        same_least (words_asked n (live_terms s)) (words_for n (live_terms s)) (word_at words n)
-        (λ w _. ap (λ (ts : List Term). all_hold ts ((n, Text w) ∷ [])) (about_is n (live s) members plain))
-        (shortest n)
+-- where all are plain, and each of them a membership, the words are the shortest, and the least of these
+pub plain_shortest : (rs : List Regex) (s : State) (cs : List (ℕ × Sort)) (found : ℕ → List ℕ)
+    (words : List (List ℕ)) (truths : List Bool) → IsSofar rs (live s) found → list_all is_member (live s) ≡ true
+    → is_plain s ≡ true → ((n : ℕ) → IsShortestLeast (in_each rs (found n)) (word_at words n))
+    → AreShortestLeast (live_terms s) (values_at cs words truths)
+plain_shortest rs s cs found words truths f members plain least =
+    all_shortest (live_terms s) words truths cs
+    (λ n. same_least (words_asked n (live_terms s)) (words_for n (live_terms s)) (word_at words n)
+    (λ w _. ap (λ (ts : List Term). all_hold ts ((n, Text w) ∷ [])) (about_is n (live s) members plain))
+    (asked_least rs s found words n f (least n)))
 
 -- where an empty word fits, each value that fits is a word
 text_value : (sort : Sort) (value : Value) → is_of sort (Text []) ≡ true → is_of sort value ≡ true
@@ -109,6 +78,16 @@ text_at (c ∷ cs) (d ∷ ds) (p ∷ v) n h f one =
         (ap (λ (k : Sort). is_of c.sort (value_at [] [] d.0 k)) (sym (same_sort d.1 text kind)) ∙ first.1) second.1
     by_test false one later = later one
 
+-- those that ask something of the constant are true where all are
+asked_hold : (n : ℕ) (ts : List Term) (v : Valuation) → all_hold ts v ≡ true → all_hold (asking n ts) v ≡ true
+asked_hold n [] v h = refl
+asked_hold n (t ∷ ts) v h = by (asks_of n t) (asked_hold n ts v (and_parts (holds t v) (all_hold ts v) h).1)
+  where
+    by : (b : Bool) → all_hold (asking n ts) v ≡ true
+        → all_hold (if b then t ∷ asking n ts else asking n ts) v ≡ true
+    by true e = and_from (holds t v) (all_hold (asking n ts) v) (and_parts (holds t v) (all_hold ts v) h).0 e
+    by false e = e
+
 pub unsat_given : FragmentIsOfEach → (rs : List Regex) (s : State) (cs : List (ℕ × Sort)) (found : ℕ → List ℕ) (n : ℕ)
     → IsSofar rs (live s) found → list_all is_decided (live s) ≡ true
     → list_all (speaks_of cs) (live_terms s) ≡ true → fits (constants_of s) (values_at cs [] []) ≡ true
@@ -124,4 +103,19 @@ unsat_given law rs s cs found n f decided named fit e =
         let parts = and_parts (fits (constants_of s) model.0) (all_hold (live_terms s) model.0) model.1 in
         let value = text_at (constants_of s) cs model.0 n fit parts.0 known in
         false≢true (sym (e value.0 value.2) ∙ (sym (f.words n value.0 value.2)
-        ∙ f.apart model.0 n value.0 value.1 parts.1))
+        ∙ (sym (f.apart model.0 n value.0 value.1) ∙ asked_hold n (live_terms s) model.0 parts.1)))
+
+-- A constant that occurs in no assertion has the empty word.
+
+asking_none : (n : ℕ) (ts : List Term) → list_any (occurs n) ts ≡ false → asking n ts ≡ []
+asking_none n [] h = refl
+asking_none n (t ∷ ts) h = let parts = or_parts (occurs n t) (list_any (occurs n) ts) h in
+    rw (occurs_not n t parts.0) (asking_none n ts parts.1)
+
+pub words_all : (n : ℕ) (ts : List Term) → list_any (occurs n) ts ≡ false → (w : List ℕ) → words_asked n ts w ≡ true
+words_all n ts h w = ap (λ (us : List Term). all_hold us ((n, Text w) ∷ [])) (asking_none n ts h)
+
+pub empty_least : (language : Language) (w : List ℕ) → ((v : List ℕ) → language v ≡ true) → IsShortestLeast language w
+    → w ≡ []
+empty_least language [] all l = refl
+empty_least language (c ∷ w) all l = let h : length (c ∷ w) ≤ 0 = l.shortest [] refl (all []) in absurd (omega arith)

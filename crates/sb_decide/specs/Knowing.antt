@@ -1,5 +1,5 @@
 -- What is known of a script's assertions so far.
-use Rattle.std.specs.Prelude.{◌≡◌, ℕ, ◌≤◌, ◌<◌, true, List, length, take, Option, Some, IfSome, IsSome}
+use Rattle.std.specs.Prelude.{◌≡◌, ℕ, ◌≤◌, ◌<◌, true, List, length, take, Option, Some, IfSome}
 use Rattle.std.specs.List.{All}
 use Rattle.sb_lang.specs.Regex.{Regex}
 use Rattle.sb_lang.specs.Least.{IsShortestLeast}
@@ -8,19 +8,31 @@ use Rattle.sb_plain.specs.Memory.{IsRight}
 use Rattle.sb_problem.specs.Known.{AreNormals}
 use Rattle.sb_meaning.specs.Terms.{Term}
 use Rattle.sb_term.specs.declared.assertion.Assertion.{Assertion}
+use Rattle.sb_term.specs.declared.term.Serial.{Serial}
 use Rattle.sb_fragment.specs.Measures.{AreMeasures}
 use Rattle.sb_stack.specs.Stacked.{Stacked, are_words}
-use Rattle.sb_stack.specs.declared.verdict.Verdict.{Verdict}
-use Rattle.sb_stack.specs.declared.verdict.Verdict.TheVariants as verdict
 use Rattle.sb_decide.specs.declared.decide.Decider.{Decider}
 use Rattle.sb_decide.specs.Conjoined.{Conjoined, conjoined_at, RestSettled}
 use Rattle.sb_decide.specs.Deciding.{in_each, word_at}
 use Rattle.sb_decide.specs.Members.{AreMembers, AreRooted, HasSerialBelow, IsEmptyAt, ids_in, places_in, other_places}
+use Rattle.sb_decide.specs.Speaking.{AreHeard}
 use Rattle.sb_decide.specs.declared.conjuncts.Member.{Member}
 
 -- the places of a constant's memberships
 abbrev pub places_of : Decider → ℕ → List ℕ
 places_of kept n = (conjoined_at kept.constants.items n).places
+
+-- The places of each constant's memberships, and of those that are none; constants out of the two lists have their
+-- words.
+pub record AreCounted (ms : List (Option Member)) (others : List ℕ) (cs : List Conjoined) (left changed : List Serial)
+    : Type 0
+  where
+    pub within : All (HasSerialBelow (length cs)) ms
+    pub places : (n : ℕ) → (conjoined_at cs n).places ≡ places_in 0 n ms
+    pub apart : others ≡ other_places 0 ms
+    pub settled : RestSettled left changed cs
+    pub left_listed : All (λ serial. serial.0 < length cs) left
+    pub listed : All (λ serial. serial.0 < length cs) changed
 
 -- What is known of the first assertions.
 pub record IsTaken (kept : Decider) (ts : List Term) (assertions : List Assertion) : Type 0 where
@@ -30,13 +42,9 @@ pub record IsTaken (kept : Decider) (ts : List Term) (assertions : List Assertio
   pub plain : IsRight kept.arena kept.plain
   pub members : AreMembers kept.arena ts kept.members.items assertions
   pub rooted : AreRooted kept.arena kept.members.items kept.roots.items
-  pub within : All (HasSerialBelow (length kept.constants.items)) kept.members.items
-  pub places : (n : ℕ) → places_of kept n ≡ places_in 0 n kept.members.items
-  pub others : kept.others.items ≡ other_places 0 kept.members.items
-  pub settled : RestSettled kept.left.items kept.changed.items kept.constants.items
-  pub listed : All (λ serial. serial.0 < length kept.constants.items) kept.changed.items
-  pub left : All (λ serial. serial.0 < length kept.constants.items) kept.left.items
+  pub counted : AreCounted kept.members.items kept.others.items kept.constants.items kept.left.items kept.changed.items
   pub dead : IfSome kept.dead (λ serial. IsEmptyAt kept.arena kept.members.items serial.0)
+  pub heard : AreHeard ts assertions kept.others.items kept.heard kept.spoken.keys
 
 -- The word is the least one of so many first regexes.
 pub record IsLeastOf (rs : List Regex) (ids : List ℕ) (k : ℕ) (w : List ℕ) : Type 0 where
@@ -56,10 +64,3 @@ pub record Knows (kept : Decider) (stack : Stacked) : Type 0 where
   pub taken : IsTaken kept stack.table stack.assertions
   pub words : AreKept kept.arena kept.members.items kept.constants.items stack.words
   pub declared : length kept.constants.items ≤ length stack.scope.sorts
-
--- The check is decided, or outside; where there are no values, a constant without a word is known.
-abbrev pub IsDecision : Verdict → Decider → Type 0
-IsDecision (verdict.Sat words truths) kept = Unit {0}
-IsDecision verdict.Unsat kept = IsSome kept.dead
-IsDecision verdict.Unknown kept = ⊥
-IsDecision verdict.Outside kept = Unit {0}

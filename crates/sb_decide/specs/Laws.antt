@@ -12,7 +12,7 @@ use Rattle.sb_fragment.specs.Measures.{AreMeasures}
 use Rattle.sb_stack.specs.Stacked.{Stacked, IsLonger}
 use Rattle.sb_decide.specs.declared.decide.Decider.{Decider}
 use Rattle.sb_decide.specs.Knowing.{Knows}
-use Rattle.sb_decide.specs.Ready.{IsLeftOpen}
+use Rattle.sb_decide.specs.Ready.{IsReady}
 
 -- terms keep their numbers and assertions their places, and the words stay
 abbrev pub KnowsStays : Type 0
@@ -33,9 +33,9 @@ KnowsGrown = (kept : Decider) (rs : List Regex) (g : Findings) (ks : List Known)
     AreMeasures stack.table ms → IsRight rs p → Knows kept stack →
     Knows (record kept { arena = rs; graph = g; normals = ks; measures = ms; plain = p }) stack
 
--- and a check that is left open is left open
-abbrev pub LeftOpenGrown : Type 0
-LeftOpenGrown = (kept : Decider) (rs : List Regex) (g : Findings) (ks : List Known) (ms : List Measure) (p : Memory)
+-- and a check that is ready stays ready
+abbrev pub ReadyGrown : Type 0
+ReadyGrown = (kept : Decider) (rs : List Regex) (g : Findings) (ks : List Known) (ms : List Measure) (p : Memory)
     (stack : Stacked) → Extends kept.arena rs → IsGraph rs g → AreNormals stack.table rs ks →
-    AreMeasures stack.table ms → IsRight rs p → IsLeftOpen kept stack →
-    IsLeftOpen (record kept { arena = rs; graph = g; normals = ks; measures = ms; plain = p }) stack
+    AreMeasures stack.table ms → IsRight rs p → IsReady kept stack →
+    IsReady (record kept { arena = rs; graph = g; normals = ks; measures = ms; plain = p }) stack

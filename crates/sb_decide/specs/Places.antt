@@ -1,5 +1,5 @@
 -- The places of the assertions that ask something of a constant's word, and that no word is in all of their regexes.
-use Rattle.std.specs.Prelude.{◌≡◌, ℕ, ◌+◌, Bool, true, false, ◌&&◌, ◌==◌, if◌then◌else◌, List, [], ◌∷◌, slice_get, Some, None}
+use Rattle.std.specs.Prelude.{◌≡◌, ℕ, Bool, true, false, ◌&&◌, ◌==◌, List, [], ◌∷◌, slice_get, Some, None}
 use Rattle.std.specs.List.{list_all}
 use Rattle.sb_word.specs.Words.{IsWord}
 use Rattle.sb_lang.specs.Regex.{Regex}
@@ -23,17 +23,6 @@ asks_of serial t = elim (demanded t) [ Some p ↦ serial == p.0 | None ↦ false
 abbrev pub is_member : Assertion → Bool
 is_member (asserted t) = is_demand t && fits t
 is_member a_mark = false
-
-abbrev pub is_membership_of : ℕ → Assertion → Bool
-is_membership_of serial (asserted t) = asks_of serial t
-is_membership_of serial a_mark = false
-
--- the places of the memberships of the constant, where the first of these assertions is at the first place
-abbrev pub places_from : ℕ → ℕ → List Assertion → List ℕ
-places_from place serial [] = []
-places_from place serial (a ∷ rest) =
-    if is_membership_of serial a then place ∷ places_from (place + 1) serial rest
-    else places_from (place + 1) serial rest
 
 -- The assertion at the place asks something of the constant's word alone, and it is a decided one.
 pub record IsPlaceOf (live : List Assertion) (serial place : ℕ) : Type 0 where

@@ -1,7 +1,9 @@
--- Private: the constants that occur in live assertions.
-use Rattle.std.specs.Prelude.{◌≡◌, ◌⊎◌, ℕ, ◌<◌, Bool, true, false, ◌==◌, List, [], ◌∷◌, ◌++◌, slice_get, Some, Contains}
-use Rattle.sb_meaning.specs.Terms.{Term, constant}
+-- The constants that occur in live assertions at some places.
+use Rattle.std.specs.Prelude.{◌≡◌, ℕ, ◌<◌, ◌≤◌, Bool, true, not, ◌&&◌, List, [], ◌∷◌, ◌++◌, length, slice_get, take, Option, Some, None, All}
+use Rattle.std.specs.List.{list_all}
+use Rattle.sb_meaning.specs.Terms.{Term}
 use Rattle.sb_script.specs.Models.{occurs}
+use Rattle.sb_term.specs.Descending.{Puts}
 use Rattle.sb_term.specs.declared.assertion.Assertion.{Assertion}
 use Rattle.sb_term.specs.declared.term.Serial.{Serial}
 use Rattle.sb_term.specs.Numbered.{term_at}
@@ -12,75 +14,45 @@ abbrev pub places_of_all : List Conjoined → List Serial → List ℕ
 places_of_all cs [] = []
 places_of_all cs (serial ∷ serials) = (conjoined_at cs serial.0).places ++ places_of_all cs serials
 
--- the constant occurs in an assertion at one of these places
-pub record OccursIn (ts : List Term) (assertions : List Assertion) (places : List ℕ) (n : ℕ) : Type 0 where
-  pub place : ℕ
-  pub assertion : Assertion
-  pub id : ℕ
-  pub listed : Contains places place
-  pub there : slice_get assertions place ≡ Some assertion
-  pub number : assertion.term ≡ Some id
-  pub occurring : occurs n (term_at ts id) ≡ true
+-- the number passes, if there is one
+abbrev pub passes : (ℕ → Bool) → Option ℕ → Bool
+passes test None = true
+passes test (Some id) = test id
 
--- Each constant is listed that occurs in an assertion at one of these places, and no other one.
-pub record Speaks (ts : List Term) (assertions : List Assertion) (places : List ℕ) (serials : List Serial) : Type 0
+-- so does that of the assertion's term
+abbrev pub passes_in : (ℕ → Bool) → Option Assertion → Bool
+passes_in test None = true
+passes_in test (Some a) = passes test a.term
+
+abbrev pub passes_at : (ℕ → Bool) → List Assertion → ℕ → Bool
+passes_at test assertions place = passes_in test (slice_get assertions place)
+
+-- the constant does not occur in the term of this number
+abbrev pub is_silent : List Term → ℕ → ℕ → Bool
+is_silent ts n id = not (occurs n (term_at ts id))
+
+-- each constant is listed that occurs in an assertion at one of these places, and no other one
+abbrev pub Speaks : List Term → List Assertion → List ℕ → List Serial → Type 0
+Speaks ts assertions places serials =
+    (n : ℕ) → list_all (passes_at (is_silent ts n) assertions) places ≡ not (is_listed serials n)
+
+-- those that occur in the assertions at these places are listed too, and no other ones
+abbrev pub Hears : List Term → List Assertion → List ℕ → List Serial → List Serial → Type 0
+Hears ts assertions places old new = (n : ℕ)
+    → not (is_listed new n) ≡ (not (is_listed old n) && list_all (passes_at (is_silent ts n) assertions) places)
+
+-- Of these places so many first ones were heard: the constants that occur there are listed.
+pub record AreHeard (ts : List Term) (assertions : List Assertion) (places : List ℕ) (count : ℕ) (serials : List Serial)
+    : Type 0
   where
-    pub each : (place id n : ℕ) (a : Assertion) → Contains places place → slice_get assertions place ≡ Some a
-        → a.term ≡ Some id → occurs n (term_at ts id) ≡ true → is_listed serials n ≡ true
-    pub only : (n : ℕ) → is_listed serials n ≡ true → OccursIn ts assertions places n
+    pub within : count ≤ length places
+    pub speaks : Speaks ts assertions (take count places) serials
 
--- numbers were added that are wanted
-pub record Adds (IsWanted : ℕ → Type 0) (old new : List ℕ) : Type 0 where
-  pub more : List ℕ
-  pub is : new ≡ old ++ more
-  pub each : (n : ℕ) → Contains more n → IsWanted n
-
--- The terms are those of the assertions at these places.
-pub record AreBegun (assertions : List Assertion) (places met : List ℕ) : Type 0 where
-  pub each : (n : ℕ) → Contains met n → (place : ℕ) × (a : Assertion) × Contains places place
-      × (slice_get assertions place ≡ Some a) × (a.term ≡ Some n)
-  pub there : (place n : ℕ) (a : Assertion) → Contains places place → slice_get assertions place ≡ Some a
-      → a.term ≡ Some n → Contains met n
-
--- the constant occurs in one of these terms
-pub record OccursAmong (ts : List Term) (met : List ℕ) (n : ℕ) : Type 0 where
-  pub id : ℕ
-  pub among : Contains met id
-  pub occurring : occurs n (term_at ts id) ≡ true
-
--- Each constant was listed that occurs in one of these terms, and no other one.
-pub record Reaches (ts : List Term) (met : List ℕ) (serials listed : List Serial) : Type 0 where
-  pub each : (id n : ℕ) → Contains met id → occurs n (term_at ts id) ≡ true → is_listed listed n ≡ true
-  pub only : (n : ℕ) → is_listed listed n ≡ true → (is_listed serials n ≡ true) ⊎ OccursAmong ts met n
-
--- the constant occurs in an argument of the term that is among these terms
-pub record OccursBelow (ts : List Term) (met : List ℕ) (term n : ℕ) : Type 0 where
-  pub argument : ℕ
-  pub below : argument < term
-  pub listed : Contains met argument
-  pub there : occurs n (term_at ts argument) ≡ true
-
--- the term is this constant
-abbrev pub is_constant : ℕ → Term → Bool
-is_constant n (constant serial sort) = n == serial
-is_constant n _ = false
-
--- A term that is a constant was listed.
-pub record IsNamed (t : Term) (serials more_serials : List Serial) : Type 0 where
-  pub stay : (n : ℕ) → is_listed serials n ≡ true → is_listed more_serials n ≡ true
-  pub named : (n : ℕ) → is_constant n t ≡ true → is_listed more_serials n ≡ true
-  pub only : (n : ℕ) → is_listed more_serials n ≡ true → (is_listed serials n ≡ true) ⊎ (is_constant n t ≡ true)
-
--- the number is a smaller one, of a term in which no other constants occur
-abbrev pub IsPartOf : List Term → ℕ → ℕ → Type 0
-IsPartOf ts term n = (n < term) × ((k : ℕ) → occurs k (term_at ts n) ≡ true → occurs k (term_at ts term) ≡ true)
-
--- A term was taken apart: each constant that occurs in it is listed, or occurs in an argument that is to be taken
--- apart, and none was listed that does not occur in it.
-pub record Meets (ts : List Term) (term : ℕ) (met more_met : List ℕ) (serials more_serials : List Serial) : Type 0 where
-  pub adds : Adds (IsPartOf ts term) met more_met
-  pub stay : (n : ℕ) → is_listed serials n ≡ true → is_listed more_serials n ≡ true
-  pub spoken : (n : ℕ) → occurs n (term_at ts term) ≡ true
-      → (is_listed more_serials n ≡ true) ⊎ OccursBelow ts more_met term n
-  pub only : (n : ℕ) → is_listed more_serials n ≡ true
-      → (is_listed serials n ≡ true) ⊎ (occurs n (term_at ts term) ≡ true)
+-- A term was taken apart: a constant is listed then, or occurs in one of these parts, where it was listed, or occurs in
+-- the term; and the parts are among those that are left.
+pub record TakesApart (ts : List Term) (term : ℕ) (left more : List ℕ) (serials listed : List Serial) : Type 0 where
+  pub parts : List ℕ
+  pub below : All (λ i. i < term) parts
+  pub puts : Puts left parts more
+  pub silent : (n : ℕ) → (not (is_listed listed n) && list_all (is_silent ts n) parts)
+      ≡ (not (is_listed serials n) && is_silent ts n term)

@@ -1,22 +1,29 @@
 -- What a check does on its way, and what it finds of constants.
-use Rattle.std.specs.Prelude.{◌≡◌, ℕ, ◌<◌, Bool, ◌==◌, true, if◌then◌else◌, List, [], length, map, set, get_or, slice_index_or, Option, Some, None, unwrap_or}
-use Rattle.std.specs.List.{All}
+use Rattle.std.specs.Prelude.{◌≡◌, ℕ, ◌+◌, ◌<◌, Bool, ◌==◌, true, false, if◌then◌else◌, List, [], length, map, set, get_or, slice_index_or, Option, Some, None, unwrap_or}
+use Rattle.std.specs.List.{All, list_all}
 use Rattle.sb_word.specs.Words.{are_characters}
 use Rattle.sb_lang.specs.Regex.{Regex}
 use Rattle.sb_lang.specs.Least.{IsShortestLeast}
-use Rattle.sb_regex.specs.Numbered.{AllNumbers}
+use Rattle.sb_regex.specs.Numbered.{AllNumbers, Extends}
+use Rattle.sb_deriv.specs.Faithful.{KeepsEntries}
+use Rattle.sb_graph.specs.Findings.{Findings, IsGraph}
+use Rattle.sb_meaning.specs.Terms.{Term}
+use Rattle.sb_term.specs.Numbered.{term_at}
+use Rattle.sb_term.specs.declared.assertion.Assertion.{Assertion}
 use Rattle.sb_term.specs.declared.term.Serial.{Serial}
-use Rattle.sb_script.specs.State.{constants_of, fits}
-use Rattle.sb_stack.specs.Stacked.{Stacked, state_of, live_constants, values_at, are_words}
+use Rattle.sb_script.specs.State.{asserted, constants_of, fits, live, live_terms}
+use Rattle.sb_fragment.specs.Rules.{is_decided}
+use Rattle.sb_stack.specs.Speaking.{speaks_of}
+use Rattle.sb_stack.specs.Stacked.{Stacked, assertion_in, state_of, live_constants, values_at, are_words}
 use Rattle.sb_decide.specs.declared.conjuncts.Member.{Member}
 use Rattle.sb_decide.specs.declared.decide.Decider.{Decider}
 use Rattle.sb_decide.specs.declared.decide.Found.{Found}
 use Rattle.sb_decide.specs.declared.decide.Words.{Words}
 use Rattle.sb_decide.specs.declared.decide.Words.TheVariants as searched
-use Rattle.sb_decide.specs.Conjoined.{Conjoined, conjoined_at, forgotten, IsChangedAt, RestSettled}
+use Rattle.sb_decide.specs.Conjoined.{Conjoined, conjoined_at, forgotten, is_listed, IsChangedAt, RestSettled}
 use Rattle.sb_decide.specs.Deciding.{in_each, word_at}
-use Rattle.sb_decide.specs.Members.{IsEmptyAt, ids_in, places_in, words_in}
-use Rattle.sb_decide.specs.Knowing.{AreKept, IsLeastOf}
+use Rattle.sb_decide.specs.Members.{AreRooted, IsEmptyAt, IsOther, places_in, words_in}
+use Rattle.sb_decide.specs.Knowing.{AreKept, IsTaken, Knows}
 
 -- the words that are kept stay so
 abbrev pub StayKept : Decider → Decider → Type 0
@@ -29,10 +36,57 @@ abbrev pub HasAll : Decider → Stacked → Type 0
 HasAll kept stack =
     (length kept.members.items ≡ length stack.assertions) × (length kept.constants.items ≡ length stack.scope.sorts)
 
+-- An assertion of this term is taken in by its place alone, if it is a decided one.
+pub record TakesOther (old new : Decider) (ts : List Term) (term : ℕ) (decided : Bool) : Type 0 where
+  pub ok : decided ≡ is_decided (asserted (term_at ts term))
+  pub taken : (xs : List Assertion) (a : Assertion) → length old.members.items < length xs
+      → a ≡ get_or xs (length old.members.items) a → (decided ≡ true → IsOther ts a) → IsTaken old ts xs
+      → IsTaken new ts xs
+  pub words : StayKept old new
+  pub further : decided ≡ true → length new.members.items ≡ length old.members.items + 1
+  pub arena : new.arena ≡ old.arena
+  pub graph : new.graph ≡ old.graph
+
+-- The next assertion is taken in, if it is a decided one.
+pub record TakesIn (old new : Decider) (ts : List Term) (xs : List Assertion) (decided : Bool) : Type 0 where
+  pub taken : IsTaken new ts xs
+  pub words : StayKept old new
+  pub extends : Extends old.arena new.arena
+  pub graph : new.graph ≡ old.graph
+  pub further : decided ≡ true → length new.members.items ≡ length old.members.items + 1
+  pub outside : decided ≡ false → list_all is_decided (map (assertion_in ts) xs) ≡ false
+
 -- words fit the live constants
 abbrev pub Fit : Stacked → Type 0
 Fit stack = (words : List (List ℕ)) (truths : List Bool) → are_words words ≡ true
     → fits (constants_of (state_of stack)) (values_at (live_constants stack) words truths) ≡ true
+
+-- All assertions are taken in, or those before one that is not decided.
+pub record TakesAll (old new : Decider) (stack : Stacked) (whole : Bool) : Type 0 where
+  pub knows : Knows new stack
+  pub all : whole ≡ true → HasAll new stack
+  pub outside : whole ≡ false → list_all is_decided (live (state_of stack)) ≡ false
+  pub named : list_all (speaks_of (live_constants stack)) (live_terms (state_of stack)) ≡ true
+  pub fit : Fit stack
+  pub extends : Extends old.arena new.arena
+  pub graph : new.graph ≡ old.graph
+
+-- what is known of regexes and terms is as it was
+pub record IsSameElsewhere (old new : Decider) : Type 0 where
+  pub arena : new.arena ≡ old.arena
+  pub graph : new.graph ≡ old.graph
+  pub normals : new.normals ≡ old.normals
+  pub measures : new.measures ≡ old.measures
+  pub plain : new.plain ≡ old.plain
+
+-- More regexes, more of their derivatives, and more intersections are known.
+pub record Searches (ms : List (Option Member)) (rs : List Regex) (g : Findings) (new : List Regex) (h : Findings)
+    (roots : List (Option ℕ)) : Type 0
+  where
+    pub extends : Extends rs new
+    pub graph : IsGraph new h
+    pub entries : KeepsEntries g.memo h.memo
+    pub rooted : AreRooted new ms roots
 
 -- the constant without a word, where it is not this one
 abbrev pub other_dead : Option Serial → ℕ → Option Serial
@@ -92,47 +146,42 @@ pub record IsTakingOver (rs : List Regex) (ms : List (Option Member)) (left : Li
   where
     pub same_length : length new ≡ length old
     pub long : length words ≡ length old
-    pub characters : are_words words ≡ true
     pub each : All (IsFoundOf rs ms old words) fs
-    pub right : (n : ℕ) → (conjoined_at old n).places ≡ places_in 0 n ms
-    pub places : (n : ℕ) → (conjoined_at new n).places ≡ (conjoined_at old n).places
+    pub places : (n : ℕ) → (conjoined_at new n).places ≡ places_in 0 n ms
     pub settled : RestSettled left (map (λ found. found.serial) fs) new
-    pub least : (n k : ℕ) → (conjoined_at new n).known ≡ Some k → IsLeastOf rs (ids_in ms n) k (word_at words n)
+    pub kept : AreKept rs ms new words
 
 -- All that was found is taken over: each constant has the least word of its memberships, but for those that were left
 -- to a search, and that are the ones that changed now.
 pub record IsTakenOver (kept new : Decider) (words : List (List ℕ)) : Type 0 where
-  pub over : IsTakingOver kept.arena kept.members.items kept.left.items kept.constants.items new.constants.items words []
+  pub over :
+      IsTakingOver kept.arena kept.members.items kept.left.items kept.constants.items new.constants.items words []
   pub changed : new.changed ≡ kept.left
   pub nothing : new.left.items ≡ []
-  pub same : new ≡
-      record kept { constants = new.constants; changed = new.changed; left = new.left; found = new.found }
+  pub same :
+      new ≡ record kept { constants = new.constants; changed = new.changed; left = new.left; found = new.found }
 
--- the word that a search found of the constant, none past the last one
-abbrev pub found_at : List (Option (List ℕ)) → ℕ → Option (List ℕ)
-found_at found serial = get_or found serial None
+-- the word that a search found of the constant, the empty one where it found none
+abbrev pub word_found : List (Option (List ℕ)) → ℕ → List ℕ
+word_found found serial = unwrap_or (get_or found serial None) []
 
--- nothing is known of the kept word, where there is another one
-abbrev pub forgotten_for : Option (List ℕ) → Conjoined → Conjoined
-forgotten_for None c = c
-forgotten_for (Some w) c = forgotten c
-
--- The constant at the place has this word, if there is one, and nothing else is known of it then.
-pub record IsPutAt (old new : List Conjoined) (words full : List (List ℕ)) (place : ℕ) (word : Option (List ℕ)) : Type 0
+-- The constant at the place has this word, which is one of characters, and nothing else is known of it then.
+pub record IsPutAt (old new : List Conjoined) (words full : List (List ℕ)) (place : ℕ) (word : List ℕ) : Type 0
   where
-    pub constants : IsChangedAt old new place (forgotten_for word (conjoined_at old place))
-    pub given : full ≡ with_word words place word
+    pub constants : IsChangedAt old new place (forgotten (conjoined_at old place))
+    pub given : full ≡ set words place word
+    pub characters : are_characters word ≡ true
 
--- Each constant of which a search found a word has this word, and nothing else is known of it; all others have what
--- they had.
-pub record ArePut (old new : List Conjoined) (words full : List (List ℕ)) (found : List (Option (List ℕ))) : Type 0
+-- Each of these constants has the word that a search found of it, the empty one where it found none, and nothing else
+-- is known of it; all others have what they had.
+pub record ArePut (old new : List Conjoined) (words full : List (List ℕ)) (serials : List Serial)
+    (found : List (Option (List ℕ))) : Type 0
   where
     pub same_length : length new ≡ length old
     pub long : length full ≡ length words
     pub places : (n : ℕ) → (conjoined_at new n).places ≡ (conjoined_at old n).places
-    pub given : (n : ℕ) (w : List ℕ) → found_at found n ≡ Some w
-        → (word_at full n ≡ w) × ((conjoined_at new n).known ≡ None)
-    pub others : (n : ℕ) → found_at found n ≡ None
+    pub given : (n : ℕ) → is_listed serials n ≡ true
+        → (word_at full n ≡ word_found found n) × ((conjoined_at new n).known ≡ None)
+    pub others : (n : ℕ) → is_listed serials n ≡ false
         → (word_at full n ≡ word_at words n) × (conjoined_at new n ≡ conjoined_at old n)
-    pub characters : are_words words ≡ true
-        → ((n : ℕ) (w : List ℕ) → found_at found n ≡ Some w → are_characters w ≡ true) → are_words full ≡ true
+    pub characters : are_words words ≡ true → are_words full ≡ true

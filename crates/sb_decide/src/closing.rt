@@ -12,7 +12,7 @@ ghost use Rattle.sb_decide.specs.Conjoined.{conjoined_at, forgotten, OthersSettl
 ghost use Rattle.sb_decide.specs.Deciding.{AreFilled};
 ghost use Rattle.sb_decide.specs.Knowing.{Knows};
 ghost use Rattle.sb_decide.specs.Ready.{IsReady, IsClosed};
-ghost use Rattle.sb_decide.specs.Taking.{ArePut, IsPutAt, IsTakenOver, IsTakingOver, found_at, with_word};
+ghost use Rattle.sb_decide.specs.Taking.{ArePut, IsPutAt, IsTakenOver, IsTakingOver, with_word, word_found};
 
 use crate::conjuncts::{Conjuncts, Member};
 use crate::decide::{Decider, Found};
@@ -24,23 +24,21 @@ use std::alloc::{AllocError, Global};
 use std::mem;
 
 impl Decider {
-    /// The words of a model, the one of each constant at its serial: the word that a search found, by serial, and of a
-    /// constant of which it found none the least one of its memberships, unless it occurs in an assertion of other
-    /// structure. They are taken out of the stack, and the model is to put them back.
+    /// The words of a model, the one of each constant at its serial: of a constant that occurs in an assertion of other
+    /// structure the word that a search found, by serial, the empty one where it found none; and of each other constant
+    /// the least one of its memberships. They are taken out of the stack, and the model is to put them back.
     ///
-    /// Linear in the constants that are new or changed since the last model, and in the largest serial of which a word was
-    /// found. `AllocError` only for want of memory; the words are lost then.
+    /// Linear in the constants that are new or changed since the last model, and in those that occur in an assertion of
+    /// other structure, with the characters that were found of these. `AllocError` only for want of memory; the words
+    /// are lost then.
     pub fn close(
         &mut self,
         alloc: Global,
         stack: &mut Stack,
-        found: Vec<Option<Word>>,
+        found: &[Option<Word>],
     ) -> Result<Vec<Word>, AllocError>
-        requires ready { IsReady self.old stack.old }
-        requires few { length found.items ≤ length stack.old.scope.sorts }
-        requires characters { (serial : ℕ) (w : List ℕ) → found_at found.items serial ≡ Some w
-            → are_characters w ≡ true }
-        ensures closed { IfOk result (λ words. IsClosed self.old stack.old found.items words.items) }
+        requires { IsReady self.old stack.old }
+        ensures closed { IfOk result (λ words. IsClosed self.old stack.old found.now words.items) }
         ensures knows { IfOk result (λ words. (truths : TheVec Bool TheAlloc)
             → Knows self.new (found_in (verdicts.Sat words truths) stack.new)) }
         ensures taken { OnOk result (stack.new ≡ without_words stack.old) }
@@ -49,8 +47,16 @@ impl Decider {
         ensures graph { self.new.graph ≡ self.old.graph }
     {
         normal_has_terms_words();
+        let _assertions = stack.assertions();
         let mut words = self.take_found(alloc, stack)?;
-        put_found(&mut self.constants, &mut self.changed, &mut words, found)?;
+        put_found(
+            alloc,
+            &mut self.constants,
+            &mut self.changed,
+            &mut words,
+            self.spoken.as_slice(),
+            found,
+        )?;
         Ok(words)
     }
 
@@ -80,18 +86,9 @@ fn fill(alloc: Global, words: &mut Vec<Word>, count: usize) -> Result<(), AllocE
     ensures { OnOk result (AreFilled count words.old.items words.new.items) }
 {
     while words.len() < count {
-        words.push(empty_word(alloc)?)?;
+        words.push(word_of(alloc, &[])?)?;
     }
     Ok(())
-}
-
-fn empty_word(alloc: Global) -> Result<Word, AllocError>
-    ensures { IfOk result (λ word. word ≡ []) }
-{
-    match Word::from_codes(alloc, &[]) {
-        Ok(word) => Ok(word),
-        Err(_) => Err(AllocError),
-    }
 }
 
 /// Gives each constant of which something was found its word. Takes no memory.
@@ -120,49 +117,74 @@ fn put_word(words: &mut [Word], place: usize, word: Option<Word>)
     words[place] = word;
 }
 
-/// Gives each constant of which a search found a word this word; of those nothing else is known then.
+/// Gives each of these constants the word that a search found of it; nothing else is known of it then.
 fn put_found(
+    alloc: Global,
     constants: &mut [Conjuncts],
     changed: &mut Vec<Serial>,
     words: &mut [Word],
-    mut found: Vec<Option<Word>>,
+    serials: &[Serial],
+    found: &[Option<Word>],
 ) -> Result<(), AllocError>
     requires long { length words.old ≡ length constants.old }
-    requires few { length found.items ≤ length constants.old }
+    requires within { All (λ serial. serial.0 < length constants.old) serials.now }
     requires settled { OthersSettled changed.old.items constants.old }
     requires listed { All (λ other. other.0 < length constants.old) changed.old.items }
-    ensures put { OnOk result (ArePut constants.old constants.new words.old words.new found.items) }
+    ensures put { OnOk result (ArePut constants.old constants.new words.old words.new serials.now found.now) }
     ensures settled { OnOk result (OthersSettled changed.new.items constants.new) }
     ensures listed { OnOk result (All (λ other. other.0 < length constants.old) changed.new.items) }
 {
-    while let Some(word) = found.pop() {
-        put_one(constants, changed, words, found.len(), word)?;
+    for serial in serials {
+        put_one(alloc, constants, changed, words, *serial, found)?;
     }
     Ok(())
 }
 
-/// Gives the constant at a place the word that a search found, if it found one; then nothing else is known of it.
+/// Gives a constant the word that a search found of it; then nothing else is known of it.
 fn put_one(
+    alloc: Global,
     constants: &mut [Conjuncts],
     changed: &mut Vec<Serial>,
     words: &mut [Word],
-    place: usize,
-    word: Option<Word>,
+    serial: Serial,
+    found: &[Option<Word>],
 ) -> Result<(), AllocError>
-    requires within { place < length constants.old }
-    requires room { place < length words.old }
+    requires within { serial.0 < length constants.old }
+    requires room { serial.0 < length words.old }
     requires settled { OthersSettled changed.old.items constants.old }
     requires listed { All (λ other. other.0 < length constants.old) changed.old.items }
-    ensures put { OnOk result (IsPutAt constants.old constants.new words.old words.new place word) }
+    ensures put { OnOk result (IsPutAt constants.old constants.new words.old words.new serial.0
+        (word_found found.now serial.0)) }
     ensures settled { OnOk result (OthersSettled changed.new.items constants.new) }
     ensures listed { OnOk result (All (λ other. other.0 < length constants.old) changed.new.items) }
 {
-    let Some(word) = word else {
-        return Ok(());
-    };
+    let place = serial.0 as usize;
+    let word = copied(alloc, found, place)?;
     forget(constants, changed, place)?;
     words[place] = word;
     Ok(())
+}
+
+/// The word that a search found of the constant at a place, the empty one where it found none.
+fn copied(alloc: Global, found: &[Option<Word>], place: usize) -> Result<Word, AllocError>
+    ensures exact { IfOk result (λ word. word ≡ word_found found.now place) }
+    ensures characters { IfOk result (λ word. are_characters word ≡ true) }
+{
+    match found.get(place) {
+        Some(Some(word)) => word_of(alloc, word.codes()),
+        _ => word_of(alloc, &[]),
+    }
+}
+
+/// The word of these characters.
+fn word_of(alloc: Global, codes: &[u32]) -> Result<Word, AllocError>
+    ensures exact { IfOk result (λ word. word ≡ codes.now) }
+    ensures characters { IfOk result (λ word. are_characters word ≡ true) }
+{
+    match Word::from_codes(alloc, codes) {
+        Ok(word) => Ok(word),
+        Err(_) => Err(AllocError),
+    }
 }
 
 /// Says of the constant at a place that nothing is known of its word.

@@ -132,11 +132,13 @@ pub fn conjuncts_at(
     let mut ids = Vec::new(alloc);
     let mut left = places;
     while let Some((place, front)) = left.split_last() {
-        if let Some(root) = roots[*place] {
+        let known = roots[*place];
+        if let Some(root) = known {
             ids.push(root)?;
             return Ok(ids);
         }
-        let Some(member) = members[*place] else {
+        let taken = members[*place];
+        let Some(member) = taken else {
             return Ok(ids);
         };
         ids.push(member.regex)?;

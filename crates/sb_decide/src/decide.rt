@@ -6,12 +6,11 @@
 //! What is known of the assertions so far is kept, so that a check takes in those that are new, and finds words of the
 //! constants that they speak of: a kept word that is in the regexes of the new memberships stays, and nothing is made
 //! for it. Memberships speak of no constant of sort Bool, so each of these is false. A decided assertion that is no
-//! membership is taken in too, by its place alone, and while there are such ones a check is left open, where the
-//! memberships of constants that occur in none of them don't refute it. The search finds the words of those that do, so
-//! none are found here. Assertions are taken in up to the first one that is not decided.
+//! membership is taken in too, by its place alone, and while there are such ones a search is asked about them, where
+//! the memberships alone don't refute the check. Assertions are taken in up to the first one that is not decided.
 
-ghost use Rattle.std.specs.Prelude.{◌≡◌, ◌≢◌, ℕ, ◌+◌, ◌<◌, ◌≤◌, [], List, Option, Some, is_some, length, get_or, map, true, false};
-ghost use Rattle.std.specs.Prelude.{All, IfOk, OnOk, IfSome, IfNone, MatchOption};
+ghost use Rattle.std.specs.Prelude.{◌≡◌, ℕ, ◌<◌, ◌≤◌, [], List, Option, Some, length, true};
+ghost use Rattle.std.specs.Prelude.{All, IfOk, OnOk, MatchOption};
 ghost use Rattle.std.specs.List.{list_all};
 ghost use Rattle.sb_lang.specs.Least.{IsShortestLeast};
 ghost use Rattle.sb_lang.specs.Regex.{Regex};
@@ -19,29 +18,26 @@ ghost use Rattle.sb_regex.specs.Numbered.{Extends};
 ghost use Rattle.sb_deriv.specs.Faithful.{KeepsEntries};
 ghost use Rattle.sb_graph.specs.Findings.{IsGraph};
 ghost use Rattle.sb_plain.specs.Memory.{IsRight};
-ghost use Rattle.sb_script.specs.State.{asserted, live, live_terms};
-ghost use Rattle.sb_script.specs.Verdicts.{IsVerdict, settled};
+ghost use Rattle.sb_script.specs.State.{live_terms};
 ghost use Rattle.sb_fragment.specs.Measures.{AreMeasures};
-ghost use Rattle.sb_fragment.specs.Rules.{is_decided};
-ghost use Rattle.sb_stack.specs.Stacked.{Stacked, state_of, live_constants, without_words, assertion_in, HasNumberBelow};
+ghost use Rattle.sb_stack.specs.Stacked.{Stacked, state_of, live_constants, HasNumberBelow};
 ghost use Rattle.sb_stack.specs.Speaking.{speaks_of};
-ghost use Rattle.sb_stack.specs.Steps.{verdict_in, found};
-ghost use Rattle.sb_term.specs.Numbered.{term_at};
 ghost use Rattle.sb_term.specs.Serials.{all_below};
 ghost use Rattle.sb_decide.specs.Conjoined.{conjoined_at, with_place, without_place, RestSettled, HasRoom, IsChangedAt};
 ghost use Rattle.sb_decide.specs.Deciding.{word_at};
-ghost use Rattle.sb_decide.specs.Knowing.{IsTaken, IsLeastOf, AreKept, Knows, IsDecision, places_of};
-ghost use Rattle.sb_decide.specs.Ready.{IsReady, IsLeftOpen, IsSpoken};
+ghost use Rattle.sb_decide.specs.Knowing.{IsTaken, IsLeastOf, AreKept, Knows};
+ghost use Rattle.sb_decide.specs.Ready.{IsDecided, FindsWords};
 ghost use Rattle.sb_decide.specs.Laws.{LeavesKnown};
-ghost use Rattle.sb_decide.specs.Members.{AreRooted, IsEmptyAt, IsOther, IsRootOf, ids_in, places_in, words_in};
-ghost use Rattle.sb_decide.specs.Places.{HasNoWordAt, IsPlaceOf};
-ghost use Rattle.sb_decide.specs.Taking.{StayKept, HasAll, AreWords, Fit, IsFoundAt, other_dead};
+ghost use Rattle.sb_decide.specs.Members.{AreRooted, IsEmptyAt, IsRootOf, ids_in, places_in, words_in};
+ghost use Rattle.sb_decide.specs.Parting.{SetsAside};
+ghost use Rattle.sb_decide.specs.Taking.{HasAll, AreWords, IsFoundAt, IsSameElsewhere, Searches, TakesAll, TakesIn, TakesOther, other_dead};
 
 use crate::conjuncts::{Conjuncts, Member, conjuncts_at};
 use crate::demand::{demand_of, regex_of};
-use crate::parting::{gather, part};
-use crate::question::spoken;
+use crate::parting::part;
+use crate::question::hear;
 use crate::standing::stands;
+use indexmap::IndexSet;
 use sb_fragment::{Measures, fragment_is_of_each};
 use sb_graph::{Explored, Graph, graph_stays};
 use sb_lang::constructors::{intersection_is_of_each, mkand_keeps_language};
@@ -49,10 +45,11 @@ use sb_lang::normal::normal_has_terms_words;
 use sb_plain::{Plain, right_stays};
 use sb_problem::{Normals, normals_stay};
 use sb_regex::{Arena, RegexId};
-use sb_stack::{Stack, Verdict};
+use sb_stack::Stack;
 use sb_term::{Assertion, Serial, Table, TermId};
 use sb_word::Word;
 use std::alloc::{AllocError, Global};
+use std::mem;
 
 /// What is known of the assertions that were taken in, and of the regexes that checks have met, which stays true from
 /// one check to the next.
@@ -62,7 +59,7 @@ pub struct Decider {
     pub graph: Graph,
     pub normals: Normals,
     pub measures: Measures,
-    /// What is remembered of walks along words, for checks that are left open.
+    /// What is remembered of walks along words.
     pub plain: Plain,
     /// By place what was taken in, decided assertions from the first on: the membership that each one is, `None` where
     /// it is none. Equalities with a literal count as memberships, and so does what is denied.
@@ -80,6 +77,10 @@ pub struct Decider {
     /// Those that changed too, and that the last check left to a search, since they occur in an assertion of other
     /// structure.
     pub left: Vec<Serial>,
+    /// The constants that occur in the assertions of other structure that checks have heard, each once.
+    pub spoken: IndexSet<Serial>,
+    /// How many of `others` checks have heard: so many first ones.
+    pub heard: usize,
     /// What the last check found of the constants in `changed`, until a model takes it over.
     pub found: Vec<Found>,
     /// A constant that is known to have no word.
@@ -91,6 +92,17 @@ pub struct Decider {
 pub struct Found {
     pub serial: Serial,
     pub word: Option<Word>,
+}
+
+/// What is known of a check before any search.
+#[derive(Clone, Copy)]
+pub enum Decided {
+    /// Not each live assertion is a decided one.
+    Outside,
+    /// A constant is known to have no word: no values make the live assertions true.
+    Dead,
+    /// Each constant that occurs in no assertion of other structure has a word by its memberships alone.
+    Ready,
 }
 
 /// What a check finds of the constants that it asks for.
@@ -119,60 +131,42 @@ impl Decider {
             constants: Vec::new(alloc),
             changed: Vec::new(alloc),
             left: Vec::new(alloc),
+            spoken: IndexSet::new(alloc),
+            heard: 0,
             found: Vec::new(alloc),
             dead: None,
         }
     }
 
-    /// What a check of the live assertions finds; `None` where it is left open, since all assertions are decided ones,
-    /// but not all of them are memberships, and each constant that occurs in none of the others has a word by its
-    /// memberships alone. Then [`Decider::question`] says what a search is to be asked about, and [`Decider::close`]
-    /// gives the words of a model.
+    /// What is known of a check of the live assertions before any search. Where a constant has no word,
+    /// [`Decider::clash`] are places of assertions that refute it. Where it is ready, [`Decider::question`] says what a
+    /// search is to be asked about, and [`Decider::close`] gives the words of a model.
     ///
     /// Linear in the assertions and constants that are new since the last check with a model, and in the constants that
-    /// the new ones, those that were taken back, and the search of that check spoke of. The kept word of such a constant
-    /// is matched with the regexes of the memberships behind those that it is known to be the least word of
-    /// ([`Plain::matches`]), and stays where it is in all of them. Else, and where one of those was taken back, the check
-    /// is linear in the constant's memberships and in what is explored; a regex that was explored before is not expanded
-    /// again. An assertion that is no membership is looked at once, in the time of [`Measures::fits_structure`]; while
-    /// there are some, the constants that occur in them are left to the search, and found in the terms of these that are
-    /// not ground, each once. Where it finds `Unsat`, [`Decider::dead`] is a constant without a word. Of the script's
-    /// state it changes the mode and the kept words alone. `AllocError` only for want of memory.
-    pub fn decide(
-        &mut self,
-        alloc: Global,
-        stack: &mut Stack,
-    ) -> Result<Option<Verdict>, AllocError>
-        requires { Knows self.old stack.old }
-        ensures verdict { IfOk result (λ answer. IfSome answer
-            (λ verdict. IsVerdict (state_of stack.old) [] (verdict_in (live_constants stack.old) verdict))) }
-        ensures knows { IfOk result (λ answer. IfSome answer (λ verdict. Knows self.new (found verdict stack.new))) }
-        ensures state { IfOk result (λ answer. IfSome answer
-            (λ verdict. settled (verdict_in (live_constants stack.old) verdict) (state_of stack.new)
-            ≡ settled (verdict_in (live_constants stack.old) verdict) (state_of stack.old))) }
-        ensures decided { IfOk result (λ answer. IfSome answer (λ verdict. IsDecision verdict self.new)) }
-        ensures open { IfOk result (λ answer. IfNone answer (IsLeftOpen self.new stack.new)) }
-        ensures same { IfOk result (λ answer. IfNone answer (stack.new ≡ stack.old)) }
-        ensures rest { without_words stack.new ≡ without_words stack.old }
+    /// the new ones, those that were taken back, and the search of that check spoke of. The kept word of such a
+    /// constant is matched with the regexes of the memberships behind those that it is known to be the least word of
+    /// ([`Plain::matches`]), and stays where it is in all of them. Else, and where one of those was taken back, the
+    /// check is linear in the constant's memberships and in what is explored; a regex that was explored before is not
+    /// expanded again. An assertion that is no membership is looked at once, in the time of
+    /// [`Measures::fits_structure`]; while there are some, the constants that occur in them are left to the search. They
+    /// are found in the terms of those that are new, but for ground ones, each once, and in those of all where one was
+    /// taken back since. `AllocError` only for want of memory.
+    pub fn decide(&mut self, alloc: Global, stack: &Stack) -> Result<Decided, AllocError>
+        requires { Knows self.old stack.now }
+        ensures knows { OnOk result (Knows self.new stack.now) }
+        ensures decided { IfOk result (IsDecided self.new stack.now) }
         ensures extends { OnOk result (Extends self.old.arena self.new.arena) }
         ensures derivatives_stay { OnOk result (KeepsEntries self.old.graph.memo self.new.graph.memo) }
     {
         normal_has_terms_words();
         fragment_is_of_each();
         if !self.take_in(alloc, stack)? {
-            return Ok(Some(Verdict::Outside));
+            return Ok(Decided::Outside);
         }
         if !self.find_words(alloc, stack)? {
-            return Ok(Some(Verdict::Unsat));
+            return Ok(Decided::Dead);
         }
-        if !self.others.is_empty() {
-            return Ok(None);
-        }
-        let words = self.close(alloc, stack, Vec::new(alloc))?;
-        Ok(Some(Verdict::Sat {
-            words,
-            truths: Vec::new(alloc),
-        }))
+        Ok(Decided::Ready)
     }
 
     /// Finds the words that the constants which changed and occur in no assertion of other structure have by their
@@ -181,65 +175,13 @@ impl Decider {
         requires knows { Knows self.old stack.now }
         requires all { HasAll self.old stack.now }
         requires named { list_all (speaks_of (live_constants stack.now)) (live_terms (state_of stack.now)) ≡ true }
-        ensures knows { OnOk result (Knows self.new stack.now) }
-        ensures all { HasAll self.new stack.now }
-        ensures ready { IfOk result (λ found. found ≡ true → IsReady self.new stack.now) }
-        ensures dead { IfOk result (λ found. found ≡ false → is_some self.new.dead ≡ true) }
-        ensures others { self.new.others ≡ self.old.others }
-        ensures extends { OnOk result (Extends self.old.arena self.new.arena) }
-        ensures derivatives_stay { OnOk result (KeepsEntries self.old.graph.memo self.new.graph.memo) }
+        ensures { IfOk result (FindsWords self.old self.new stack.now) }
     {
+        normals_stay();
         if self.dead.is_some() {
             return Ok(false);
         }
         self.set_aside(alloc, stack)?;
-        let found = self.find_changed(alloc, stack)?;
-        Ok(found)
-    }
-
-    /// Leaves those of the constants that changed to a search that occur in an assertion of other structure.
-    fn set_aside(&mut self, alloc: Global, stack: &Stack) -> Result<(), AllocError>
-        requires knows { Knows self.old stack.now }
-        requires all { HasAll self.old stack.now }
-        ensures knows { OnOk result (Knows self.new stack.now) }
-        ensures all { HasAll self.new stack.now }
-        ensures left { OnOk result
-            (All (λ serial. IsSpoken self.new.others.items stack.now serial.0) self.new.left.items) }
-        ensures others { self.new.others ≡ self.old.others }
-        ensures arena { self.new.arena ≡ self.old.arena }
-        ensures graph { self.new.graph ≡ self.old.graph }
-    {
-        if self.others.is_empty() && self.left.is_empty() {
-            return Ok(());
-        }
-        let serials = spoken(
-            alloc,
-            &mut self.measures,
-            stack.table(),
-            stack.assertions(),
-            self.others.as_slice(),
-        )?;
-        let all = gather(alloc, &mut self.changed, &mut self.left)?;
-        part(all.as_slice(), &serials, &mut self.changed, &mut self.left)?;
-        Ok(())
-    }
-
-    /// Finds the words that the constants which changed, and are not left to a search, have by their memberships, and
-    /// answers whether each has one.
-    fn find_changed(&mut self, alloc: Global, stack: &Stack) -> Result<bool, AllocError>
-        requires knows { Knows self.old stack.now }
-        requires all { HasAll self.old stack.now }
-        requires named { list_all (speaks_of (live_constants stack.now)) (live_terms (state_of stack.now)) ≡ true }
-        requires left { All (λ serial. IsSpoken self.old.others.items stack.now serial.0) self.old.left.items }
-        ensures knows { OnOk result (Knows self.new stack.now) }
-        ensures all { HasAll self.new stack.now }
-        ensures ready { IfOk result (λ found. found ≡ true → IsReady self.new stack.now) }
-        ensures dead { IfOk result (λ found. found ≡ false → is_some self.new.dead ≡ true) }
-        ensures others { self.new.others ≡ self.old.others }
-        ensures extends { OnOk result (Extends self.old.arena self.new.arena) }
-        ensures derivatives_stay { OnOk result (KeepsEntries self.old.graph.memo self.new.graph.memo) }
-    {
-        normals_stay();
         match least_words(
             alloc,
             &mut self.arena,
@@ -262,9 +204,34 @@ impl Decider {
         }
     }
 
+    /// Finds the constants that occur in an assertion of other structure, and leaves those of them that changed to a
+    /// search.
+    fn set_aside(&mut self, alloc: Global, stack: &Stack) -> Result<(), AllocError>
+        requires knows { Knows self.old stack.now }
+        requires all { HasAll self.old stack.now }
+        ensures { OnOk result (SetsAside self.old self.new stack.now) }
+    {
+        let others = self.others.as_slice();
+        hear(
+            alloc,
+            &mut self.measures,
+            stack.table(),
+            stack.assertions(),
+            &others[self.heard..],
+            &mut self.spoken,
+        )?;
+        self.heard = self.others.len();
+        let mut all = mem::replace(&mut self.changed, Vec::new(alloc));
+        all.extend_from_slice(self.left.as_slice())?;
+        self.left.clear();
+        let spoken = &self.spoken;
+        part(all.as_slice(), spoken, &mut self.changed, &mut self.left)?;
+        Ok(())
+    }
+
     /// Takes assertions back from the end: the first `count` stay, and what is known of them, as what is known of terms
-    /// and regexes does. Linear in the assertions that were taken in and are taken back. `AllocError` only for want of
-    /// memory.
+    /// and regexes does. Linear in the assertions that were taken in and are taken back, and in the constants of
+    /// `spoken` where one of these was heard. `AllocError` only for want of memory.
     pub fn leave(&mut self, count: usize) -> Result<(), AllocError>
         ensures knows { OnOk result (LeavesKnown count self.old self.new) }
         ensures arena { self.new.arena ≡ self.old.arena }
@@ -280,43 +247,11 @@ impl Decider {
         Ok(())
     }
 
-    /// A constant that is known to have no word: none is in all regexes of the memberships at its places. Constant
-    /// time.
-    pub fn dead(&self) -> Option<Serial>
-        ensures value { result ≡ self.now.dead }
-        ensures none { (stack : Stacked) → Knows self.now stack
-            → IfSome result (λ serial. HasNoWordAt (live (state_of stack)) (places_of self.now serial.0)) }
-    {
-        normal_has_terms_words();
-        self.dead
-    }
-
-    /// The places of a constant's memberships, of its equalities with literals, and of the denials of such, among the
-    /// assertions that were taken in, ascending. Constant time.
-    pub fn places(&self, serial: Serial) -> &[usize]
-        ensures value { result.now ≡ places_of self.now serial.0 }
-        ensures are { (stack : Stacked) → Knows self.now stack
-            → All (IsPlaceOf (live (state_of stack)) serial.0) result.now }
-    {
-        match self.constants.get(serial.0 as usize) {
-            Some(conjuncts) => conjuncts.places(),
-            None => &[],
-        }
-    }
-
     /// Takes in the assertions that are new, up to one that is not decided, and answers whether that are all of them.
     /// Linear in them, and in the constants that are new.
     fn take_in(&mut self, alloc: Global, stack: &Stack) -> Result<bool, AllocError>
         requires { Knows self.old stack.now }
-        ensures knows { OnOk result (Knows self.new stack.now) }
-        ensures all { IfOk result (λ all. all ≡ true → HasAll self.new stack.now) }
-        ensures outside { IfOk result (λ all. all ≡ false
-            → list_all is_decided (live (state_of stack.now)) ≡ false) }
-        ensures named { OnOk result
-            (list_all (speaks_of (live_constants stack.now)) (live_terms (state_of stack.now)) ≡ true) }
-        ensures fit { OnOk result (Fit stack.now) }
-        ensures extends { OnOk result (Extends self.old.arena self.new.arena) }
-        ensures graph { OnOk result (self.new.graph ≡ self.old.graph) }
+        ensures { IfOk result (TakesAll self.old self.new stack.now) }
     {
         let assertions = stack.assertions();
         let table = stack.table();
@@ -335,14 +270,7 @@ impl Decider {
         requires numbers { All (HasNumberBelow (length table.now)) assertions.now }
         requires serials { all_below (length self.old.constants.items) table.now ≡ true }
         requires taken { IsTaken self.old table.now assertions.now }
-        ensures taken { OnOk result (IsTaken self.new table.now assertions.now) }
-        ensures words { OnOk result (StayKept self.old self.new) }
-        ensures extends { OnOk result (Extends self.old.arena self.new.arena) }
-        ensures graph { OnOk result (self.new.graph ≡ self.old.graph) }
-        ensures further { IfOk result
-            (λ decided. decided ≡ true → length self.new.members.items ≡ length self.old.members.items + 1) }
-        ensures outside { IfOk result (λ decided. decided ≡ false
-            → list_all is_decided (map (assertion_in table.now) assertions.now) ≡ false) }
+        ensures { IfOk result (TakesIn self.old self.new table.now assertions.now) }
     {
         graph_stays();
         right_stays();
@@ -375,17 +303,7 @@ impl Decider {
     fn take_other(&mut self, table: &Table, term: TermId) -> Result<bool, AllocError>
         requires number { term < length table.now }
         requires measures { AreMeasures table.now self.old.measures }
-        ensures ok { IfOk result (λ decided. decided ≡ is_decided (asserted (term_at table.now term))) }
-        ensures taken { IfOk result (λ decided. (assertions : List Assertion) (a : Assertion)
-            → length self.old.members.items < length assertions
-            → a ≡ get_or assertions (length self.old.members.items) a
-            → (decided ≡ true → IsOther table.now a)
-            → IsTaken self.old table.now assertions → IsTaken self.new table.now assertions) }
-        ensures words { OnOk result (StayKept self.old self.new) }
-        ensures further { IfOk result
-            (λ decided. decided ≡ true → length self.new.members.items ≡ length self.old.members.items + 1) }
-        ensures arena { self.new.arena ≡ self.old.arena }
-        ensures graph { self.new.graph ≡ self.old.graph }
+        ensures { IfOk result (TakesOther self.old self.new table.now term) }
     {
         if !self.measures.fits_structure(table, term)? {
             return Ok(false);
@@ -402,11 +320,7 @@ impl Decider {
         ensures knows { OnOk result ((stack : Stacked) → Knows self.old stack → Knows self.new stack) }
         ensures fewer { 0 < length self.old.members.items
             → length self.new.members.items < length self.old.members.items }
-        ensures arena { self.new.arena ≡ self.old.arena }
-        ensures graph { self.new.graph ≡ self.old.graph }
-        ensures normals { self.new.normals ≡ self.old.normals }
-        ensures measures { self.new.measures ≡ self.old.measures }
-        ensures plain { self.new.plain ≡ self.old.plain }
+        ensures same { IsSameElsewhere self.old self.new }
     {
         let Some(last) = self.members.pop() else {
             return Ok(());
@@ -414,6 +328,11 @@ impl Decider {
         self.roots.pop();
         let Some(member) = last else {
             self.others.pop();
+            if self.heard <= self.others.len() {
+                return Ok(());
+            }
+            self.heard = 0;
+            self.spoken.clear();
             return Ok(());
         };
         self.dead = other_dead(self.dead, member.serial);
@@ -533,11 +452,8 @@ fn least_words(
     requires graph { IsGraph arena.old graph.old }
     requires plain { IsRight arena.old plain.old }
     ensures words { IfOk result (AreWords arena.new members.now constants.now words.now changed.now) }
-    ensures rooted { OnOk result (AreRooted arena.new members.now roots.new.items) }
-    ensures extends { Extends arena.old arena.new }
-    ensures graph { IsGraph arena.new graph.new }
+    ensures searches { Searches members.now arena.old graph.old arena.new graph.new roots.new.items }
     ensures plain { IsRight arena.new plain.new }
-    ensures derivatives_stay { KeepsEntries graph.old.memo graph.new.memo }
 {
     let mut found = Vec::new(alloc);
     for serial in changed {
@@ -574,11 +490,8 @@ fn find_word(
     requires plain { IsRight arena.old plain.old }
     ensures found { IfOk result (λ found. MatchOption found (IsEmptyAt arena.new members.now serial.0)
         (IsFoundAt arena.new members.now words.now serial)) }
-    ensures rooted { OnOk result (AreRooted arena.new members.now roots.new.items) }
-    ensures extends { Extends arena.old arena.new }
-    ensures graph { IsGraph arena.new graph.new }
+    ensures searches { Searches members.now arena.old graph.old arena.new graph.new roots.new.items }
     ensures plain { IsRight arena.new plain.new }
-    ensures derivatives_stay { KeepsEntries graph.old.memo graph.new.memo }
 {
     graph_stays();
     right_stays();
@@ -612,21 +525,37 @@ fn least_word(
     requires graph { IsGraph arena.old graph.old }
     ensures found { IfOk result (λ found. MatchOption found (IsEmptyAt arena.new members.now serial.0)
         (IsShortestLeast (words_in arena.new members.now serial.0))) }
-    ensures rooted { OnOk result (AreRooted arena.new members.now roots.new.items) }
-    ensures extends { Extends arena.old arena.new }
-    ensures graph { IsGraph arena.new graph.new }
-    ensures derivatives_stay { KeepsEntries graph.old.memo graph.new.memo }
+    ensures searches { Searches members.now arena.old graph.old arena.new graph.new roots.new.items }
 {
     graph_stays();
+    let root = root_of(alloc, arena, roots, members, serial, places)?;
+    match graph.least_word(arena, root)? {
+        Explored::Alive(word) => Ok(Some(word)),
+        Explored::Dead => Ok(None),
+    }
+}
+
+/// The intersection of all regexes of a constant, which is kept.
+fn root_of(
+    alloc: Global,
+    arena: &mut Arena,
+    roots: &mut Vec<Option<RegexId>>,
+    members: &[Option<Member>],
+    serial: Serial,
+    places: &[usize],
+) -> Result<RegexId, AllocError>
+    requires rooted { AreRooted arena.old members.now roots.old.items }
+    requires places { places.now ≡ places_in 0 serial.0 members.now }
+    ensures root { IfOk result (IsRootOf arena.new members.now serial.0) }
+    ensures rooted { AreRooted arena.new members.now roots.new.items }
+    ensures extends { Extends arena.old arena.new }
+{
     mkand_keeps_language();
     intersection_is_of_each();
     let ids = conjuncts_at(alloc, members, roots, places)?;
     let root = arena.and(&ids)?;
     keep_root(roots, places, root);
-    match graph.least_word(arena, root)? {
-        Explored::Alive(word) => Ok(Some(word)),
-        Explored::Dead => Ok(None),
-    }
+    Ok(root)
 }
 
 /// Keeps the intersection of all memberships of a constant at the last of their places, if there is one.

@@ -1,6 +1,6 @@
 //! Laws of what is known of a script's assertions.
 
-ghost use Rattle.sb_decide.specs.Laws.{KnowsStays, KnowsGrown, LeftOpenGrown};
+ghost use Rattle.sb_decide.specs.Laws.{KnowsStays, KnowsGrown, ReadyGrown};
 
 use sb_graph::graph_stays;
 use sb_plain::right_stays;
@@ -21,9 +21,9 @@ pub fn knows_grown()
     right_stays();
 }
 
-/// A check that is left open stays so as the arena and what is known of its regexes and of terms grow.
-pub fn left_open_grown()
-    ensures { LeftOpenGrown }
+/// A check that is ready stays so as the arena and what is known of its regexes and of terms grow.
+pub fn ready_grown()
+    ensures { ReadyGrown }
 {
     graph_stays();
     right_stays();

@@ -6,13 +6,12 @@
 //! an equality: its regex is the complement. The one idea is that each constant has a word for itself, so a check asks
 //! for the words of those constants that new assertions speak of; and a least word that is in a new regex too is the
 //! least one still, so it is matched before any intersection is made. The layer above asks [`Decider::decide`] first:
-//! where all assertions are memberships it has the verdict, and where one is not decided the check is outside. Else the
-//! check is left open, for a search over Boolean structure: all assertions are taken in then, and each constant that
-//! occurs in no such structure has a word by its memberships alone. [`Decider::question`] are the places of those
-//! assertions that the search is to be asked about, and [`Decider::close`] puts the words that it found among those of
-//! the memberships.
-//! After an `Unsat` the layer above asks for the constant that has no word, and for the places of its memberships among
-//! the live assertions. Where assertions go it says so by [`Decider::leave`].
+//! where an assertion is not decided the check is outside, and where a constant has no word it is `Unsat`; the places
+//! of assertions that refute it are [`Decider::clash`]. Else the check is ready: all assertions are taken in then, and
+//! each constant that occurs in none that is no membership has a word by its memberships alone. [`Decider::question`]
+//! are the places of those assertions that a search is to be asked about, none where all are memberships, and
+//! [`Decider::close`] puts the words that it found among those of the memberships. Where assertions go the layer above
+//! says so by [`Decider::leave`].
 #![tactic(auto)]
 
 mod closing;
@@ -25,6 +24,6 @@ mod question;
 mod standing;
 
 pub use conjuncts::{Conjuncts, Member};
-pub use decide::Decider;
+pub use decide::{Decided, Decider};
 pub use demand::{Demand, demand_of};
-pub use laws::{knows_grown, knows_stays, left_open_grown};
+pub use laws::{knows_grown, knows_stays, ready_grown};

@@ -1,23 +1,12 @@
 -- Behind each entry of a script its terms fit the sorts of the constants, and the script goes on.
-use Rattle.std.proofs.Common.{◌≡◌, ℕ, List, [], Option, Some, None, sym, subst}
-use Rattle.sb_script.specs.State.{State}
+use Rattle.sb_prover.proofs.Words.{◌≡◌, ℕ, List, [], Option, Some, None, sym, subst, Continues, EntriesLeadOn, EntriesStayFit, GoesDown, IsFit, IsStep, LeadsOn, LeadsTo, State, Step, answers, asked_in, checks, exits, leaves, leaving_in, step_of}
 use Rattle.sb_script.specs.Steps as meaning
-use Rattle.sb_script.specs.Steps.{answers, leaves, checks, exits}
-use Rattle.sb_script.specs.Replies.{step_of}
-use Rattle.sb_rulebook.specs.Accepted.{asked_in}
-use Rattle.sb_stack.specs.declared.stack.Step.{Step}
 use Rattle.sb_stack.specs.declared.stack.Step.TheVariants as code
-use Rattle.sb_stack.specs.Steps.{IsStep, leaving_in}
-use Rattle.sb_sound.specs.SoundLaws.{Continues}
-use Rattle.sb_sound.specs.ScriptLaws.{IsFit, LeadsOn, EntriesLeadOn}
-use Rattle.sb_prover.specs.Proving.{GoesDown, LeadsTo, EntriesStayFit}
-
-goes-on-same : (s : State) → Continues (asked_in s) (asked_in s)
-goes-on-same s = record { sorts = λ v has. has; live = λ place a there. there }
 
 stays-same : (old new : State) → new ≡ old → IsFit old → IsFit new × Continues (asked_in old) (asked_in new)
 stays-same old new same fit =
-    subst (λ (s : State). IsFit s × Continues (asked_in old) (asked_in s)) (sym same) (fit, goes-on-same old)
+    subst (λ (s : State). IsFit s × Continues (asked_in old) (asked_in s)) (sym same)
+    (fit, record { sorts = λ v has. has; live = λ place a there. there })
 
 goes-down : (what : meaning.Leaving) (level : Option ℕ) (old s : State) (text : List ℕ) → what ≡ leaving_in level
     → LeadsOn old (leaves what text s) → IsFit s × GoesDown level (asked_in old) (asked_in s)

@@ -1,24 +1,6 @@
 -- Where the live assertions that a search was asked about are true of words and truth values of their constants, a
 -- check may give these values, with the words that memberships give each other constant.
-use Rattle.std.proofs.Common.{◌≡◌, ◌⊎◌, ℕ, zero, suc, ◌<◌, Bool, true, false, not, ◌||◌, ◌==◌, if◌then◌else◌, List, [], ◌∷◌, length, slice_get, Option, Some, None, inl, inr, refl, sym, ap, subst, ◌∙◌, arith}
-use Rattle.std.specs.Prelude.{Contains, is_some}
-use Rattle.std.specs.List.{list_any}
-use Rattle.std.proofs.lemmas.Bool.{false≢true, and_from, or_left, or_right, eqb-true}
-use Rattle.std.proofs.lemmas.List.{length-map}
-use Rattle.std.proofs.lemmas.Option.{slice_get_within, same_Some}
-use Rattle.sb_meaning.specs.Terms.{Sort, boolean, integer, text, reglan, Term}
-use Rattle.sb_meaning.specs.Values.{Valuation, Text, default_of, value_in}
-use Rattle.sb_meaning.specs.Truth.{holds, all_hold}
-use Rattle.sb_script.specs.Models.{occurs, is_default, is_default_or_occurs, are_defaults, is_plain, IsGiven}
-use Rattle.sb_script.specs.Scopes.{Constant}
-use Rattle.sb_script.specs.State.{Assertion, asserted, a_mark, terms_in, live, live_terms, constants_of, fits}
-use Rattle.sb_stack.specs.Stacked.{Stacked, state_of, live_constants, value_at, values_at, assertion_in}
-use Rattle.sb_stack.proofs.CallerLemmas.{live_laid}
-use Rattle.sb_decide.specs.declared.decide.Decider.{Decider}
-use Rattle.sb_decide.specs.Places.{asks_of}
-use Rattle.sb_decide.specs.Ready.{IsAbout, IsSpoken, OccursNowhereAt, IsQuestion, IsClosed}
-use Rattle.sb_solve.specs.Solved.{AreTrueAt, OccursAt}
-use Rattle.sb_solve.specs.Values.{truth_in, word_in, word_there, is_valued}
+use Rattle.sb_prover.proofs.Words.{◌≡◌, ◌⊎◌, ℕ, zero, suc, ◌<◌, Bool, true, false, not, ◌&&◌, ◌||◌, ◌==◌, if◌then◌else◌, List, [], ◌∷◌, length, slice_get, Option, Some, inl, inr, refl, sym, ap, subst, ◌∙◌, arith, AreTruthsOf, IsReady, asked_alone, is_decided, list_all, AreTrueAt, Assertion, Constant, Contains, Decider, IsAbout, IsClosed, IsGiven, IsQuestion, IsSpoken, OccursAt, OccursNowhereAt, Sort, Stacked, Term, Text, Valuation, a_mark, all_at, all_hold, and_from, are_defaults, asks_of, asserted, assertion_in, boolean, constants_of, default_of, eqb-true, false_from_ne_true, false≢true, fits, get_or_from_slice_get, holds, integer, is_default, is_default_or_occurs, length-map, list_any, live, live_constants, live_laid, live_terms, occurs, or_left, or_right, reglan, same_Some, slice_get_within, state_of, terms_in, text, truth_in, value_at, value_in, values_at, word_in, is_listed}
 
 -- Values by default.
 
@@ -64,7 +46,7 @@ defaults_are (c ∷ constants) ts cs ws truths h =
 
 -- Live terms.
 
-same_term : (t u : Term) → asserted t ≡ asserted u → t ≡ u
+pub same_term : (t u : Term) → asserted t ≡ asserted u → t ≡ u
 same_term t u h = cc
 
 any_live : (p : Term → Bool) (xs : List Assertion) (place : ℕ) (t : Term) → slice_get xs place ≡ Some (asserted t)
@@ -87,34 +69,9 @@ all_live v (asserted t ∷ rest) h =
     (all_live v rest (λ place u there. h (suc place) u there))
 all_live v (a_mark ∷ rest) h = all_live v rest (λ place u there. h (suc place) u there)
 
--- Constants that have neither a word nor a truth value.
+-- Constants that occur in assertions of other structure.
 
-unvalued : (word : Option (List ℕ)) (truth : Bool) → (is_some word || truth) ≡ false
-    → (word ≡ None) × (truth ≡ false)
-unvalued None truth h = (refl, h)
-unvalued (Some w) truth h = absurd (false≢true (sym h))
-
-not_true : (b : Bool) → (b ≡ true → ⊥) → b ≡ false
-not_true true h = absurd (h refl)
-not_true false h = refl
-
--- a constant has neither where it is not among those that are valued
-unvalued_at : (words : List (Option (List ℕ))) (truths : List Bool) (n : ℕ) → (is_valued words truths n ≡ true → ⊥)
-    → (word_there words n ≡ None) × (truth_in truths n ≡ false)
-unvalued_at words truths n none =
-    unvalued (word_there words n) (truth_in truths n) (not_true (is_valued words truths n) none)
-
--- where it occurs nowhere at the places
-nowhere_there : (s : Stacked) (places : List ℕ) (n : ℕ) → OccursNowhereAt s places n → OccursAt s places n → ⊥
-nowhere_there s places n nowhere o = false≢true (sym (nowhere o.place o.term o.listed o.stands) ∙ o.there)
-
--- where it occurs in no live term
-none_there : (s : Stacked) (places : List ℕ) (n : ℕ) → list_any (occurs n) (live_terms (state_of s)) ≡ false
-    → OccursAt s places n → ⊥
-none_there s places n none o =
-    false≢true (sym none ∙ any_live (occurs n) (live (state_of s)) o.place o.term o.stands o.there)
-
--- and then it occurs in no assertion of other structure
+-- where a constant occurs at no place that is asked about it occurs in no assertion of other structure
 silent_at : (others : List ℕ) (s : Stacked) (places : List ℕ) (n : ℕ)
     → ((place : ℕ) → Contains others place → Contains places place) → OccursNowhereAt s places n
     → IsSpoken others s n → ⊥
@@ -133,21 +90,44 @@ about_this s place n t a there =
     subst (λ (u : Term). asks_of n u ≡ true)
     (same_term a.term t (same_Some (asserted a.term) (asserted t) (sym a.there ∙ there))) a.asks
 
--- where a search was asked about the assertions at these places, and not each live one is a membership of one constant
-pub given_by : (kept : Decider) (s : Stacked) (places : List ℕ) (found : List (Option (List ℕ))) (truths : List Bool)
-    (words : List (List ℕ)) → fits (constants_of (state_of s)) (values_at (live_constants s) words truths) ≡ true
-    → is_plain (state_of s) ≡ false → IsQuestion kept.others.items s places → IsClosed kept s found words
-    → AreTrueAt s places found truths → IsGiven (state_of s) [] (values_at (live_constants s) words truths)
-given_by kept s places found truths words fitting not_plain question closed h = record {
-  model = and_from (fits (constants_of (state_of s)) (values_at (live_constants s) words truths))
-      (all_hold (live_terms (state_of s)) (values_at (live_constants s) words truths)) fitting
-      (all_live (values_at (live_constants s) words truths) (live (state_of s))
+-- a constant that occurs at a place that is asked about occurs in an assertion of other structure
+spoken_at : (kept : Decider) (s : Stacked) (places : List ℕ) (n : ℕ) → list_all is_decided (live (state_of s)) ≡ true
+    → IsQuestion kept.others.items s places → OccursAt s places n → IsSpoken kept.others.items s n
+spoken_at kept s places n decided question o = by (question.only o.place o.listed)
+  where
+    by : Contains kept.others.items o.place ⊎ ((m : ℕ) × IsAbout s o.place m × IsSpoken kept.others.items s m)
+        → IsSpoken kept.others.items s n
+    by (inl other) =
+        record { place = o.place; term = o.term; other = other; there = o.stands; occurring = o.there }
+    by (inr about) =
+        subst (IsSpoken kept.others.items s)
+        (asked_alone n about.0 o.term (about_this s o.place about.0 o.term about.1 o.stands)
+        (all_at is_decided (live (state_of s)) o.place (asserted o.term) decided
+        (slice_get_within (live (state_of s)) o.place (asserted o.term) o.stands)
+        (sym (get_or_from_slice_get (live (state_of s)) o.place (asserted o.term) (asserted o.term) o.stands))) o.there)
+        about.2
+
+-- where a search was asked about the assertions at these places
+pub given_by : (kept : Decider) (s : Stacked) (places : List ℕ) (found : List (Option (List ℕ)))
+    (truths others : List Bool) (words : List (List ℕ))
+    → fits (constants_of (state_of s)) (values_at (live_constants s) words others) ≡ true → IsReady kept s
+    → IsQuestion kept.others.items s places → IsClosed kept s found words
+    → AreTruthsOf kept.spoken.keys truths others → AreTrueAt s places found truths
+    → IsGiven (state_of s) [] (values_at (live_constants s) words others)
+given_by kept s places found truths others words fitting ready question closed those h = record {
+  model = and_from (fits (constants_of (state_of s)) (values_at (live_constants s) words others))
+      (all_hold (live_terms (state_of s)) (values_at (live_constants s) words others)) fitting
+      (all_live (values_at (live_constants s) words others) (live (state_of s))
       (λ place t there. true_at place t there (question.rest place (within place (asserted t) there))));
-  defaults = defaults_are (constants_of (state_of s)) (live_terms (state_of s)) (live_constants s) words truths
+  defaults = defaults_are (constants_of (state_of s)) (live_terms (state_of s)) (live_constants s) words others
       (λ n none.
-      let o = unvalued_at found truths n (λ valued. none_there s places n none (h.occur n valued)) in
-      (closed.defaults n o.0 (silent_there kept.others.items s n none) none, o.1));
-  least = λ plain. absurd (false≢true (sym not_plain ∙ plain));
+      let silent = silent_there kept.others.items s n none in (
+        closed.defaults n silent none,
+        those n
+            ∙ ap (λ b. b && truth_in truths n)
+            (false_from_ne_true (is_listed kept.spoken.keys n) (λ listed. silent (ready.spoken.only n listed))),
+      ));
+  least = λ plain. closed.plain plain others;
 }
   where
     within : (place : ℕ) (a : Assertion) → slice_get (live (state_of s)) place ≡ Some a → place < length s.assertions
@@ -157,11 +137,16 @@ given_by kept s places found truths words fitting not_plain question closed h = 
 
     true_at : (place : ℕ) (t : Term) → slice_get (live (state_of s)) place ≡ Some (asserted t)
         → Contains places place ⊎ ((n : ℕ) × IsAbout s place n × OccursNowhereAt s places n)
-        → holds t (values_at (live_constants s) words truths) ≡ true
-    true_at place t there (inl listed) = h.hold words closed.characters closed.given place t listed there
+        → holds t (values_at (live_constants s) words others) ≡ true
+    true_at place t there (inl listed) =
+        h words others closed.characters
+        (λ n o.
+        let spoken = spoken_at kept s places n ready.decided question o in (
+          closed.given n spoken,
+          those n ∙ ap (λ b. b && truth_in truths n) (ready.spoken.each n spoken),
+        ))
+        place t listed there
     true_at place t there (inr other) =
-        let none = unvalued_at found truths other.0
-        (λ valued. nowhere_there s places other.0 other.2 (h.occur other.0 valued)) in
-        closed.demands other.0 place t truths none.0
+        closed.demands other.0 place t others
         (silent_at kept.others.items s places other.0 question.asked other.2) there
         (about_this s place other.0 t other.1 there)

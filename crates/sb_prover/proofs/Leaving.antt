@@ -1,14 +1,5 @@
 -- Levels that are left.
-use Rattle.std.proofs.Common.{◌≡◌, ℕ, zero, suc, ◌<◌, List, [], ◌∷◌, take, Option, Some, None, refl, ap, ◌∙◌, arith}
-use Rattle.std.proofs.lemmas.Option.{none-some}
-use Rattle.sb_lang.specs.Regex.{Regex}
-use Rattle.sb_deriv.specs.Faithful.{Memo}
-use Rattle.sb_meaning.specs.Terms.{Term}
-use Rattle.sb_rulebook.specs.Kept.{dropped_above, all_dropped}
-use Rattle.sb_rulebook.specs.Judging.{Progress, met}
-use Rattle.sb_refute.specs.declared.evidence.Asserted.{Asserted}
-use Rattle.sb_refute.specs.Backing.{Backing, Backs, asserted_at, AreUpTo, left_above, left_all}
-use Rattle.sb_prover.specs.Proving.{Proving, IsAbreast, HaveLevels, AreLow, level_at, leaving}
+use Rattle.sb_prover.proofs.Words.{◌≡◌, ℕ, zero, suc, ◌<◌, List, [], ◌∷◌, take, Option, Some, refl, ◌∙◌, arith, AreLow, AreUpTo, Backing, Backs, HaveLevels, IsAbreast, Memo, Progress, Proving, Regex, Term, AllKept, asserted_at, left_above, level_at, newest_format, nothing_kept, none-some, Asserted}
 
 pub none-there : (q : ℕ) (a : Asserted) → asserted_at [] q ≡ Some a → ⊥
 none-there zero a h = none-some a h
@@ -40,33 +31,19 @@ levels-left_above live level count e h place a there =
     let at = front-place e.asserted count place a there in
     front-level live count place at.0 ∙ h place a at.1
 
-pub levels-left_all : (live : List (Option Term × ℕ)) (e : Backing) → HaveLevels live (left_all e)
-levels-left_all live e place a there = absurd (none-there place a there)
-
 -- The proof has come so far.
 
-pub left-above : (rs : List Regex) (memo : Memo) (p : Progress) (proving : Proving) (e : Backing) (level : ℕ)
-    → IsAbreast rs memo proving p → e.atoms ≡ proving.evidence.atoms → Backs rs memo e (dropped_above level p.kept)
-    → IsAbreast rs memo (record proving { evidence = e }) (met (leaving (Some level)) p)
-left-above rs memo p proving e level h atoms backs = record {
+pub left-behind : (rs : List Regex) (memo : Memo) (p : Progress) (proving : Proving) (e : Backing) (kept : AllKept)
+    → IsAbreast rs memo proving p → e.atoms ≡ proving.evidence.atoms
+    → (p.kept ≡ nothing_kept newest_format → kept ≡ nothing_kept newest_format) → kept.format ≡ p.kept.format
+    → kept.counted ≡ p.kept.counted → Backs rs memo e kept
+    → IsAbreast rs memo (record proving { evidence = e }) (record p { kept = kept })
+left-behind rs memo p proving e kept h atoms none format counted backs = record {
   rests = h.rests;
   begun = h.begun;
-  first = λ unbegun. ap (dropped_above level) (h.first unbegun);
-  format = h.format;
-  counted = h.counted;
-  backs = backs;
-  regexes = rw atoms h.regexes;
-}
-
-pub left-all : (rs : List Regex) (memo : Memo) (p : Progress) (proving : Proving) (e : Backing)
-    → IsAbreast rs memo proving p → e.atoms ≡ proving.evidence.atoms → Backs rs memo e (all_dropped p.kept)
-    → IsAbreast rs memo (record proving { evidence = e }) (met (leaving None) p)
-left-all rs memo p proving e h atoms backs = record {
-  rests = h.rests;
-  begun = h.begun;
-  first = λ unbegun. ap all_dropped (h.first unbegun);
-  format = h.format;
-  counted = h.counted;
+  first = λ unbegun. none (h.first unbegun);
+  format = format ∙ h.format;
+  counted = counted ∙ h.counted;
   backs = backs;
   regexes = rw atoms h.regexes;
 }

@@ -1,24 +1,5 @@
 -- The lines that are put for a check are taken one by one, and the last one ends it.
-use Rattle.std.proofs.Common.{◌≡◌, ℕ, ◌+◌, Bool, true, false, List, [], ◌∷◌, ◌++◌, map, Option, Some, None, Result, Ok, Err, refl, sym, ap, ◌∙◌, append_assoc}
-use Rattle.std.specs.List.{list_all}
-use Rattle.std.proofs.lemmas.Bool.{and_from, and_parts}
-use Rattle.std.proofs.lemmas.Grind.{flat_map-append}
-use Rattle.std.proofs.lemmas.List.{map-append, append-nil}
-use Rattle.sb_script.specs.Steps.{line}
-use Rattle.sb_script.specs.Verdicts.{Verdict}
-use Rattle.sb_rulebook.specs.Refusals.{Refusal}
-use Rattle.sb_rulebook.specs.Brought.{newest_format}
-use Rattle.sb_rulebook.specs.Lines.{Line, header_line, regex_line, atom_line, expansion_line, dead_line, assertion_line, rule_line, learned_line, verdict_line, end_line, Said, text_of}
-use Rattle.sb_rulebook.specs.LineLaws.{TextIsRead, TextIsOneLine, TextsAreLines, has_text, is_one_line, bytes_of, ended}
-use Rattle.sb_rulebook.specs.Reading.{LineText, texts_of, if_ended}
-use Rattle.sb_rulebook.specs.Kept.{AllKept, nothing_kept, count_again}
-use Rattle.sb_rulebook.specs.Follows.{follows}
-use Rattle.sb_rulebook.specs.Verdicts.{Question, refusal_of}
-use Rattle.sb_rulebook.specs.Judging.{asks, Phase, at_rest, at_check, at_end, behind_end, stopped, Progress, met, meets, takes_verdict, takes_kept, takes_at_check, takes_in, takes_read, takes, through}
-use Rattle.sb_proof.specs.Tapes.{with_bytes}
-use Rattle.sb_trace.specs.Putting.{Puts, follow_all}
-use Rattle.sb_sound.specs.Certified.{SaysVerdict}
-use Rattle.sb_prover.specs.Saying.{first_lines, Tells, IsSaid}
+use Rattle.sb_prover.proofs.Words.{◌≡◌, ℕ, ◌+◌, Bool, true, false, List, [], ◌∷◌, ◌++◌, map, Option, Some, None, Result, Ok, Err, refl, sym, ap, ◌∙◌, append_assoc, AllKept, IsSaid, Line, Progress, Puts, Question, Refusal, Said, SaysVerdict, Tells, TextIsOneLine, TextIsRead, TextsAreLines, Verdict, and_from, and_parts, append-nil, asks, at_check, at_rest, bytes_of, count_again, ended, first_lines, follow_all, follows, has_text, header_line, is_one_line, line, list_all, map-append, meets, newest_format, nothing_kept, refusal_of, takes, takes_at_check, takes_in, takes_kept, takes_read, takes_verdict, text_of, through, verdict_line, with_bytes, flat_map-append, LineText, texts_of, if_ended}
 
 abbrev texts : List Line → List LineText
 texts ls = map ended (map text_of ls)
@@ -45,19 +26,8 @@ all-one law (l ∷ ls) =
 kept-line : (q : Question) (said : List Said) (kept after : AllKept) (next : ℕ) (l : Line)
     → follows q.asked kept l ≡ Ok after
     → takes_at_check q l (waiting q said kept next) ≡ waiting q said after (next + 1)
-kept-line q said kept after next (verdict_line s) h = absurd (never h)
-  where
-    never : follows q.asked kept (verdict_line s) ≡ Ok after → ⊥
-    never h = cc
-kept-line q said kept after next (header_line format) h = ap (λ r. takes_kept r (waiting q said kept next)) h
-kept-line q said kept after next (regex_line node) h = ap (λ r. takes_kept r (waiting q said kept next)) h
-kept-line q said kept after next (atom_line atom) h = ap (λ r. takes_kept r (waiting q said kept next)) h
-kept-line q said kept after next (expansion_line r ks) h = ap (λ r. takes_kept r (waiting q said kept next)) h
-kept-line q said kept after next (dead_line ids) h = ap (λ r. takes_kept r (waiting q said kept next)) h
-kept-line q said kept after next (assertion_line place l) h = ap (λ r. takes_kept r (waiting q said kept next)) h
-kept-line q said kept after next (rule_line rule ls) h = ap (λ r. takes_kept r (waiting q said kept next)) h
-kept-line q said kept after next (learned_line ls ids) h = ap (λ r. takes_kept r (waiting q said kept next)) h
-kept-line q said kept after next end_line h = ap (λ r. takes_kept r (waiting q said kept next)) h
+kept-line q said kept after next (verdict_line s) h = absurd (cc (h))
+kept-line q said kept after next _ h = ap (λ r. takes_kept r (waiting q said kept next)) h
 
 -- with the number of the next line
 Waits : Question → List Said → AllKept → AllKept → ℕ → List Line → List LineText → Type 0
@@ -79,9 +49,6 @@ lines-taken law q said kept after next (l ∷ ls) more text h =
     parts : (has_text l ≡ true) × (list_all has_text ls ≡ true)
     parts = and_parts (has_text l) (list_all has_text ls) text
 
-    never : (refusal : Refusal) → ◌≡◌ {A = Result AllKept Refusal} (Err refusal) (Ok after) → ⊥
-    never refusal h = cc
-
     step : ((mid : AllKept) → follow_all q.asked mid ls ≡ Ok after → Waits q said mid after (next + 1) ls more)
         → (r : Result AllKept Refusal) → follows q.asked kept l ≡ r
         → elim r as (λ _. Result AllKept Refusal)
@@ -93,7 +60,7 @@ lines-taken law q said kept after next (l ∷ ls) more text h =
           ap (λ p. through p (texts ls ++ more)) (taken law l parts.0 (waiting q said kept next)
               ∙ kept-line q said kept mid next l is) ∙ more-lines.1,
         )
-    step rest (Err refusal) is h = absurd (never refusal h)
+    step rest (Err refusal) is h = absurd (cc (h))
 
 -- A verdict that is not refused ends the check.
 
@@ -103,24 +70,11 @@ answered said kept next =
     record { phase = at_rest; begun = true; said = said; kept = count_again kept; next = next }
 
 verdict-taken : TextIsRead → (q : Question) (before : List Said) (kept : AllKept) (next : ℕ) (said : Said)
-    → has_text (verdict_line said) ≡ true → refusal_of q kept said ≡ None
-    → through (waiting q before kept next) (texts (verdict_line said ∷ []))
-    ≡ (answered (before ++ said ∷ []) kept (next + 1), [])
+    → has_text (verdict_line said) ≡ true → refusal_of q kept said ≡ None → through (waiting q before kept next)
+    (texts (verdict_line said ∷ [])) ≡ (answered (before ++ said ∷ []) kept (next + 1), [])
 verdict-taken law q before kept next said text right =
     ap (λ p. through p []) (taken law (verdict_line said) text (waiting q before kept next)
     ∙ ap (λ o. takes_verdict said o (waiting q before kept next)) right)
-
--- The first line is taken where it has not come.
-
-abbrev unbegun : Question → List Said → AllKept → ℕ → Progress
-unbegun q said kept next =
-    record { phase = at_check q; begun = false; said = said; kept = kept; next = next }
-
-first-taken : TextIsRead → (q : Question) (said : List Said) (kept : AllKept) (next : ℕ) (more : List LineText)
-    → through (unbegun q said kept next) (texts (header_line newest_format ∷ []) ++ more)
-    ≡ through (waiting q said (nothing_kept newest_format) (next + 1)) more
-first-taken law q said kept next more =
-    ap (λ p. through p more) (taken law (header_line newest_format) refl (unbegun q said kept next))
 
 -- All of it.
 
@@ -157,7 +111,11 @@ check-taken law q true before kept after next ls said first text follow spelled 
 check-taken law q false before kept after next ls said first text follow spelled right =
     let rest = begun-taken law q before (nothing_kept newest_format) after (next + 1) ls said text
     (ap (λ k. follow_all q.asked k ls) (sym (first refl)) ∙ follow) spelled right in
-    (rest.0, first-taken law q before kept next (texts (ls ++ verdict_line said ∷ [])) ∙ rest.1)
+    let none : Progress = record { phase = at_check q; begun = false; said = before; kept = kept; next = next } in (
+      rest.0,
+      ap (λ p. through p (texts (ls ++ verdict_line said ∷ []))) (taken law (header_line newest_format) refl none)
+          ∙ rest.1,
+    )
 
 -- the bytes of lines are the lines
 lines-read : TextIsOneLine → TextsAreLines → (ls : List Line) → texts_of (bytes_of (map text_of ls)) ≡ texts ls
@@ -206,7 +164,9 @@ verdict-said law one many before reached q said v old begun mid new rests first 
         );
         lines_follow = ap (through (meets (asks q) before))
             (lines-read one many (all_lines before.begun puts.lines said))
-            ∙ ap (λ p. through p (texts (all_lines before.begun puts.lines said))) (asked rests) ∙ taken-all.1;
+            ∙ ap (λ phase. through (meets (asks q) (record before { phase = phase }))
+            (texts (all_lines before.begun puts.lines said))) rests
+            ∙ taken-all.1;
         answered = refl;
         said_last = refl;
         says = says;
@@ -221,12 +181,3 @@ verdict-said law one many before reached q said v old begun mid new rests first 
     taken-all : Answers q before.begun before.said before.kept reached before.next puts.lines said
     taken-all = check-taken law q before.begun before.said before.kept reached before.next puts.lines said first
         puts.have_text puts.follow spelled right
-
-    asked : before.phase ≡ at_rest → meets (asks q) before ≡ record before { phase = at_check q }
-    asked h = ap (λ (phase : Phase). elim phase as (λ _. Progress) [
-      | at_rest ↦ met (asks q) before
-      | at_check other ↦ before
-      | at_end ↦ before
-      | behind_end ↦ before
-      | stopped n refusal ↦ before
-    ]) h

@@ -1,12 +1,5 @@
 -- The live assertions with their levels.
-use Rattle.std.proofs.Common.{◌≡◌, ℕ, zero, suc, ◌+◌, Bool, true, false, List, [], ◌∷◌, ◌++◌, map, length, take, drop, replicate, Option, Some, None, refl, sym, ap, ap₂, ◌∙◌, arith}
-use Rattle.std.proofs.Math.Seq.{take-append_seam}
-use Rattle.std.proofs.lemmas.List.{append-nil, append_assoc, map-append, length-map}
-use Rattle.sb_meaning.specs.Terms.{Term}
-use Rattle.sb_script.specs.Scopes.{Naming}
-use Rattle.sb_script.specs.State.{Assertion, Level, empty_level, over_levels, in_level, in_level_of_names}
-use Rattle.sb_rulebook.specs.Accepted.{term_of, at_level, live_by_level}
-use Rattle.sb_prover.specs.Proving.{AreLow, level_at, LevelsStay}
+use Rattle.sb_prover.proofs.Words.{◌≡◌, ℕ, zero, suc, ◌+◌, Bool, true, false, List, [], ◌∷◌, ◌++◌, map, length, take, drop, replicate, Option, Some, refl, sym, ap, ap₂, ◌∙◌, arith, take-append_seam, append_assoc, AreLow, Assertion, Level, LevelsStay, Naming, Term, append-nil, at_level, empty_level, in_level, in_level_of_names, length-map, level_at, live_by_level, map-append, none-some, over_levels, same_Some, term_of}
 
 abbrev pub Row : Type 0
 Row = Option Term × ℕ
@@ -22,9 +15,8 @@ terms-at : (n : ℕ) (xs : List Assertion) → map (λ (row : Row). row.0) (at_l
 terms-at n [] = refl
 terms-at n (a ∷ xs) = ap (λ ts. term_of a ∷ ts) (terms-at n xs)
 
-pub terms-by-level : (first : Level) (above : List Level)
-    → map (λ (row : Row). row.0) (live_by_level first above)
-    ≡ map term_of (over_levels (λ l. l.assertions) first above)
+pub terms-by-level : (first : Level) (above : List Level) → map (λ (row : Row). row.0)
+    (live_by_level first above) ≡ map term_of (over_levels (λ l. l.assertions) first above)
 terms-by-level first [] = terms-at 0 first.assertions
 terms-by-level first (l ∷ ls) =
     map-append (λ (row : Row). row.0) (live_by_level first ls) (at_level (length ls + 1) l.assertions)
@@ -91,19 +83,13 @@ levels-left n first above =
 
 -- No level is above the innermost one.
 
-same-level : (m n : ℕ) → Some m ≡ Some n → m ≡ n
-same-level m n h = cc
-
-none-level : (n : ℕ) → None ≡ Some n → ⊥
-none-level n h = cc
-
 none-at : (place n : ℕ) → level_at [] place ≡ Some n → ⊥
-none-at zero n h = none-level n h
-none-at (suc place) n h = none-level n h
+none-at zero n h = none-some n h
+none-at (suc place) n h = none-some n h
 
 low-at : (m : ℕ) (xs : List Assertion) → AreLow m (at_level m xs)
 low-at m [] place n h = absurd (none-at place n h)
-low-at m (a ∷ xs) zero n h = let same = same-level m n h in omega (arith, same)
+low-at m (a ∷ xs) zero n h = let same = same_Some m n h in omega (arith, same)
 low-at m (a ∷ xs) (suc place) n h = low-at m xs place n h
 
 low-both : (m : ℕ) (xs ys : List Row) → AreLow m xs → AreLow m ys → AreLow m (xs ++ ys)

@@ -1,19 +1,7 @@
 -- What an entry of a script makes of the live assertions with their levels.
-use Rattle.std.proofs.Common.{◌≡◌, ℕ, List, [], ◌∷◌, ◌++◌, length, take, Option, Some, None, IfSome, refl, sym, subst, ◌∙◌}
-use Rattle.std.proofs.lemmas.List.{append-nil}
-use Rattle.sb_reader.specs.Entries.{Entry}
-use Rattle.sb_script.specs.Names.{Name}
-use Rattle.sb_script.specs.Scopes.{Named, a_constant, a_definition, a_marked_name}
-use Rattle.sb_script.specs.State.{State, asserted, a_mark, live, with_name, popped}
+use Rattle.sb_prover.proofs.Words.{◌≡◌, ℕ, List, [], ◌∷◌, ◌++◌, length, take, Option, Some, None, IfSome, refl, sym, subst, ◌∙◌, AreLow, EntriesMoveLive, IsStep, MovesLive, Named, State, Step, a_constant, a_definition, a_mark, a_marked_name, above, all, answers, append-nil, asked_in, asserted, checks, entry_keeps, exits, leaves, leaving_in, live, popped, step_of, with_name, Entry, Name}
 use Rattle.sb_script.specs.Steps as meaning
-use Rattle.sb_script.specs.Steps.{answers, leaves, checks, exits, above, all}
-use Rattle.sb_script.specs.Replies.{step_of}
-use Rattle.sb_script.proofs.CallerLemmas.{entry_keeps}
-use Rattle.sb_rulebook.specs.Accepted.{asked_in}
-use Rattle.sb_stack.specs.declared.stack.Step.{Step}
 use Rattle.sb_stack.specs.declared.stack.Step.TheVariants as code
-use Rattle.sb_stack.specs.Steps.{IsStep, leaving_in}
-use Rattle.sb_prover.specs.Proving.{AreLow, MovesLive, EntriesMoveLive}
 use Rattle.sb_prover.proofs.LiveLevels.{Row, one-name, one-assertion, levels-opened, levels-left, low-levels}
 
 -- no level that is left is among those that stay
@@ -66,8 +54,7 @@ low-down : (what : meaning.Leaving) (level : Option ℕ) (new : State) → what 
 low-down what None new is low = tt
 low-down what (Some n) new is low = subst (λ w. StayLow w new) is low
 
-by-code : (st : meaning.Step) (old new : State) (s : Step) → IsStep st s old new → Moves old st
-    → MovesLive s old new
+by-code : (st : meaning.Step) (old new : State) (s : Step) → IsStep st s old new → Moves old st → MovesLive s old new
 by-code (leaves what text s) old new (code.Left bytes level) h m = (
   subst (λ x. (asked_in x).live ≡ take (length (live x)) (asked_in old).live) (sym h.1.1) m.0,
   low-down what level new h.1.0 (subst (StayLow what) (sym h.1.1) m.1),

@@ -1,17 +1,7 @@
--- What a regular expression over literals means: the same one under every valuation, and its complement the complement.
-use Rattle.std.proofs.Common.{◌≡◌, Bool, true, false, ◌&&◌, nat_le, if◌then◌else◌, [], ◌∷◌, refl, ap, ap₂, ◌∙◌}
-use Rattle.std.specs.List.{flat_map}
-use Rattle.std.proofs.lemmas.Bool.{and_parts, false≢true}
-use Rattle.sb_lang.specs.RegLan.{RegLan}
-use Rattle.sb_lang.specs.RegLan as reglan
-use Rattle.sb_meaning.specs.Terms.{Term, Terms, constant, word, numeral, apply, parameter, no_terms, with_term}
+-- What a decided assertion asks a constant's word to be in means the same regular expression under every valuation.
+use Rattle.sb_prover.proofs.Words.{◌≡◌, ℕ, true, ◌&&◌, nat_le, [], ◌∷◌, Some, refl, sym, ap, ap₂, ◌∙◌, IsDemanding, Term, Terms, Valuation, a_denial, an_asking, and_from, and_parts, applied, apply, asked_regular, asserted, constant, decided_kind, demanded_looks, denied_fits, false≢true, is_decided, is_regex, is_structure, meaning_of, meanings_of, means_reglan, no_terms, numeral, parameter, with_term, word, RegLan, is_ground, are_ground, is_regular, has_short_words, size_of, demanded}
 use Rattle.sb_meaning.specs.Terms as symbol
-use Rattle.sb_meaning.specs.Truth.{Meaning, applied, meaning_of, meanings_of, means_reglan, of_one, reglan_in}
-use Rattle.sb_meaning.specs.Values.{Valuation}
-use Rattle.sb_script.specs.Brought.{is_regex}
-use Rattle.sb_script.specs.Pieces.{is_ground, are_ground}
-use Rattle.sb_script.specs.Sizes.{is_regular, has_short_words, size_of}
-use Rattle.sb_decide.specs.Demands.{complement_of}
+use Rattle.sb_script.specs.Fragment.{fits}
 
 -- without constants
 mutual
@@ -50,23 +40,19 @@ pub record IsMeant (R : Term) : Type 0 where
   pub reglan : RegLan
   pub means : (v : Valuation) → meaning_of v R ≡ means_reglan reglan
 
-pub meant : (R : Term) → is_regex R ≡ true → is_regular R ≡ true → IsMeant R
-meant R kind regular =
-    let ground = (and_parts (is_ground R) (has_short_words R && nat_le (size_of R) 1000000) regular).0 in
-    let m = regex-means R kind in
+regular-ground : (R : Term) → is_regular R ≡ true → is_ground R ≡ true
+regular-ground R h = (and_parts (is_ground R) (has_short_words R && nat_le (size_of R) 1000000) h).0
+
+demanded-ground : (t : Term) (serial : ℕ) (R : Term) → IsDemanding serial t R → fits t ≡ true → is_ground R ≡ true
+demanded-ground t serial R (an_asking asks) fit = regular-ground R (sym (asked_regular t serial R asks) ∙ fit)
+demanded-ground t serial R (a_denial u S is same asks) fit =
+    ap is_ground same
+    ∙ and_from (is_ground S) true (regular-ground S (sym (denied_fits t u serial S is asks) ∙ fit)) refl
+
+pub demanded-means : (t : Term) (serial : ℕ) (R : Term) → demanded t ≡ Some (serial, R)
+    → is_decided (asserted t) ≡ true → IsMeant R
+demanded-means t serial R asks decided =
+    let ground = demanded-ground t serial R (demanded_looks t serial R asks)
+    (and_parts (is_structure t) (fits t) decided).1 in
+    let m = regex-means R (decided_kind t serial R asks decided) in
     record { reglan = m.0; means = λ v. ground-means v [] R ground ∙ m.1 }
-
--- Of a word that is asked to be in it, or not to be.
-
--- what the word is to be in
-abbrev pub wanted : Bool → Term → Term
-wanted positive R = if positive then R else complement_of R
-
-abbrev pub wanted-reglan : Bool → RegLan → RegLan
-wanted-reglan positive r = if positive then r else reglan.re_comp r
-
-pub wanted-means : (positive : Bool) (R : Term) (r : RegLan) (v : Valuation) → meaning_of v R ≡ means_reglan r
-    → meaning_of v (wanted positive R) ≡ means_reglan (wanted-reglan positive r)
-wanted-means true R r v h = h
-wanted-means false R r v h =
-    ap (λ (m : Meaning). means_reglan (of_one reglan.re_comp (flat_map reglan_in (m ∷ [])))) h

@@ -1,50 +1,14 @@
--- No values make the assertions true that ask for a word of a constant that has none, and no search finds any.
-use Rattle.std.proofs.Common.{◌≡◌, ℕ, zero, suc, Bool, true, List, [], ◌∷◌, map, get_or, slice_get, Option, Some, None, IfSome, refl, sym, ap, ◌∙◌, arith}
-use Rattle.std.specs.List.{All, list_all}
-use Rattle.std.proofs.lemmas.Bool.{and_parts, and_from, false≢true}
-use Rattle.std.proofs.lemmas.List.Elements.{All-head, All-tail, Contains-get_or}
-use Rattle.std.proofs.lemmas.Option.{slice_get_within, none-some, same_Some}
-use Rattle.sb_word.specs.Words.{IsWord, are_characters}
-use Rattle.sb_lit.specs.Budgets.{Spending}
-use Rattle.sb_lit.specs.Kept.{kept_at}
-use Rattle.sb_lang.specs.Language.{language}
-use Rattle.sb_lang.specs.Normal.{normal}
-use Rattle.sb_lang.specs.NormalLaws.{NormalHasTermsWords}
-use Rattle.sb_lang.specs.RegLan.{RegLan}
-use Rattle.sb_lang.specs.Regex.{Regex}
-use Rattle.sb_deriv.specs.Faithful.{Memo}
-use Rattle.sb_meaning.specs.Terms.{Sort, Term, text}
-use Rattle.sb_meaning.specs.Truth.{meaning_of, holds}
-use Rattle.sb_meaning.specs.Values.{Valuation, Text, value_in}
-use Rattle.sb_script.specs.State.{Assertion, asserted, a_mark, terms_in, live, live_terms}
-use Rattle.sb_rulebook.specs.Accepted.{asked_in}
-use Rattle.sb_sound.specs.SoundLaws.{AreTerms}
-use Rattle.sb_stack.specs.Speaking.{speaks_of}
-use Rattle.sb_stack.specs.Stacked.{Stacked, state_of, live_constants, values_at, are_words}
-use Rattle.sb_stack.proofs.CallerLemmas.{value_there}
-use Rattle.sb_decide.specs.Places.{IsPlaceOf, IsRegexAt, AreRegexesAt}
-use Rattle.sb_refute.specs.declared.evidence.EmptyClause.{EmptyClause}
-use Rattle.sb_refute.specs.Backing.{Backing, empty_at}
-use Rattle.sb_solve.specs.Values.{word_in, word_or_empty, is_word_there, are_words_there}
-use Rattle.sb_solve.specs.Solved.{AreIn, AreTrueAt, IsSolved}
-use Rattle.sb_solve.specs.Truth.{IsTrue}
-use Rattle.sb_solve.specs.declared.check.Solved.{Solved}
-use Rattle.sb_solve.specs.declared.check.Solved.TheVariants as solved
-use Rattle.sb_prover.specs.Refuting.{AreDead, FindsNone}
-use Rattle.sb_prover.proofs.Demanding.{IsDemanding, demanded-looks, decided-parts, demanded-speaks, demanded-holds}
-use Rattle.sb_prover.proofs.Refutations.{empty-found}
-use Rattle.sb_prover.proofs.Meant.{IsMeant, meant, wanted-reglan, wanted-means}
+-- No values make the assertions true that ask for a word of a constant that has none.
+use Rattle.sb_prover.proofs.Words.{◌≡◌, ℕ, zero, suc, Bool, true, List, [], ◌∷◌, map, get_or, slice_get, Option, Some, None, refl, sym, ap, ◌∙◌, arith, All, AreRegexesAt, AreTrueAt, Assertion, IsClash, IsPlaceOf, IsRegexAt, IsWord, NormalHasTermsWords, Regex, Sort, Stacked, Term, a_mark, and_from, and_parts, are_characters, are_words, are_words_there, asserted, decided_kind, demanded_holds, demanded_speaks, false≢true, holds, is_word_there, list_all, live, live_constants, live_terms, same_Some, slice_get_within, speaks_of, state_of, terms_in, text, value_there, values_at, word_in, word_or_empty, word_there, All-head, All-tail, Contains-get_or, language, normal}
+use Rattle.sb_prover.proofs.Given.{same_term}
+use Rattle.sb_prover.proofs.Meant.{demanded-means}
 
 -- a live term speaks of live constants
-same-term : (t u : Term) → asserted t ≡ asserted u → t ≡ u
-same-term t u h = cc
-
-term-speaks : (cs : List (ℕ × Sort)) (assertions : List Assertion) (place : ℕ) (t : Term)
-    → list_all (speaks_of cs) (terms_in assertions) ≡ true → slice_get assertions place ≡ Some (asserted t)
-    → speaks_of cs t ≡ true
+term-speaks : (cs : List (ℕ × Sort)) (assertions : List Assertion) (place : ℕ) (t : Term) → list_all (speaks_of cs)
+    (terms_in assertions) ≡ true → slice_get assertions place ≡ Some (asserted t) → speaks_of cs t ≡ true
 term-speaks cs [] place t h there = absurd (omega (arith, slice_get_within [] place (asserted t) there))
 term-speaks cs (asserted u ∷ rest) zero t h there =
-    ap (speaks_of cs) (sym (same-term u t (same_Some (asserted u) (asserted t) there)))
+    ap (speaks_of cs) (sym (same_term u t (same_Some (asserted u) (asserted t) there)))
     ∙ (and_parts (speaks_of cs u) (list_all (speaks_of cs) (terms_in rest)) h).0
 term-speaks cs (asserted u ∷ rest) (suc place) t h there =
     term-speaks cs rest place t (and_parts (speaks_of cs u) (list_all (speaks_of cs) (terms_in rest)) h).1 there
@@ -65,10 +29,11 @@ full-words (o ∷ words) h =
     one None k = refl
     one (Some w) k = k
 
-full-in : (words : List (Option (List ℕ))) → AreIn words (map word_or_empty words)
-full-in [] serial word h = absurd (none-some word h)
-full-in (o ∷ words) zero word h = ap word_or_empty h
-full-in (o ∷ words) (suc serial) word h = full-in words serial word h
+full-in : (words : List (Option (List ℕ))) (n : ℕ)
+    → word_in (map word_or_empty words) n ≡ word_or_empty (word_there words n)
+full-in [] n = refl
+full-in (o ∷ words) zero = refl
+full-in (o ∷ words) (suc n) = full-in words n
 
 a-word : (ws : List (List ℕ)) (n : ℕ) → are_words ws ≡ true → IsWord (word_in ws n)
 a-word [] n h = refl
@@ -87,40 +52,27 @@ asked-at : NormalHasTermsWords → (cs : List (ℕ × Sort)) (assertions : List 
     (truths : List Bool) (place : ℕ) → list_all (speaks_of cs) (terms_in assertions) ≡ true → are_words ws ≡ true
     → (p : IsPlaceOf assertions serial place) → holds p.term (values_at cs ws truths) ≡ true
     → IsAskedAt assertions (word_in ws serial) place
-asked-at law cs assertions serial ws truths place named words p h = record {
-  regex = normal r;
-  is = record {
-    term = p.term;
-    serial = serial;
-    expression = p.regex;
-    reglan = r;
-    there = p.there;
-    asks = p.asks;
-    means = λ v. ap (meaning_of v) d.wants ∙ wanted-means d.sign d.expression m.reglan v (m.means v);
-    is = refl;
-  };
-  member = law r w (a-word ws serial words)
-      ∙ sym (demanded-holds values p.term serial p.regex m.reglan w d (m.means values) value) ∙ h;
-}
-  where
-    d : IsDemanding serial p.term p.regex
-    d = demanded-looks p.term serial p.regex p.asks
-
-    m : IsMeant d.expression
-    m = let parts = decided-parts p.term serial p.regex d p.decided in meant d.expression parts.0 parts.1
-
-    r : RegLan
-    r = wanted-reglan d.sign m.reglan
-
-    w : List ℕ
-    w = word_in ws serial
-
-    values : Valuation
-    values = values_at cs ws truths
-
-    value : value_in values serial text ≡ Text w
-    value = value_there cs ws truths serial text
-        (demanded-speaks cs p.term serial p.regex d (term-speaks cs assertions place p.term named p.there))
+asked-at law cs assertions serial ws truths place named words p h =
+    let m = demanded-means p.term serial p.regex p.asks p.decided in
+    let value = value_there cs ws truths serial text
+    (demanded_speaks cs p.term serial p.regex p.asks (term-speaks cs assertions place p.term named p.there)) in
+    record {
+      regex = normal m.reglan;
+      is = record {
+        term = p.term;
+        serial = serial;
+        expression = p.regex;
+        reglan = m.reglan;
+        there = p.there;
+        asks = p.asks;
+        means = m.means;
+        is = refl;
+      };
+      member = law m.reglan (word_in ws serial) (a-word ws serial words)
+          ∙ sym (demanded_holds (values_at cs ws truths) p.term serial p.regex m.reglan (word_in ws serial) p.asks
+          (decided_kind p.term serial p.regex p.asks p.decided) (m.means (values_at cs ws truths)) value)
+          ∙ h;
+    }
 
 all-asked : (assertions : List Assertion) (w : List ℕ) (places : List ℕ) → All (IsAskedAt assertions w) places
     → (rs : List Regex) × AreRegexesAt assertions places rs × (list_all (λ r. language r w) rs ≡ true)
@@ -135,11 +87,10 @@ all-asked assertions w (place ∷ places) h =
 
 -- No values make them true.
 pub never-true : NormalHasTermsWords → (s : Stacked) (places : List ℕ) (words : List (Option (List ℕ)))
-    (truths : List Bool) → AreDead (live (state_of s)) places
-    → list_all (speaks_of (live_constants s)) (live_terms (state_of s)) ≡ true → are_words_there words ≡ true
-    → AreTrueAt s places words truths → ⊥
-never-true law s places words truths dead named characters are =
-    false≢true (sym (dead.none found.0 found.1 w (a-word full dead.serial those)) ∙ found.2)
+    (truths : List Bool) → IsClash s places → list_all (speaks_of (live_constants s)) (live_terms (state_of s)) ≡ true
+    → are_words_there words ≡ true → AreTrueAt s places words truths → ⊥
+never-true law s places words truths clash named characters are =
+    false≢true (sym (clash.none found.0 found.1 w (a-word full clash.serial those)) ∙ found.2)
   where
     full : List (List ℕ)
     full = map word_or_empty words
@@ -148,24 +99,11 @@ never-true law s places words truths dead named characters are =
     those = full-words words characters
 
     w : List ℕ
-    w = word_in full dead.serial
+    w = word_in full clash.serial
 
-    found : (rs : List Regex) × AreRegexesAt (live (state_of s)) dead.own rs × (list_all (λ r. language r w) rs ≡ true)
-    found = all-asked (live (state_of s)) w dead.own (λ i d l.
-        let p = dead.are i d l in
-        let place = get_or dead.own i d in
-        asked-at law (live_constants s) (live (state_of s)) dead.serial full truths place named those p
-        (are.hold full those (full-in words) place p.term (dead.listed place (Contains-get_or dead.own i d l)) p.there))
-
--- So a search about them finds none: the empty clause is kept, or the budget is spent.
-pub finds-none : NormalHasTermsWords → (s : Stacked) (places : List ℕ) (rs : List Regex) (memo : Memo) (e f : Backing)
-    (budget : Spending) (r : Solved) (o : Option EmptyClause) → AreTerms (asked_in (state_of s))
-    → IsTrue (asked_in (state_of s)) rs memo e → AreDead (live (state_of s)) places
-    → list_all (speaks_of (live_constants s)) (live_terms (state_of s)) ≡ true
-    → IsSolved s places rs memo e f budget r → o ≡ f.refuted
-    → IfSome o (λ empty. kept_at f.kept empty.clause.0 ≡ Some (empty_at empty)) → FindsNone f budget r
-finds-none law s places rs memo e f budget (solved.Sat words truths) o terms t dead named h same kept =
-    never-true law s places words.items truths.items dead named h.characters (h.given t.kept t.backs terms)
-finds-none law s places rs memo e f budget (solved.Unsat id) o terms t dead named h same kept =
-    empty-found f id o h same kept
-finds-none law s places rs memo e f budget solved.Spent o terms t dead named h same kept = h
+    found : (rs : List Regex) × AreRegexesAt (live (state_of s)) places rs × (list_all (λ r. language r w) rs ≡ true)
+    found = all-asked (live (state_of s)) w places (λ i d l.
+        let p = clash.are i d l in
+        asked-at law (live_constants s) (live (state_of s)) clash.serial full truths (get_or places i d) named those p
+        (are full truths those (λ n o. (full-in words n, refl)) (get_or places i d) p.term
+        (Contains-get_or places i d l) p.there))

@@ -1,24 +1,6 @@
 -- The values of a model, as the last line of its check says them.
-use Rattle.std.proofs.Common.{◌≡◌, ℕ, Bool, true, false, not, ◌&&◌, ◌||◌, ◌==◌, List, [], ◌∷◌, map, get_or, Some, None, option_map, refl, sym, ap, ap₂, ◌∙◌, arith}
-use Rattle.std.specs.List.{list_all}
-use Rattle.std.proofs.lemmas.Bool.{and_from, and_parts, false≢true, eqb-true}
-use Rattle.std.proofs.lemmas.Bool.Decides.{nat_tests}
-use Rattle.std.proofs.lemmas.List.Folds.{list_all-map}
-use Rattle.sb_word.specs.Words.{is_character, are_characters}
-use Rattle.sb_meaning.specs.Terms.{boolean, integer, text, reglan, Sort}
-use Rattle.sb_meaning.specs.Values.{Valuation, Text, is_of}
-use Rattle.sb_meaning.specs.Truth.{holds, all_hold}
-use Rattle.sb_script.specs.Brought.{proofs, is_brought}
-use Rattle.sb_script.specs.Fragment.{is_inside, are_inside, are_in_fragment, in_fragment}
-use Rattle.sb_script.specs.Scopes.{Constant}
-use Rattle.sb_script.specs.State.{State, Assertion, asserted, a_mark, terms_in, live, fits, constants_of, is_model}
-use Rattle.sb_rulebook.specs.Lines.{said_sat}
-use Rattle.sb_rulebook.specs.LineLaws.{is_small, are_small, is_small_value, said_has_text}
-use Rattle.sb_rulebook.specs.Kept.{AllKept}
-use Rattle.sb_rulebook.specs.Verdicts.{Question, valued, assertion_holds, is_model_of, refusal_of, unless_wrong}
-use Rattle.sb_rulebook.specs.Accepted.{term_of, asked_in, question_in}
-use Rattle.sb_stack.specs.Stacked.{Stacked, live_constants, value_at, values_at, state_of}
-use Rattle.sb_prover.specs.Saying.{said_value}
+use Rattle.sb_prover.proofs.Words.{◌≡◌, ℕ, Bool, true, false, not, ◌&&◌, ◌||◌, ◌==◌, List, [], ◌∷◌, map, get_or, Some, None, option_map, refl, sym, ap, ap₂, ◌∙◌, arith, AllKept, Assertion, Constant, Question, Sort, Stacked, State, Text, Valuation, a_mark, all_hold, and_from, and_parts, are_characters, are_in_fragment, are_inside, are_small, asked_in, asserted, assertion_holds, boolean, constants_of, eqb-true, false≢true, fits, holds, in_fragment, integer, is_character, is_inside, is_model, is_model_of, is_of, is_small, is_small_value, list_all, live, live_constants, proofs, question_in, refusal_of, reglan, said_has_text, said_sat, said_value, state_of, term_of, terms_in, text, unless_wrong, value_at, valued, values_at, nat_tests, list_all-map}
+use Rattle.sb_script.specs.Brought.{is_brought}
 use Rattle.sb_prover.proofs.LiveLevels.{Row, terms-by-level}
 
 -- values that fit the constants are theirs, in order
@@ -36,14 +18,12 @@ valued-given (c ∷ cs) (d ∷ ds) words truths h =
     (eqb-true c.serial d.0 (and_parts (c.serial == d.0) (is_of c.sort value) parts.0).0)
 
 -- their characters have a text
-small-character : (c : ℕ) → is_character c ≡ true → is_small c ≡ true
-small-character c h = grind (arith, nat_tests, h)
-
 small-word : (w : List ℕ) → are_characters w ≡ true → are_small w ≡ true
 small-word [] h = refl
 small-word (c ∷ cs) h =
     let parts = and_parts (is_character c) (are_characters cs) h in
-    and_from (is_small c) (are_small cs) (small-character c parts.0) (small-word cs parts.1)
+    let small = parts.0 in
+    and_from (is_small c) (are_small cs) (grind (arith, nat_tests, small)) (small-word cs parts.1)
 
 small-text : (sort : Sort) (w : List ℕ) → is_of sort (Text w) ≡ true → are_small w ≡ true
 small-text text w h = small-word w h
@@ -59,8 +39,7 @@ small-value sort words truths n text h = small-text sort (get_or words n []) h
 small-value sort words truths n reglan h = small-text sort (get_or words n []) h
 
 small-values : (cs : List Constant) (ds : List (ℕ × Sort)) (words : List (List ℕ)) (truths : List Bool)
-    → fits cs (values_at ds words truths) ≡ true
-    → list_all is_small_value (map (said_value words truths) ds) ≡ true
+    → fits cs (values_at ds words truths) ≡ true → list_all is_small_value (map (said_value words truths) ds) ≡ true
 small-values [] [] words truths h = refl
 small-values [] (d ∷ ds) words truths h = absurd (false≢true h)
 small-values (c ∷ cs) [] words truths h = absurd (false≢true h)
@@ -88,9 +67,6 @@ live-hold v s inside h =
     sym (list_all-map (assertion_holds v) (λ (row : Row). row.0) (asked_in s).live)
     ∙ ap (list_all (assertion_holds v)) (terms-by-level s.first s.above) ∙ assertions-hold v (live s) inside h
 
-inside-parts : (s : State) → in_fragment s ≡ true → are_inside (live s) ≡ true
-inside-parts s h = (and_parts (not (is_brought proofs) || are_in_fragment (live s)) (are_inside (live s)) h).1
-
 -- What makes a model's values right, and their text.
 pub record AreSaid (stack : Stacked) (words : List (List ℕ)) (truths : List Bool) : Type 0 where
   pub valued_as : valued (constants_of (state_of stack)) (map (said_value words truths) (live_constants stack))
@@ -101,8 +77,7 @@ pub record AreSaid (stack : Stacked) (words : List (List ℕ)) (truths : List Bo
       (said_sat (map (said_value words truths) (live_constants stack))) ≡ None
 
 pub sat-said : (stack : Stacked) (words : List (List ℕ)) (truths : List Bool) → in_fragment (state_of stack) ≡ true
-    → is_model (state_of stack) [] (values_at (live_constants stack) words truths) ≡ true
-    → AreSaid stack words truths
+    → is_model (state_of stack) [] (values_at (live_constants stack) words truths) ≡ true → AreSaid stack words truths
 sat-said stack words truths inside model = record {
   valued_as = valued-given (constants_of s) ds words truths parts.0;
   small = small-values (constants_of s) ds words truths parts.0;
@@ -110,7 +85,8 @@ sat-said stack words truths inside model = record {
       (ap (λ o. elim o as (λ _. Bool) [ None ↦ false | Some v ↦ is_model_of q v ])
       (valued-given (constants_of s) ds words truths parts.0)
       ∙ and_from (fits (constants_of s) (values_at ds words truths)) _ parts.0
-      (and_from _ true (live-hold (values_at ds words truths) s (inside-parts s inside) parts.1) refl));
+      (and_from _ true (live-hold (values_at ds words truths) s
+      (and_parts (not (is_brought proofs) || are_in_fragment (live s)) (are_inside (live s)) inside).1 parts.1) refl));
 }
   where
     s : State

@@ -1,11 +1,6 @@
 -- Verdicts that may be said.
-use Rattle.std.proofs.Common.{◌≡◌, ℕ, ◌^◌, ◌-◌, true, false, not, cond, ◌&&◌, ◌==◌, [], Option, Some, None, ap, ap₂, ◌∙◌}
-use Rattle.sb_lit.specs.Kept.{kept_at}
-use Rattle.sb_rulebook.specs.Refusals.{Refusal, unknown_id}
-use Rattle.sb_rulebook.specs.Brought.{newest_format, has_rests}
-use Rattle.sb_rulebook.specs.Lines.{said_unsat, said_unknown, said_unsupported}
-use Rattle.sb_rulebook.specs.Kept.{AllKept, most_counted}
-use Rattle.sb_rulebook.specs.Verdicts.{Question, refusal_of, unless_wrong, are_live, is_listed, refutes}
+use Rattle.sb_prover.proofs.Words.{◌≡◌, ℕ, ◌^◌, ◌-◌, true, false, not, cond, ◌&&◌, ◌==◌, [], Option, Some, None, ap, ap₂, ◌∙◌, AllKept, Question, Refusal, are_live, has_rests, kept_at, most_counted, newest_format, refusal_of, refutes, said_unknown, said_unsat, said_unsupported, unknown_id, unless_wrong}
+use Rattle.sb_rulebook.specs.Verdicts.{is_listed}
 
 pub unsat-right : (q : Question) (kept : AllKept) (id level : ℕ) → q.inside ≡ true → kept.format ≡ newest_format
     → kept_at kept.clauses id ≡ Some (record { literals = []; level = level })
@@ -24,6 +19,5 @@ unknown-right q kept inside limit counted =
     ap₂ (λ (m c : ℕ). unless_wrong (q.inside && (((2 ^ 64 - 1) == m) && (c == (2 ^ 64 - 1))))) limit counted
     ∙ ap (λ b. unless_wrong (b && true)) inside
 
-pub unsupported-right : (q : Question) (kept : AllKept) → q.inside ≡ false
-    → refusal_of q kept said_unsupported ≡ None
+pub unsupported-right : (q : Question) (kept : AllKept) → q.inside ≡ false → refusal_of q kept said_unsupported ≡ None
 unsupported-right q kept outside = ap (λ b. unless_wrong (not b)) outside

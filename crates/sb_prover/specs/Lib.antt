@@ -1,4 +1,3 @@
 pub mod Proving
 pub mod Saying
-pub mod Refuting
-pub mod Solving
+pub mod Checking

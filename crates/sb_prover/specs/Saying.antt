@@ -1,5 +1,5 @@
 -- Private: the lines that a verdict has, and what they prove.
-use Rattle.std.specs.Prelude.{◌≡◌, ℕ, ◌^◌, ◌-◌, Some, Bool, true, if◌then◌else◌, List, [], ◌∷◌, map, Option}
+use Rattle.std.specs.Prelude.{◌≡◌, ℕ, Bool, true, if◌then◌else◌, List, [], ◌∷◌, map, Option}
 use Rattle.sb_meaning.specs.Terms.{Sort}
 use Rattle.sb_meaning.specs.Values.{Value}
 use Rattle.sb_stack.specs.Stacked.{value_at}
@@ -7,18 +7,11 @@ use Rattle.sb_script.specs.Verdicts.{Verdict}
 use Rattle.sb_rulebook.specs.Brought.{newest_format}
 use Rattle.sb_rulebook.specs.Lines.{Line, header_line, text_of}
 use Rattle.sb_rulebook.specs.LineLaws.{bytes_of}
-use Rattle.sb_rulebook.specs.Kept.{AllKept, Asked, most_counted, count_again}
+use Rattle.sb_rulebook.specs.Kept.{AllKept, count_again}
 use Rattle.sb_rulebook.specs.Verdicts.{Question}
 use Rattle.sb_rulebook.specs.Judging.{Progress}
 use Rattle.sb_sound.specs.Certified.{Proves}
 use Rattle.sb_proof.specs.Tapes.{with_bytes}
-use Rattle.sb_lang.specs.Regex.{Regex}
-use Rattle.sb_lit.specs.Kept.{kept_at}
-use Rattle.sb_deriv.specs.Faithful.{Memo}
-use Rattle.sb_trace.specs.Putting.{Puts}
-use Rattle.sb_refute.specs.Backing.{Backing, Backs}
-use Rattle.sb_prover.specs.declared.refutation.Refuted.{Refuted}
-use Rattle.sb_prover.specs.declared.refutation.Refuted.TheVariants as refuted
 
 -- the first line, where it does not stand there
 abbrev pub first_lines : Bool → List Line
@@ -41,18 +34,3 @@ pub record IsSaid (q : Question) (v : Verdict) (before : Progress) (reached : Al
   pub told : new ≡ with_bytes lines old
   pub begun : after.begun ≡ true
   pub kept : after.kept ≡ count_again reached
-
--- the empty clause is kept, or so many lines were counted as a check may have
-abbrev pub SaysRefuted : Asked → AllKept → Refuted → Type 0
-SaysRefuted asked kept (refuted.Clause id) =
-    (level : ℕ) × (kept_at kept.clauses id.0 ≡ Some (record { literals = []; level = level }))
-SaysRefuted asked kept refuted.Spent = (most_counted asked ≡ 2 ^ 64 - 1) × (kept.counted ≡ 2 ^ 64 - 1)
-
--- Lines were put that refute the live assertions, as far as a check may have lines.
-pub record IsRefuted (asked : Asked) (before : AllKept) (rs : List Regex) (memo : Memo) (e : Backing) (r : Refuted)
-    (old new : Option (List ℕ)) : Type 0
-  where
-    pub after : AllKept
-    pub puts : Puts asked before after old new
-    pub backs : Backs rs memo e after
-    pub says : SaysRefuted asked after r

@@ -1,15 +1,14 @@
 //! The prover: it puts the lines that prove the verdict of each check of a script.
 //!
-//! A [`Prover`] puts the first line, for an `unsat` those of a search over the live assertions of one constant that has
-//! no word, and for each check its verdict. A check that the decider left open it answers itself, by a search over the
-//! assertions that are no memberships and the memberships of their constants, whose lines it puts. The one idea is that
-//! the proof, as far as it has come, keeps what the prover knows of it ([`IsAbreast`](../specs/Proving.antt)), from check
-//! to check. The layer above decides, hands over the verdict or the open check, writes what was put, and then answers.
+//! A [`Prover`] puts the first line, and for each check the lines of a search and its verdict ([`Prover::check`]). The
+//! search is over the live assertions that refute the check, where a constant has no word, else over those that are no
+//! memberships and the memberships of their constants; where there are none, nothing is searched. The one idea is that
+//! the proof, as far as it has come, keeps what the prover knows of it ([`IsAbreast`](../specs/Proving.antt)), from
+//! check to check. The layer above asks the decider, hands over its answer, writes what was put, and then answers.
 #![tactic(auto)]
 
+mod checking;
 mod prover;
-mod refutation;
-mod solving;
 mod untold;
 mod verdict;
 

@@ -89,13 +89,10 @@ fn value_of(
 }
 
 /// The truth value at a place, false past the last.
-fn truth_at(truths: &[bool], place: usize) -> bool
+pub(crate) fn truth_at(truths: &[bool], place: usize) -> bool
     ensures { result ≡ get_or truths.now place false }
 {
-    match truths.get(place) {
-        Some(truth) => *truth,
-        None => false,
-    }
+    truths.get(place).copied().unwrap_or(false)
 }
 
 /// The characters of the word at a place, none past the last.

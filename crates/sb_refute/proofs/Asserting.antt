@@ -1,21 +1,8 @@
 -- What is put of an assertion: the lines of its atoms, and its clause.
-use Rattle.std.proofs.Common.{◌≡◌, ℕ, ◌≤◌, Bool, true, false, if◌then◌else◌, List, [], ◌∷◌, ◌++◌, length, take, slice_get, Option, Some, None, IfSome, refl, sym, ap, subst, ◌∙◌, arith, length-append}
-use Rattle.std.proofs.lemmas.Option.{none-some}
-use Rattle.sb_lit.specs.declared.clause.Lit.{Lit}
-use Rattle.sb_lang.specs.Regex.{Regex}
-use Rattle.sb_meaning.specs.Terms.{Term}
-use Rattle.sb_deriv.specs.Faithful.{Memo}
-use Rattle.sb_script.specs.Brought.{is_structure}
-use Rattle.sb_rulebook.specs.Atoms.{Atom, AtomOver}
-use Rattle.sb_rulebook.specs.Kept.{AllKept, Asked}
-use Rattle.sb_rulebook.specs.Translation.{translation}
-use Rattle.sb_atoms.specs.Numbered.{Extends, atoms_in}
-use Rattle.sb_atoms.specs.Translated.{brought_translation, AreDefined}
-use Rattle.sb_trace.proofs.CallerLemmas.{puts_none, puts_both}
-use Rattle.sb_refute.specs.Backing.{Backing, Backs, EvidencesUncounted, IsStatement, unit_at}
-use Rattle.sb_refute.specs.declared.evidence.Asserted.{Asserted}
-use Rattle.sb_refute.specs.Lines.{AreDue, IsAssertion, placed}
-use Rattle.sb_refute.proofs.DefinedAtoms.{front-of}
+use Rattle.sb_refute.proofs.Words.{◌≡◌, ℕ, ◌^◌, ◌<◌, Bool, true, false, nat_eq, if◌then◌else◌, List, [], ◌∷◌, ◌++◌, length, slice_get, Option, Some, None, Ok, IfSome, refl, sym, ap, subst, ◌∙◌, arith, EvidencesUncounted, ◌≢◌, and_from, lt-ltb, nat_tests, length-map, none-some, same_Some, some-none, Lit, Kept, Regex, Memo, line, AtomOver, follows, AllKept, Asked, with_clause, assertion_line, text_of, is_small, is_small_literal, translation, AssertionLinesAreExact, with_bytes, over, brought_translation, puts_none, puts_one, puts_both, Backing, Backs, IsStatement, KeepsAsserted, asserted_at, unit_at, Asserted, AreDue, IsAssertion, IsClaimed, IsStanding, Leads, LeadsClaimed, placed, Stand, Term, is_structure, Atom, AreDefined}
+use Rattle.sb_refute.proofs.Backs.{backs-clause, backs-without, units-placed}
+use Rattle.sb_refute.proofs.Holding.{gates-more}
+use Rattle.sb_refute.proofs.Places.{placed-there, placed-others}
 
 -- what a term adds is due
 pub due-stated : (asked : Asked) (old new : List (AtomOver ℕ)) (known place level : ℕ) (t : Term)
@@ -23,29 +10,6 @@ pub due-stated : (asked : Asked) (old new : List (AtomOver ℕ)) (known place le
 due-stated asked old new known place level t stated defined is = λ i a low names.
     let it = defined i a (omega (arith, is, low)) names in
     (it.0, λ before long. it.1 asked.sorts before stated.declared long)
-
--- the lines of new atoms, where these are due
-pub added-defined : (asked : Asked) (before : AllKept) (rs : List Regex) (memo : Memo) (w f : Backing)
-    (old new : List (AtomOver ℕ)) (known : ℕ) (told mid : Option (List ℕ)) → AreDue asked known new → Extends old new
-    → known ≡ length old → Backs rs memo (record w { atoms = old }) before
-    → (AreDue asked known new → known ≤ length new → Backs rs memo (record w { atoms = take known new }) before
-    → EvidencesUncounted asked before rs memo f told mid)
-    → EvidencesUncounted asked before rs memo f told mid
-added-defined asked before rs memo w f old new known told mid due extends is b put =
-    put due (omega (arith, is, ap length extends.is, length-append old extends.more))
-    (subst (λ (xs : List (AtomOver ℕ)). Backs rs memo (record w { atoms = xs }) before)
-    (sym (front-of old new known extends is)) b)
-
-asserted-if : (asked : Asked) (rs : List Regex) (memo : Memo) (e : Backing) (kept : AllKept) (place : ℕ) (t : Term)
-    (found : Option Lit) (level : ℕ) → slice_get asked.live place ≡ Some (Some t, level)
-    → ((l : Lit) → found ≡ Some l → translation (atoms_in rs e.atoms) t ≡ Some l) → Backs rs memo e kept
-    → IfSome found (λ l. IsAssertion asked kept place l level)
-asserted-if asked rs memo e kept place t None level live literal b = tt
-asserted-if asked rs memo e kept place t (Some l) level live literal b = record {
-  term = t;
-  live = live;
-  literal = ap (λ (atoms : List Atom). translation atoms t) b.atoms ∙ literal l refl;
-}
 
 structure-is : (atoms : List Atom) (t : Term) (l : Lit) → Some l ≡ brought_translation atoms t
     → translation atoms t ≡ Some l
@@ -55,43 +19,175 @@ structure-is atoms t l h = step (is_structure t) h
     step true h = sym h
     step false h = absurd (none-some l (sym h))
 
-pub is-statement : (asked : Asked) (rs : List Regex) (memo : Memo) (e : Backing) (kept : AllKept) (place : ℕ) (t : Term)
-    (found : Option Lit) (level : ℕ) → IsStatement asked place t level
-    → found ≡ brought_translation (atoms_in rs e.atoms) t → Backs rs memo e kept
-    → IfSome found (λ l. IsAssertion asked kept place l level)
-is-statement asked rs memo e kept place t found level stated literal b =
-    asserted-if asked rs memo e kept place t found level stated.live
-    (λ l is. structure-is (atoms_in rs e.atoms) t l (sym is ∙ literal)) b
-
--- the clause is kept, and the assertion with it
-pub counted-and-kept : (e next new : Backing) (place : ℕ) (a : Asserted) (ls : List Lit)
-    → new ≡ record next { asserted = placed next.asserted place (Some a) }
-    → next ≡ record e { kept = e.kept ++ Some (record { literals = ls; level = a.level }) ∷ [] }
-    → ls ≡ a.literal ∷ []
-    → new ≡ record e { kept = e.kept ++ Some (unit_at a) ∷ []; asserted = placed e.asserted place (Some a) }
-counted-and-kept e next new place a ls keeps adds are =
-    keeps ∙ ap (λ (f : Backing). record f { asserted = placed f.asserted place (Some a) }) adds
-    ∙ ap (λ (ms : List Lit). record e {
-      kept = e.kept ++ Some (record { literals = ms; level = a.level }) ∷ [];
-      asserted = placed e.asserted place (Some a);
-    }) are
+-- its literal is the assertion's, if it has one
+pub is-statement : (asked : Asked) (atoms : List Atom) (place : ℕ) (t : Term) (found : Option Lit) (level : ℕ)
+    → IsStatement asked place t level → found ≡ brought_translation atoms t
+    → IfSome found (λ l. IsAssertion asked atoms place l level)
+is-statement asked atoms place t None level stated literal = tt
+is-statement asked atoms place t (Some l) level stated literal =
+    record { term = t; live = stated.live; literal = structure-is atoms t l literal }
 
 -- Lines that are put one behind another.
 
-pub nothing-put : (asked : Asked) (kept : AllKept) (rs : List Regex) (memo : Memo) (e : Backing)
-    (told : Option (List ℕ)) → Backs rs memo e kept → EvidencesUncounted asked kept rs memo e told told
-nothing-put asked kept rs memo e told b =
-    record { after = kept; puts = puts_none asked kept told; backs = b; counted = refl }
+pub leads-none : (asked : Asked) (rs : List Regex) (memo : Memo) (e : Backing) (told : Option (List ℕ))
+    → Leads asked rs memo e e told told
+leads-none asked rs memo e told before b =
+    record { after = before; puts = puts_none asked before told; backs = b; counted = refl }
 
-pub both-put : (asked : Asked) (before : AllKept) (rs : List Regex) (memo : Memo) (e f : Backing)
-    (x y z : Option (List ℕ)) → EvidencesUncounted asked before rs memo e x y
-    → ((after : AllKept) → Backs rs memo e after → EvidencesUncounted asked after rs memo f y z)
-    → EvidencesUncounted asked before rs memo f x z
-both-put asked before rs memo e f x y z p next =
-    let q = next p.after p.backs in
+pub uncounted-both : (asked : Asked) (before : AllKept) (rs more : List Regex) (memo : Memo) (f g : Backing)
+    (x y z : Option (List ℕ)) → EvidencesUncounted asked before rs memo f x y
+    → ((after : AllKept) → Backs rs memo f after → EvidencesUncounted asked after more memo g y z)
+    → EvidencesUncounted asked before more memo g x z
+uncounted-both asked before rs more memo f g x y z p second =
+    let q = second p.after p.backs in
     record {
       after = q.after;
       puts = puts_both asked before p.after q.after x y z p.puts q.puts;
       backs = q.backs;
       counted = q.counted ∙ p.counted;
     }
+
+pub leads-both : (asked : Asked) (rs : List Regex) (memo : Memo) (e f g : Backing) (x y z : Option (List ℕ))
+    → Leads asked rs memo e f x y → Leads asked rs memo f g y z → Leads asked rs memo e g x z
+leads-both asked rs memo e f g x y z first second before b =
+    uncounted-both asked before rs rs memo f g x y z (first before b) second
+
+-- The line of an assertion's clause.
+
+assertion-follows : AssertionLinesAreExact → (asked : Asked) (kept : AllKept) (place : ℕ) (l : Lit) (t : Term)
+    (level : ℕ) → slice_get asked.live place ≡ Some (Some t, level) → l.atom < length kept.atoms
+    → translation kept.atoms t ≡ Some l
+    → follows asked kept (assertion_line place l) ≡ Ok (with_clause kept (l ∷ []) level (place ∷ []))
+assertion-follows exact asked kept place l t level live known literal =
+    (exact asked kept (with_clause kept (l ∷ []) level (place ∷ [])) place l).1 (record {
+      term = t;
+      level = level;
+      live = live;
+      defined = known;
+      literal = literal;
+      is_kept = refl;
+    })
+
+assertion-put : AssertionLinesAreExact → (e : Backing) (place : ℕ) (a : Asserted) (old new : Option (List ℕ))
+    → a.literal.atom < length e.atoms → a.clause.0 ≡ length e.kept → place < 2 ^ 64 → a.literal.atom < 2 ^ 64
+    → new ≡ with_bytes (line (text_of (assertion_line place a.literal))) old
+    → LeadsClaimed place (Some a.literal) a.level e
+    (record e { kept = e.kept ++ Some (unit_at a) ∷ []; asserted = placed e.asserted place (Some a) }) old new
+assertion-put exact e place a old new known number sp sa told = λ asked rs memo is before b. record {
+  after = with_clause before (a.literal ∷ []) a.level (place ∷ []);
+  puts = puts_one asked before (with_clause before (a.literal ∷ []) a.level (place ∷ []))
+      (assertion_line place a.literal) old new
+      (assertion-follows exact asked before place a.literal is.term a.level is.live
+      (omega (arith, ap length b.atoms, length-map e.atoms (over rs), known))
+      (ap (λ (atoms : List Atom). translation atoms is.term) b.atoms ∙ is.literal))
+      (and_from (is_small place) (is_small_literal a.literal) (lt-ltb place (2 ^ 64) sp)
+      (lt-ltb a.literal.atom (2 ^ 64) sa)) told;
+  backs = backs-clause rs memo e before (a.literal ∷ []) a.level (place ∷ []) (placed e.asserted place (Some a))
+      (units-placed e.kept e.asserted place a number b.asserted) b;
+  counted = refl;
+}
+
+-- The clause that stands for an assertion.
+
+-- nothing else is other than before
+pub claims-alone : (e f : Backing) (kept : Kept) (asserted : List (Option Asserted))
+    → f ≡ record e { kept = kept; asserted = asserted } → f ≡ record e { kept = f.kept; asserted = f.asserted }
+claims-alone e f kept asserted is =
+    is ∙ ap (λ (x : Backing). record e { kept = x.kept; asserted = x.asserted }) (sym is)
+
+-- at each place but one the clauses stay
+stays-at : (e f : Backing) (place : ℕ) (x : Option Asserted) → f.asserted ≡ placed e.asserted place x
+    → ((b : Asserted) → asserted_at e.asserted place ≡ Some b → ⊥) → KeepsAsserted e f
+stays-at e f place x is never = λ q b h. step q b h (nat_eq q place) refl
+  where
+    step : (q : ℕ) (b : Asserted) → asserted_at e.asserted q ≡ Some b → (t : Bool) → nat_eq q place ≡ t
+        → asserted_at f.asserted q ≡ Some b
+    step q b h true same =
+        let here : q ≡ place = grind (arith, nat_tests) in
+        absurd (never b (ap (asserted_at e.asserted) (sym here) ∙ h))
+    step q b h false other =
+        let apart : q ≢ place = grind (arith, nat_tests) in
+        ap (λ xs. asserted_at xs q) is ∙ placed-others e.asserted place x q apart ∙ h
+
+-- the one that stood there was of this literal and level
+own-there : (o : Option Asserted) (literal : Option Lit) (level : ℕ) (b : Asserted)
+    → IfSome o (λ a. (a.level ≡ level) × (Some a.literal ≡ literal)) → o ≡ Some b
+    → (b.level ≡ level) × (Some b.literal ≡ literal)
+own-there o literal level b own h =
+    subst (λ (x : Option Asserted). IfSome x (λ a. (a.level ≡ level) × (Some a.literal ≡ literal))) h own
+
+-- none, where the term has no literal;
+pub claimed-none : (e f : Backing) (place level : ℕ) (told : Option (List ℕ)) → Stand e
+    → f ≡ record e { asserted = placed e.asserted place None }
+    → IsClaimed (LeadsClaimed place None level e f told told) place None level e f None
+claimed-none e f place level told stand is =
+    subst (λ (g : Backing). IsClaimed (LeadsClaimed place None level e g told told) place None level e g None) (sym is)
+    (record {
+      puts = λ asked rs memo none before b. record {
+        after = before;
+        puts = puts_none asked before told;
+        backs = backs-without rs memo e before place b;
+        counted = refl;
+      };
+      asserted = sym (placed-there e.asserted place None);
+      literal_is = refl;
+      level_is = tt;
+      stays = λ own. stays-at e (record e { asserted = placed e.asserted place None }) place None refl
+          (λ b h. some-none b.literal (own-there (asserted_at e.asserted place) None level b own h).1);
+      others = λ other apart. placed-others e.asserted place None other apart;
+      gated = stand.gated;
+    })
+
+-- the one that is there;
+pub claimed-standing : (e : Backing) (place level : ℕ) (l : Lit) (told : Option (List ℕ)) (a : Asserted) → Stand e
+    → IsStanding (asserted_at e.asserted place) l level (Some a)
+    → IsClaimed (LeadsClaimed place (Some l) level e e told told) place (Some l) level e e (Some a)
+claimed-standing e place level l told a stand is = record {
+  puts = λ asked rs memo term. leads-none asked rs memo e told;
+  asserted = sym is.0;
+  literal_is = ap Some is.1;
+  level_is = is.2;
+  stays = λ own q b h. h;
+  others = λ other apart. refl;
+  gated = stand.gated;
+}
+
+-- and a new one, where none is
+pub claimed-new : AssertionLinesAreExact → (e f : Backing) (place : ℕ) (a : Asserted) (old new : Option (List ℕ))
+    → Stand e → IsStanding (asserted_at e.asserted place) a.literal a.level None → a.literal.atom < length e.atoms
+    → a.clause.0 ≡ length e.kept → place < 2 ^ 64 → a.literal.atom < 2 ^ 64
+    → new ≡ with_bytes (line (text_of (assertion_line place a.literal))) old
+    → f ≡ record e { kept = e.kept ++ Some (unit_at a) ∷ []; asserted = placed e.asserted place (Some a) }
+    → IsClaimed (LeadsClaimed place (Some a.literal) a.level e f old new) place (Some a.literal) a.level e f (Some a)
+claimed-new exact e f place a old new stand lacks known number sp sa told is =
+    subst (λ (g : Backing). IsClaimed (LeadsClaimed place (Some a.literal) a.level e g old new) place (Some a.literal)
+    a.level e g (Some a)) (sym is)
+    (record {
+      puts = assertion-put exact e place a old new known number sp sa told;
+      asserted = sym (placed-there e.asserted place (Some a));
+      literal_is = refl;
+      level_is = refl;
+      stays = λ own. stays-at e (record e { asserted = placed e.asserted place (Some a) }) place (Some a) refl
+          (λ b h.
+          let it = own-there (asserted_at e.asserted place) (Some a.literal) a.level b own h in
+          lacks b h (same_Some b.literal a.literal it.1) it.0);
+      others = λ other apart. placed-others e.asserted place (Some a) other apart;
+      gated = gates-more e.gates e.atoms e.kept (Some (unit_at a)) stand.gated;
+    })
+
+-- behind other work, which leaves the assertions
+pub claimed-after : {P Q : Type 0} (place level : ℕ) (literal : Option Lit) (e mid f : Backing)
+    (found : Option Asserted) → mid.asserted ≡ e.asserted → (P → Q) → IsClaimed P place literal level mid f found
+    → IsClaimed Q place literal level e f found
+claimed-after place level literal e mid f found same puts h = record {
+  puts = puts h.puts;
+  asserted = h.asserted;
+  literal_is = h.literal_is;
+  level_is = h.level_is;
+  stays = λ own q b there.
+      h.stays
+      (subst (λ xs. IfSome (asserted_at xs place) (λ a. (a.level ≡ level) × (Some a.literal ≡ literal))) (sym same) own)
+      q b (ap (λ xs. asserted_at xs q) same ∙ there);
+  others = λ other apart. h.others other apart ∙ ap (λ xs. asserted_at xs other) same;
+  gated = h.gated;
+}

@@ -1,26 +1,14 @@
 -- What is kept behind a line backs the evidence, and so does what is kept where levels are left.
-use Rattle.std.proofs.Common.{◌≡◌, ℕ, inl, inr, List, [], ◌∷◌, ◌++◌, length, map, Option, Some, None, sym, ap, subst, ◌∙◌}
-use Rattle.std.proofs.lemmas.Option.{same_Some, none-some}
-use Rattle.sb_lit.specs.declared.clause.Lit.{Lit}
-use Rattle.sb_lit.specs.Kept.{Kept, KeptClause, kept_at, kept_up_to}
-use Rattle.sb_lang.specs.Regex.{Regex}
+use Rattle.sb_refute.proofs.Words.{◌≡◌, ℕ, inl, inr, List, [], ◌∷◌, ◌++◌, length, map, Option, Some, None, sym, ap, subst, ◌∙◌, same_Some, none-some, Lit, Kept, KeptClause, kept_at, kept_up_to, Regex, Memo, KeepsEntries, AllKept, with_clause, dropped_above, all_dropped, HaveRegexesBelow, atoms_kept, Traced, Tracks, tracks_grow, Asserted, EmptyClause, Backing, Backs, asserted_at, unit_at, AreUpTo, left_above, left_all, placed, Atom}
 use Rattle.sb_regex.specs.Numbered as regex
-use Rattle.sb_deriv.specs.Faithful.{Memo, KeepsEntries}
-use Rattle.sb_rulebook.specs.Kept.{AllKept, with_clause, dropped_above, all_dropped}
-use Rattle.sb_atoms.specs.Numbered.{HaveRegexesBelow}
-use Rattle.sb_atoms.proofs.CallerLemmas.{atoms_kept}
-use Rattle.sb_trace.specs.Tracking.{Traced, Tracks}
-use Rattle.sb_trace.proofs.CallerLemmas.{tracks_grow}
-use Rattle.sb_refute.specs.declared.evidence.Asserted.{Asserted}
-use Rattle.sb_refute.specs.Backing.{Backing, Backs, asserted_at, unit_at, AreUpTo, left_above, left_all}
-use Rattle.sb_refute.specs.Lines.{placed}
-use Rattle.sb_refute.proofs.Clauses.{kept-stays, kept-last, stays}
-use Rattle.sb_refute.proofs.Places.{none-at, placed-cases, front}
+use Rattle.sb_refute.proofs.Clauses.{front, none-at, kept-stays, stays, kept-last}
+use Rattle.sb_refute.proofs.Places.{placed-cases}
 
 -- regexes stay as they are
-tracks-clause : (rs : List Regex) (memo : Memo) (t : Traced) (kept : AllKept) (clause : List Lit) (level : ℕ)
-    (rests : List ℕ) → Tracks rs memo t kept → Tracks rs memo t (with_clause kept clause level rests)
-tracks-clause rs memo t kept clause level rests h = record {
+pub tracks-beside : (rs : List Regex) (memo : Memo) (t : Traced) (kept : AllKept) (atoms : List Atom) (clauses : Kept)
+    (rests : List (List ℕ)) → Tracks rs memo t kept
+    → Tracks rs memo t (record kept { atoms = atoms; clauses = clauses; rests = rests })
+tracks-beside rs memo t kept atoms clauses rests h = record {
   numbers = h.numbers;
   regexes = h.regexes;
   expansions_long = h.expansions_long;
@@ -31,17 +19,18 @@ tracks-clause rs memo t kept clause level rests h = record {
 }
 
 -- the clauses of these assertions are kept
-abbrev AreKeptUnits : Kept → List (Option Asserted) → Type 0
+abbrev pub AreKeptUnits : Kept → List (Option Asserted) → Type 0
 AreKeptUnits kept asserted = (place : ℕ) (a : Asserted) → asserted_at asserted place ≡ Some a
     → kept_at kept a.clause.0 ≡ Some (unit_at a)
 
 -- they stay so with one clause more,
-units-stay : (kept : Kept) (c : KeptClause) (asserted : List (Option Asserted)) → AreKeptUnits kept asserted
+pub units-stay : (kept : Kept) (c : KeptClause) (asserted : List (Option Asserted)) → AreKeptUnits kept asserted
     → AreKeptUnits (kept ++ Some c ∷ []) asserted
 units-stay kept c asserted h = λ place a there. kept-stays kept (Some c) a.clause.0 (unit_at a) (h place a there)
 
 -- and where that is the clause of one more assertion
-units-placed : (kept : Kept) (asserted : List (Option Asserted)) (place : ℕ) (a : Asserted) → a.clause.0 ≡ length kept
+pub units-placed : (kept : Kept) (asserted : List (Option Asserted)) (place : ℕ) (a : Asserted)
+    → a.clause.0 ≡ length kept
     → AreKeptUnits kept asserted → AreKeptUnits (kept ++ Some (unit_at a) ∷ []) (placed asserted place (Some a))
 units-placed kept asserted place a number h =
     λ q other there. elim (placed-cases asserted place q (Some a) other there) [
@@ -52,7 +41,7 @@ units-placed kept asserted place a number h =
     ]
 
 -- with one more clause
-backs-clause : (rs : List Regex) (memo : Memo) (e : Backing) (kept : AllKept) (literals : List Lit) (level : ℕ)
+pub backs-clause : (rs : List Regex) (memo : Memo) (e : Backing) (kept : AllKept) (literals : List Lit) (level : ℕ)
     (rests : List ℕ) (asserted : List (Option Asserted))
     → AreKeptUnits (e.kept ++ Some (record { literals = literals; level = level }) ∷ []) asserted
     → Backs rs memo e kept
@@ -61,30 +50,13 @@ backs-clause : (rs : List Regex) (memo : Memo) (e : Backing) (kept : AllKept) (l
       asserted = asserted;
     }) (with_clause kept literals level rests)
 backs-clause rs memo e kept literals level rests asserted units b = record {
-  tracks = tracks-clause rs memo e.trace kept literals level rests b.tracks;
+  tracks = tracks-beside rs memo e.trace kept kept.atoms
+      (kept.clauses ++ Some (record { literals = literals; level = level }) ∷ [])
+      (kept.rests ++ rests ∷ []) b.tracks;
   atoms = b.atoms;
   clauses = ap (λ (k : Kept). k ++ Some (record { literals = literals; level = level }) ∷ []) b.clauses;
   asserted = units;
 }
-
--- with a clause of gates
-pub backs-gate : (rs : List Regex) (memo : Memo) (e : Backing) (kept : AllKept) (literals : List Lit)
-    (rests : List ℕ) → Backs rs memo e kept
-    → Backs rs memo (record e { kept = e.kept ++ Some (record { literals = literals; level = 0 }) ∷ [] })
-    (with_clause kept literals 0 rests)
-backs-gate rs memo e kept literals rests b =
-    backs-clause rs memo e kept literals 0 rests e.asserted
-    (units-stay e.kept (record { literals = literals; level = 0 }) e.asserted b.asserted) b
-
--- with the clause of an assertion
-pub backs-assertion : (rs : List Regex) (memo : Memo) (e : Backing) (kept : AllKept) (place : ℕ) (a : Asserted)
-    (rests : List ℕ) → Backs rs memo e kept → a.clause.0 ≡ length e.kept
-    → Backs rs memo
-    (record e { kept = e.kept ++ Some (unit_at a) ∷ []; asserted = placed e.asserted place (Some a) })
-    (with_clause kept (a.literal ∷ []) a.level rests)
-backs-assertion rs memo e kept place a rests b number =
-    backs-clause rs memo e kept (a.literal ∷ []) a.level rests (placed e.asserted place (Some a))
-    (units-placed e.kept e.asserted place a number b.asserted) b
 
 -- where an assertion has no clause
 pub backs-without : (rs : List Regex) (memo : Memo) (e : Backing) (kept : AllKept) (place : ℕ) → Backs rs memo e kept
@@ -109,30 +81,19 @@ backs-grown rs more memo new e kept grows keeps below b = record {
   asserted = b.asserted;
 }
 
--- where the arena grows alone
-pub backs-more : (rs more : List Regex) (memo : Memo) (e : Backing) (kept : AllKept) → regex.Extends rs more
-    → HaveRegexesBelow (length rs) e.atoms → Backs rs memo e kept → Backs more memo e kept
-backs-more rs more memo e kept grows below b = backs-grown rs more memo memo e kept grows (λ n pieces h. h) below b
+-- the empty clause and the number of gates are the evidence's own
+pub backs-beside : (rs : List Regex) (memo : Memo) (e : Backing) (kept : AllKept) (refuted : Option EmptyClause)
+    (gates : ℕ) → Backs rs memo e kept → Backs rs memo (record e { refuted = refuted; gates = gates }) kept
+backs-beside rs memo e kept refuted gates b =
+    record { tracks = b.tracks; atoms = b.atoms; clauses = b.clauses; asserted = b.asserted }
 
 -- Where levels are left.
-
-tracks-dropped : (rs : List Regex) (memo : Memo) (t : Traced) (kept : AllKept) (clauses : Kept)
-    → Tracks rs memo t kept → Tracks rs memo t (record kept { clauses = clauses })
-tracks-dropped rs memo t kept clauses h = record {
-  numbers = h.numbers;
-  regexes = h.regexes;
-  expansions_long = h.expansions_long;
-  dead_long = h.dead_long;
-  expanded = h.expanded;
-  dead = h.dead;
-  targets = h.targets;
-}
 
 pub backs-left_above : (rs : List Regex) (memo : Memo) (e : Backing) (kept : AllKept) (level count : ℕ)
     → AreUpTo level count e.asserted → Backs rs memo e kept
     → Backs rs memo (left_above level count e) (dropped_above level kept)
 backs-left_above rs memo e kept level count up_to b = record {
-  tracks = tracks-dropped rs memo e.trace kept (kept_up_to level kept.clauses) b.tracks;
+  tracks = tracks-beside rs memo e.trace kept kept.atoms (kept_up_to level kept.clauses) kept.rests b.tracks;
   atoms = b.atoms;
   clauses = ap (kept_up_to level) b.clauses;
   asserted = λ place a h.
@@ -144,7 +105,7 @@ backs-left_above rs memo e kept level count up_to b = record {
 pub backs-left_all : (rs : List Regex) (memo : Memo) (e : Backing) (kept : AllKept) → Backs rs memo e kept
     → Backs rs memo (left_all e) (all_dropped kept)
 backs-left_all rs memo e kept b = record {
-  tracks = tracks-dropped rs memo e.trace kept (map (λ clause. None) kept.clauses) b.tracks;
+  tracks = tracks-beside rs memo e.trace kept kept.atoms (map (λ clause. None) kept.clauses) kept.rests b.tracks;
   atoms = b.atoms;
   clauses = ap (map (λ clause. None)) b.clauses;
   asserted = λ place a h. absurd (none-some a (sym (none-at place) ∙ h));

@@ -1,11 +1,26 @@
 -- Clauses that are kept, with one behind them.
-use Rattle.std.proofs.Common.{◌≡◌, ℕ, zero, suc, ◌≤◌, ◌⊎◌, inl, inr, Bool, true, false, nat_lt, if◌then◌else◌, [], ◌∷◌, ◌++◌, length, map, subst, Option, Some, None, refl, ap, ◌∙◌, arith}
-use Rattle.std.proofs.lemmas.Bool.Decides.{nat_tests}
-use Rattle.sb_lit.specs.Kept.{Kept, KeptClause, kept_at, stays_up_to, kept_up_to}
+use Rattle.sb_refute.proofs.Words.{◌≡◌, ℕ, zero, suc, ◌<◌, ◌≤◌, ◌⊎◌, inl, inr, Bool, true, false, nat_lt, if◌then◌else◌, List, [], ◌∷◌, ◌++◌, length, map, take, slice_get, unwrap_or, Option, Some, None, refl, sym, ap, ◌∙◌, arith, and_from, and_parts, none-some, nat_tests, Kept, KeptClause, kept_at, stays_up_to, kept_up_to, are_reserved, has_room_for, is_reserved}
+
+-- What stands in a list of options.
+
+pub none-at : {A : Type 0} (n : ℕ) → ◌≡◌ {A = Option A} (unwrap_or (slice_get [] n) None) None
+none-at zero = refl
+none-at (suc n) = refl
+
+-- before a number
+pub front : {A : Type 0} (xs : List (Option A)) (count n : ℕ) (a : A)
+    → unwrap_or (slice_get (take count xs) n) None ≡ Some a → (n < count) × (unwrap_or (slice_get xs n) None ≡ Some a)
+front [] zero n a h = absurd (none-some a (sym (none-at n) ∙ h))
+front [] (suc count) n a h = absurd (none-some a (sym (none-at n) ∙ h))
+front (x ∷ xs) zero n a h = absurd (none-some a (sym (none-at n) ∙ h))
+front (x ∷ xs) (suc count) zero a h = (omega arith, h)
+front (x ∷ xs) (suc count) (suc n) a h =
+    let rest = front xs count n a h in let low = rest.0 in (omega (arith, low), rest.1)
+
+-- Clauses that are kept.
 
 pub none-kept : (id : ℕ) (c : KeptClause) → kept_at [] id ≡ Some c → ⊥
-none-kept zero c h = cc
-none-kept (suc id) c h = cc
+none-kept id c h = none-some c (sym (none-at id) ∙ h)
 
 -- what was kept stays
 pub kept-stays : (kept : Kept) (x : Option KeptClause) (id : ℕ) (c : KeptClause) → kept_at kept id ≡ Some c
@@ -19,45 +34,43 @@ pub kept-last : (kept : Kept) (x : Option KeptClause) → kept_at (kept ++ x ∷
 kept-last [] x = refl
 kept-last (k ∷ ks) x = kept-last ks x
 
-some-clause : (c d : KeptClause) → ◌≡◌ {A = Option KeptClause} (Some d) (Some c) → d ≡ c
-some-clause c d h = cc
-
 -- another one was kept before
-pub kept-cases : (kept : Kept) (d : KeptClause) (id : ℕ) (c : KeptClause) → kept_at (kept ++ Some d ∷ []) id ≡ Some c
-    → (kept_at kept id ≡ Some c) ⊎ ((id ≡ length kept) × (d ≡ c))
-kept-cases [] d zero c h = inr (refl, some-clause c d h)
-kept-cases [] d (suc id) c h = absurd (none-kept id c h)
-kept-cases (k ∷ ks) d zero c h = inl h
-kept-cases (k ∷ ks) d (suc id) c h = elim (kept-cases ks d id c h) [
+pub kept-cases : (kept : Kept) (x : Option KeptClause) (id : ℕ) (c : KeptClause) → kept_at (kept ++ x ∷ []) id ≡ Some c
+    → (kept_at kept id ≡ Some c) ⊎ ((id ≡ length kept) × (x ≡ Some c))
+kept-cases [] x zero c h = inr (refl, h)
+kept-cases [] x (suc id) c h = absurd (none-kept id c h)
+kept-cases (k ∷ ks) x zero c h = inl h
+kept-cases (k ∷ ks) x (suc id) c h = elim (kept-cases ks x id c h) [
   | inl before ↦ inl before
   | inr last ↦ inr (ap suc last.0, last.1)
 ]
 
--- Clauses that are dropped.
+-- The places of their atoms.
 
-none-some : (c : KeptClause) → ◌≡◌ {A = Option KeptClause} None (Some c) → ⊥
-none-some c h = cc
+-- the atoms of each clause are below a number where there is room for all,
+pub each-reserved : (n : ℕ) (kept : Kept) → has_room_for n kept ≡ true → (id : ℕ) (c : KeptClause)
+    → kept_at kept id ≡ Some c → are_reserved n c.literals ≡ true
+each-reserved n [] h id c there = absurd (none-kept id c there)
+each-reserved n (x ∷ kept) h zero c there =
+    ap (is_reserved n) (sym there) ∙ (and_parts (is_reserved n x) (has_room_for n kept) h).0
+each-reserved n (x ∷ kept) h (suc id) c there =
+    each-reserved n kept (and_parts (is_reserved n x) (has_room_for n kept) h).1 id c there
 
--- a clause that stays was there, and is not above the level
-place-stays : (level : ℕ) (o : Option KeptClause) (c : KeptClause) → stays_up_to level o ≡ Some c
-    → (o ≡ Some c) × (c.level ≤ level)
-place-stays level None c h = absurd (none-some c h)
-place-stays level (Some d) c h = step (nat_lt level d.level) refl h
+-- and the other way round
+pub room-for-each : (n : ℕ) (kept : Kept)
+    → ((id : ℕ) (c : KeptClause) → kept_at kept id ≡ Some c → are_reserved n c.literals ≡ true)
+    → has_room_for n kept ≡ true
+room-for-each n [] h = refl
+room-for-each n (x ∷ kept) h =
+    and_from (is_reserved n x) (has_room_for n kept) (first x (h 0)) (room-for-each n kept (λ id. h (suc id)))
   where
-    step : (b : Bool) → nat_lt level d.level ≡ b → (if b then None else Some d) ≡ Some c
-        → (Some d ≡ Some c) × (c.level ≤ level)
-    step true is h = absurd (none-some c h)
-    step false is h =
-        let low : d.level ≤ level = grind (arith, nat_tests) in
-        (h, subst (λ (e : KeptClause). e.level ≤ level) (some-clause c d h) low)
+    first : (x : Option KeptClause) → ((c : KeptClause) → x ≡ Some c → are_reserved n c.literals ≡ true)
+        → is_reserved n x ≡ true
+    first None h = refl
+    first (Some c) h = h c refl
 
-pub stayed : (level : ℕ) (kept : Kept) (id : ℕ) (c : KeptClause) → kept_at (kept_up_to level kept) id ≡ Some c
-    → (kept_at kept id ≡ Some c) × (c.level ≤ level)
-stayed level [] id c h = absurd (none-kept id c h)
-stayed level (k ∷ ks) zero c h = place-stays level k c h
-stayed level (k ∷ ks) (suc id) c h = stayed level ks id c h
+-- Clauses that are dropped: one that is not above the level stays.
 
--- and one that is not above it stays
 low-stays : (level : ℕ) (c : KeptClause) → c.level ≤ level → stays_up_to level (Some c) ≡ Some c
 low-stays level c low = step (nat_lt level c.level) refl
   where

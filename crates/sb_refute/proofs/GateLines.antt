@@ -1,109 +1,40 @@
 -- The clauses of gates of an atom speak of the atoms up to it, and their lines follow.
-use Rattle.std.proofs.Common.{◌≡◌, ◌≢◌, ◌⊎◌, ℕ, zero, suc, ◌+◌, ◌<◌, Bool, true, false, nat_lt, if◌then◌else◌, List, [], ◌∷◌, ◌++◌, length, map, take, Option, Some, Result, Ok, Err, All, Contains, inl, inr, refl, sym, ap, subst, ◌∙◌, arith, append_assoc}
-use Rattle.std.specs.List.{list_all}
-use Rattle.std.proofs.lemmas.Bool.{and_parts, and_from, false≢true, lt-ltb, ltb-true}
-use Rattle.std.proofs.lemmas.List.Elements.{All-nil, All-cons}
-use Rattle.std.proofs.lemmas.List.Folds.{list_all-append}
-use Rattle.std.proofs.lemmas.List.{map-append}
-use Rattle.std.proofs.lemmas.Option.{get_or_from_slice_get, slice_get-get_or}
-use Rattle.std.specs.Result.{IfOk}
-use Rattle.sb_lit.specs.declared.clause.Lit.{Lit}
-use Rattle.sb_lit.specs.Clauses.{negation, are_ascending}
-use Rattle.sb_lit.specs.Kept.{Kept, KeptClause, kept_at}
-use Rattle.sb_clauses.specs.Propagation.{are_reserved}
-use Rattle.sb_lang.specs.Regex.{Regex}
-use Rattle.sb_deriv.specs.Faithful.{Memo}
-use Rattle.sb_script.specs.Steps.{line}
-use Rattle.sb_rulebook.specs.Atoms.{Atom, AtomOver, bool_atom, in_atom, le_atom, sum_atom, and_atom, iff_atom}
-use Rattle.sb_rulebook.specs.Tables.{names_below}
-use Rattle.sb_rulebook.specs.Translation.{in_order}
-use Rattle.sb_rulebook.specs.Gates.{is_gate}
-use Rattle.sb_rulebook.specs.Kept.{AllKept, Asked, with_clause}
-use Rattle.sb_rulebook.specs.Follows.{follows}
-use Rattle.sb_rulebook.specs.Lines.{rule_line, text_of}
+use Rattle.sb_refute.proofs.Words.{◌≡◌, ◌≢◌, ◌⊎◌, ℕ, zero, suc, ◌+◌, ◌<◌, true, nat_lt, List, [], ◌∷◌, ◌++◌, length, map, take, Option, Result, Ok, Err, All, Contains, inl, inr, refl, sym, ap, subst, ◌∙◌, arith, append_assoc, list_all, and_parts, and_from, false≢true, lt-ltb, ltb-true, map-append, get_or_from_slice_get, slice_get-get_or, IfOk, Lit, are_ascending, Kept, kept_at, are_reserved, Regex, line, AtomOver, bool_atom, in_atom, le_atom, sum_atom, and_atom, iff_atom, AllKept, Asked, with_clause, follows, rule_line, text_of, is_small_literal, RuleLinesAreExact, with_bytes, NameEarlier, over, atoms_in, atom_at, clauses_of, puts_one, Backing, EvidencesUncounted, HasGatesOf, IsOfGates, LeadsAlways, at_bottom, All-nil, All-cons, Atom, names_below, is_gate, GatesAreExact, ascend_form}
 use Rattle.sb_rulebook.specs.Lines as lines
-use Rattle.sb_rulebook.specs.LineLaws.{is_small_literal}
-use Rattle.sb_sound.specs.ClauseLaws.{AreDefined, RuleLinesAreExact}
-use Rattle.sb_sound.specs.GateLaws.{GatesAreExact}
-use Rattle.sb_sound.proofs.CallerLemmas.{ascend_form}
-use Rattle.sb_proof.specs.Tapes.{with_bytes}
-use Rattle.sb_atoms.specs.Numbered.{NameEarlier, over, atoms_in}
-use Rattle.sb_atoms.proofs.CallerLemmas.{below_in_order, below_negations}
-use Rattle.sb_atoms.specs.GateClauses.{atom_at, gate, is_trivial, clause_of, parts_of, clauses_of}
-use Rattle.sb_trace.proofs.CallerLemmas.{puts_one}
-use Rattle.sb_refute.specs.Backing.{Backing, Backs, EvidencesUncounted, HasGatesOf}
-use Rattle.sb_refute.specs.Lines.{IsOfGates}
-use Rattle.sb_refute.proofs.Backs.{backs-gate}
+use Rattle.sb_sound.specs.ClauseLaws.{AreDefined}
+use Rattle.sb_refute.proofs.Backs.{backs-beside, backs-clause, units-stay}
+use Rattle.sb_refute.proofs.GateLiterals.{each-part, of-gate}
 use Rattle.sb_refute.proofs.Holding.{literals-grown}
 
 -- Elements of lists.
 
-cons-cases : {X : Type 0} (y : X) (xs : List X) (x : X) → Contains (y ∷ xs) x → (y ≡ x) ⊎ Contains xs x
+pub cons-cases : {X : Type 0} (y : X) (xs : List X) (x : X) → Contains (y ∷ xs) x → (y ≡ x) ⊎ Contains xs x
 cons-cases y xs x (zero, l, e) = inl e
 cons-cases y xs x (suc k, l, e) = inr (k, omega (arith, l), e)
 
-not-in-nil : {X : Type 0} (x : X) → Contains [] x → ⊥
+pub not-in-nil : {X : Type 0} (x : X) → Contains [] x → ⊥
 not-in-nil x (k, l, e) = omega (arith, l)
 
 -- The atoms of the clauses.
 
-clause-below : (n : ℕ) (ls : List Lit) → are_reserved n ls ≡ true → list_all (are_reserved n) (clause_of ls) ≡ true
-clause-below n ls h = step (is_trivial (in_order ls))
-  where
-    step : (b : Bool) → list_all (are_reserved n) (if b then [] else in_order ls ∷ []) ≡ true
-    step true = refl
-    step false = and_from (are_reserved n (in_order ls)) true (below_in_order n ls h) refl
-
-both-below : (n : ℕ) (cs ds : List (List Lit)) → list_all (are_reserved n) cs ≡ true
-    → list_all (are_reserved n) ds ≡ true → list_all (are_reserved n) (cs ++ ds) ≡ true
-both-below n cs ds p q =
-    list_all-append (are_reserved n) cs ds
-    ∙ and_from (list_all (are_reserved n) cs) (list_all (are_reserved n) ds) p q
-
-parts-below : (n atom : ℕ) (ls : List Lit) → nat_lt atom n ≡ true → are_reserved n ls ≡ true
-    → list_all (are_reserved n) (parts_of atom ls) ≡ true
-parts-below n atom [] low h = refl
-parts-below n atom (l ∷ ls) low h =
-    let p = and_parts (nat_lt l.atom n) (are_reserved n ls) h in
-    both-below n (clause_of (gate atom false ∷ l ∷ [])) (parts_of atom ls)
-    (clause-below n (gate atom false ∷ l ∷ [])
-    (and_from (nat_lt atom n) (are_reserved n (l ∷ [])) low (and_from (nat_lt l.atom n) true p.0 refl)))
-    (parts-below n atom ls low p.1)
-
-three-below : (n : ℕ) (k l m : Lit) → nat_lt k.atom n ≡ true → nat_lt l.atom n ≡ true → nat_lt m.atom n ≡ true
-    → list_all (are_reserved n) (clause_of (k ∷ l ∷ m ∷ [])) ≡ true
-three-below n k l m p q r =
-    clause-below n (k ∷ l ∷ m ∷ [])
-    (and_from (nat_lt k.atom n) (are_reserved n (l ∷ m ∷ [])) p
-    (and_from (nat_lt l.atom n) (are_reserved n (m ∷ [])) q (and_from (nat_lt m.atom n) true r refl)))
-
--- those of an atom that names none but atoms before it
-pub gates-below : (rs : List Regex) (n i : ℕ) (a : AtomOver ℕ) → i < n → names_below i (over rs a) ≡ true
-    → list_all (are_reserved n) (clauses_of i a) ≡ true
-gates-below rs n i (bool_atom serial) low h = refl
-gates-below rs n i (in_atom ps r) low h = refl
-gates-below rs n i (le_atom x k) low h = refl
-gates-below rs n i (sum_atom k ss) low h = refl
-gates-below rs n i (and_atom ls) low h =
-    let own = lt-ltb i n low in
-    let all = literals-grown i n ls (omega (arith, low)) h in
-    both-below n (parts_of i ls) (clause_of (gate i true ∷ map negation ls)) (parts-below n i ls own all)
-    (clause-below n (gate i true ∷ map negation ls)
-    (and_from (nat_lt i n) (are_reserved n (map negation ls)) own (below_negations n ls ∙ all)))
-gates-below rs n i (iff_atom l m) low h =
-    let own = lt-ltb i n low in
+parts-below : (rs : List Regex) (n i : ℕ) (a : AtomOver ℕ) → i < n → names_below i (over rs a) ≡ true
+    → each-part (λ k. nat_lt k n) a ≡ true
+parts-below rs n i (bool_atom serial) low h = refl
+parts-below rs n i (in_atom ps r) low h = refl
+parts-below rs n i (le_atom x k) low h = refl
+parts-below rs n i (sum_atom k ss) low h = refl
+parts-below rs n i (and_atom ls) low h = literals-grown i n ls (omega (arith, low)) h
+parts-below rs n i (iff_atom l m) low h =
     let p = and_parts (nat_lt l.atom i) (nat_lt m.atom i) h in
-    let first = lower l.atom p.0 in
-    let second = lower m.atom p.1 in
-    both-below n (clause_of (gate i true ∷ l ∷ m ∷ [])) _ (three-below n (gate i true) l m own first second)
-    (both-below n (clause_of (gate i true ∷ negation l ∷ negation m ∷ [])) _
-    (three-below n (gate i true) (negation l) (negation m) own first second)
-    (both-below n (clause_of (gate i false ∷ negation l ∷ m ∷ [])) (clause_of (gate i false ∷ l ∷ negation m ∷ []))
-    (three-below n (gate i false) (negation l) m own first second)
-    (three-below n (gate i false) l (negation m) own first second)))
+    and_from (nat_lt l.atom n) (nat_lt m.atom n) (lower l.atom p.0) (lower m.atom p.1)
   where
     lower : (k : ℕ) → nat_lt k i ≡ true → nat_lt k n ≡ true
     lower k is = let less = ltb-true k i is in lt-ltb k n (omega (arith, less, low))
+
+-- those of an atom that names none but atoms before it
+gates-below : (rs : List Regex) (n i : ℕ) (a : AtomOver ℕ) → i < n → names_below i (over rs a) ≡ true
+    → list_all (are_reserved n) (clauses_of i a) ≡ true
+gates-below rs n i a low h = of-gate (λ k. nat_lt k n) i a (lt-ltb i n low) (parts-below rs n i a low h)
 
 pub are-gates : (atoms : List (AtomOver ℕ)) (cs : List (List Lit))
     → list_all (are_reserved (length atoms)) cs ≡ true → list_all are_ascending cs ≡ true
@@ -169,44 +100,35 @@ gate-follows exact gates asked kept rs atoms clause is h =
       is_free = λ c. refl;
     })
 
-pub gate-put : RuleLinesAreExact → GatesAreExact → (asked : Asked) (before : AllKept) (rs : List Regex) (memo : Memo)
-    (e f : Backing) (clause given : List Lit) (old new : Option (List ℕ)) → IsOfGates e.atoms clause
-    → list_all is_small_literal given ≡ true → given ≡ clause
-    → f ≡ record e { kept = e.kept ++ Some (record { literals = clause; level = 0 }) ∷ [] } → Backs rs memo e before
-    → new ≡ with_bytes (line (text_of (rule_line lines.gate given))) old
-    → EvidencesUncounted asked before rs memo f old new
-gate-put exact gates asked before rs memo e f clause given old new h smalls same is b told =
+pub gate-put : RuleLinesAreExact → GatesAreExact → (e f : Backing) (clause given : List Lit) (old new : Option (List ℕ))
+    → IsOfGates e.atoms clause → list_all is_small_literal given ≡ true → given ≡ clause
+    → f ≡ record e { kept = e.kept ++ at_bottom clause ∷ [] }
+    → new ≡ with_bytes (line (text_of (rule_line lines.gate given))) old → LeadsAlways e f old new
+gate-put exact gates e f clause given old new h smalls same is told = λ asked rs memo before b.
     subst (λ (x : Backing). EvidencesUncounted asked before rs memo x old new) (sym is) (record {
       after = with_clause before clause 0 [];
       puts = puts_one asked before (with_clause before clause 0 []) (rule_line lines.gate clause) old new
           (gate-follows exact gates asked before rs e.atoms clause b.atoms h)
           (ap (list_all is_small_literal) (sym same) ∙ smalls)
           (told ∙ ap (λ (ls : List Lit). with_bytes (line (text_of (rule_line lines.gate ls))) old) same);
-      backs = backs-gate rs memo e before clause [] b;
+      backs = backs-clause rs memo e before clause 0 [] e.asserted
+          (units-stay e.kept (record { literals = clause; level = 0 }) e.asserted b.asserted) b;
       counted = refl;
     })
 
 -- where more atoms have their gates
-pub gates-passed : (asked : Asked) (before : AllKept) (rs : List Regex) (memo : Memo) (e : Backing) (gates : ℕ)
-    (old new : Option (List ℕ)) → EvidencesUncounted asked before rs memo e old new
-    → EvidencesUncounted asked before rs memo (record e { gates = gates }) old new
-gates-passed asked before rs memo e gates old new h = record {
-  after = h.after;
-  puts = h.puts;
-  backs = record {
-    tracks = h.backs.tracks;
-    atoms = h.backs.atoms;
-    clauses = h.backs.clauses;
-    asserted = h.backs.asserted;
-  };
-  counted = h.counted;
-}
+pub gates-passed : (e f : Backing) (gates : ℕ) (old new : Option (List ℕ)) → LeadsAlways e f old new
+    → LeadsAlways e (record f { gates = gates }) old new
+gates-passed e f gates old new leads = λ asked rs memo before b.
+    let h = leads asked rs memo before b in
+    record {
+      after = h.after;
+      puts = h.puts;
+      backs = backs-beside rs memo f h.after f.refuted gates h.backs;
+      counted = h.counted;
+    }
 
 -- All clauses of an atom.
-
--- a clause at level 0
-abbrev pub at_bottom : List Lit → Option KeptClause
-at_bottom ls = Some (record { literals = ls; level = 0 })
 
 kept-behind : (kept : Kept) (cs : List (List Lit)) (c : List Lit) → Contains cs c
     → (id : ℕ) × (kept_at (kept ++ map at_bottom cs) id ≡ at_bottom c)
@@ -217,13 +139,27 @@ kept-behind [] (d ∷ cs) c among = elim (cons-cases d cs c among) [
   | inr more ↦ let it = kept-behind [] cs c more in (suc it.0, it.1)
 ]
 
-pub kept-more : (old mid new : Kept) (cs : List (List Lit)) (i : ℕ) (c : List Lit)
-    → take (i + 1) cs ≡ take i cs ++ c ∷ [] → mid ≡ old ++ map at_bottom (take i cs) → new ≡ mid ++ at_bottom c ∷ []
-    → new ≡ old ++ map at_bottom (take (i + 1) cs)
-kept-more old mid new cs i c more before now =
-    now ∙ ap (λ (k : Kept). k ++ at_bottom c ∷ []) before
-    ∙ append_assoc old (map at_bottom (take i cs)) (at_bottom c ∷ [])
-    ∙ ap (λ (k : Kept). old ++ k) (sym (ap (map at_bottom) more ∙ map-append at_bottom (take i cs) (c ∷ [])))
+-- nothing else is other than before
+pub kept-alone : (e f : Backing) (kept : Kept) → f ≡ record e { kept = kept } → f ≡ record e { kept = f.kept }
+kept-alone e f kept is = is ∙ ap (λ (k : Kept). record e { kept = k }) (sym (ap (λ (x : Backing). x.kept) is))
+
+pub gates-alone : (e f : Backing) (kept : Kept) (gates : ℕ) → f ≡ record e { kept = kept; gates = gates }
+    → f ≡ record e { kept = f.kept; gates = f.gates }
+gates-alone e f kept gates is = is ∙ ap (λ (x : Backing). record e { kept = x.kept; gates = x.gates }) (sym is)
+
+pub gates-alone-both : (e f g : Backing) → f ≡ record e { kept = f.kept; gates = f.gates }
+    → g ≡ record f { kept = g.kept; gates = g.gates } → g ≡ record e { kept = g.kept; gates = g.gates }
+gates-alone-both e f g p q = q ∙ ap (λ (x : Backing). record x { kept = g.kept; gates = g.gates }) p
+
+pub kept-more : (e mid new : Backing) (cs : List (List Lit)) (i : ℕ) (c : List Lit)
+    → take (i + 1) cs ≡ take i cs ++ c ∷ [] → mid ≡ record e { kept = e.kept ++ map at_bottom (take i cs) }
+    → new ≡ record mid { kept = mid.kept ++ at_bottom c ∷ [] }
+    → new ≡ record e { kept = e.kept ++ map at_bottom (take (i + 1) cs) }
+kept-more e mid new cs i c more before now =
+    now ∙ ap (λ (f : Backing). record f { kept = f.kept ++ at_bottom c ∷ [] }) before
+    ∙ ap (λ (k : Kept). record e { kept = k })
+    (append_assoc e.kept (map at_bottom (take i cs)) (at_bottom c ∷ [])
+    ∙ ap (λ (k : Kept). e.kept ++ k) (sym (ap (map at_bottom) more ∙ map-append at_bottom (take i cs) (c ∷ []))))
 
 pub has-gates : (atoms : List (AtomOver ℕ)) (i : ℕ) (old new : Kept) (cs : List (List Lit))
     → cs ≡ clauses_of i (atom_at atoms i) → new ≡ old ++ map at_bottom cs → HasGatesOf i atoms new

@@ -1,11 +1,12 @@
+mod Words
 pub mod Clauses
 pub mod Places
 pub mod Backs
+pub mod Lowest
 pub mod Holding
-pub mod LinesPut
+pub mod Exits
+pub mod GateLiterals
 pub mod GateLines
 pub mod DefinedAtoms
 pub mod Asserting
-pub mod Standing
-pub mod Lowest
 pub mod CallerLemmas

@@ -1,143 +1,92 @@
 -- The empty clause of the lowest level.
-use Rattle.std.proofs.Common.{◌≡◌, ℕ, zero, suc, ◌+◌, ◌<◌, ◌≤◌, ◌⊎◌, inl, inr, Bool, true, false, nat_lt, if◌then◌else◌, List, [], ◌∷◌, length, take, Option, Some, None, refl, sym, ap, subst, ◌∙◌, arith}
-use Rattle.std.proofs.lemmas.Bool.{ltb-true}
-use Rattle.std.proofs.lemmas.Bool.Decides.{nat_tests}
-use Rattle.std.proofs.lemmas.Option.{same_Some, none-some}
-use Rattle.sb_lit.specs.Kept.{Kept, KeptClause, kept_at}
-use Rattle.sb_clauses.specs.Propagation.{has_room_for}
-use Rattle.sb_rulebook.specs.Atoms.{AtomOver}
-use Rattle.sb_refute.specs.declared.evidence.Asserted.{Asserted}
-use Rattle.sb_refute.specs.declared.evidence.EmptyClause.{EmptyClause}
-use Rattle.sb_refute.specs.Backing.{IsLowestEmpty, empty_at}
-use Rattle.sb_refute.specs.Lines.{IsLowestBefore, IsEmptyOf, lower_of}
-use Rattle.sb_refute.specs.Standing.{Stand}
-use Rattle.sb_refute.proofs.Clauses.{none-kept}
+use Rattle.sb_refute.proofs.Words.{kept_at-up_to, ◌≡◌, ℕ, ◌+◌, ◌<◌, ◌≤◌, inl, inr, Bool, true, false, nat_lt, if◌then◌else◌, [], ◌∷◌, ◌++◌, length, take, Option, Some, None, refl, sym, ap, subst, ◌∙◌, arith, ◌≢◌, ltb-true, nat_tests, length-take-le, take_more, same_Some, unwrap_or-slice_get, Kept, KeptClause, kept_at, kept_up_to, EmptyClause, IsLowestEmpty, empty_at, refuted_up_to, IsEmptyOf, lower_of}
+use Rattle.sb_refute.proofs.Clauses.{kept-stays, kept-cases, stays, kept-last}
 
-before-or-at : (id n : ℕ) → id < n + 1 → (id < n) ⊎ (id ≡ n)
-before-or-at id n h = step (nat_lt id n) refl
-  where
-    step : (b : Bool) → nat_lt id n ≡ b → (id < n) ⊎ (id ≡ n)
-    step true is = inl (ltb-true id n is)
-    step false is = inr (grind (arith, nat_tests, h))
+-- With one more behind the others.
 
--- Clauses before a number.
-
-in-front : (kept : Kept) (n id : ℕ) (c : KeptClause) → id < n → kept_at kept id ≡ Some c
-    → kept_at (take n kept) id ≡ Some c
-in-front [] n id c low h = absurd (none-kept id c h)
-in-front (k ∷ ks) zero id c low h = absurd (omega (arith, low))
-in-front (k ∷ ks) (suc n) zero c low h = h
-in-front (k ∷ ks) (suc n) (suc id) c low h = in-front ks n id c (omega (arith, low)) h
-
-of-front : (kept : Kept) (n id : ℕ) (c : KeptClause) → kept_at (take n kept) id ≡ Some c → kept_at kept id ≡ Some c
-of-front [] zero id c h = absurd (none-kept id c h)
-of-front [] (suc n) id c h = absurd (none-kept id c h)
-of-front (k ∷ ks) zero id c h = absurd (none-kept id c h)
-of-front (k ∷ ks) (suc n) zero c h = h
-of-front (k ∷ ks) (suc n) (suc id) c h = of-front ks n id c h
-
-kept-within : (kept : Kept) (id : ℕ) (c : KeptClause) → kept_at kept id ≡ Some c → id < length kept
-kept-within [] id c h = absurd (none-kept id c h)
-kept-within (k ∷ ks) zero c h = omega arith
-kept-within (k ∷ ks) (suc id) c h = let low = kept-within ks id c h in omega (arith, low)
-
--- One after the other.
-
-same-level : (kept : Kept) (n id : ℕ) (empty : EmptyClause) (c : KeptClause) → kept_at kept n ≡ Some (empty_at empty)
-    → id ≡ n → kept_at kept id ≡ Some c → empty.level ≡ c.level
-same-level kept n id empty c here same there =
-    ap (λ (k : KeptClause). k.level)
-    (same_Some (empty_at empty) c (sym here ∙ (ap (kept_at kept) (sym same) ∙ there)))
-
-pub lower-one : (kept : Kept) (n : ℕ) (one other : Option EmptyClause) → IsLowestBefore n kept one
-    → IsEmptyOf kept n other → IsLowestBefore (n + 1) kept (lower_of one other)
-lower-one kept n None None first second = λ id c low there.
-    elim (before-or-at id n low) [
-      | inl before ↦ first id c before there
-      | inr same ↦ second c (ap (kept_at kept) (sym same) ∙ there)
-    ]
-lower-one kept n None (Some new) first second = (
-  ap (kept_at kept) second.0 ∙ second.1,
-  λ id c low there bare. elim (before-or-at id n low) [
-    | inl before ↦ absurd (first id c before there bare)
-    | inr same ↦ let level = same-level kept n id new c second.1 same there in omega (arith, level)
+-- where it is the lowest one,
+last-lowest : (kept : Kept) (x : Option KeptClause) (new : EmptyClause) → IsEmptyOf (length kept) x (Some new)
+    → ((id : ℕ) (c : KeptClause) → kept_at kept id ≡ Some c → c.literals ≡ [] → new.level ≤ c.level)
+    → IsLowestEmpty (kept ++ x ∷ []) (Some new)
+last-lowest kept x new is low = (
+  ap (kept_at (kept ++ x ∷ [])) is.0 ∙ kept-last kept x ∙ is.1,
+  λ id c there bare. elim (kept-cases kept x id c there) [
+    | inl before ↦ low id c before bare
+    | inr last ↦
+        let level = ap (λ (k : KeptClause). k.level) (same_Some (empty_at new) c (sym is.1 ∙ last.1)) in
+        omega (arith, level)
   ],
 )
-lower-one kept n (Some old) None first second = (
-  first.0,
-  λ id c low there bare. elim (before-or-at id n low) [
-    | inl before ↦ first.1 id c before there bare
-    | inr same ↦ absurd (second c (ap (kept_at kept) (sym same) ∙ there) bare)
+
+-- and where it is not
+still-lowest : (kept : Kept) (x : Option KeptClause) (old : EmptyClause) → IsLowestEmpty kept (Some old)
+    → ((c : KeptClause) → x ≡ Some c → c.literals ≡ [] → old.level ≤ c.level)
+    → IsLowestEmpty (kept ++ x ∷ []) (Some old)
+still-lowest kept x old h low = (
+  kept-stays kept x old.clause.0 (empty_at old) h.0,
+  λ id c there bare. elim (kept-cases kept x id c there) [
+    | inl before ↦ h.1 id c before bare
+    | inr last ↦ low c last.1 bare
   ],
 )
-lower-one kept n (Some old) (Some new) first second = step (nat_lt new.level old.level) refl
+
+pub lower-one : (kept : Kept) (x : Option KeptClause) (one other : Option EmptyClause) → IsLowestEmpty kept one
+    → IsEmptyOf (length kept) x other → IsLowestEmpty (kept ++ x ∷ []) (lower_of one other)
+lower-one kept x None None first second = λ id c there. elim (kept-cases kept x id c there) [
+  | inl before ↦ first id c before
+  | inr last ↦ second c last.1
+]
+lower-one kept x None (Some new) first second =
+    last-lowest kept x new second (λ id c before bare. absurd (first id c before bare))
+lower-one kept x (Some old) None first second = still-lowest kept x old first (λ c is bare. absurd (second c is bare))
+lower-one kept x (Some old) (Some new) first second = step (nat_lt new.level old.level) refl
   where
     step : (b : Bool) → nat_lt new.level old.level ≡ b
-        → IsLowestBefore (n + 1) kept (if b then Some new else Some old)
+        → IsLowestEmpty (kept ++ x ∷ []) (if b then Some new else Some old)
     step true is =
-        let lower : new.level < old.level = ltb-true new.level old.level is in (
-          ap (kept_at kept) second.0 ∙ second.1,
-          λ id c low there bare. elim (before-or-at id n low) [
-            | inl before ↦ let high = first.1 id c before there bare in omega (arith, high, lower)
-            | inr same ↦ let level = same-level kept n id new c second.1 same there in omega (arith, level)
-          ],
-        )
+        let lower : new.level < old.level = ltb-true new.level old.level is in
+        last-lowest kept x new second
+        (λ id c before bare. let high = first.1 id c before bare in omega (arith, high, lower))
     step false is =
-        let lower : old.level ≤ new.level = grind (arith, nat_tests) in (
-          first.0,
-          λ id c low there bare. elim (before-or-at id n low) [
-            | inl before ↦ first.1 id c before there bare
-            | inr same ↦
-                let level = same-level kept n id new c second.1 same there in omega (arith, level, lower)
-          ],
+        let lower : old.level ≤ new.level = grind (arith, nat_tests) in
+        still-lowest kept x old first
+        (λ c there bare.
+        let level = ap (λ (k : KeptClause). k.level) (same_Some (empty_at new) c (sym second.1 ∙ there)) in
+        omega (arith, level, lower))
+
+pub lowest-next : (kept : Kept) (n : ℕ) (one other : Option EmptyClause) → n < length kept
+    → IsLowestEmpty (take n kept) one → IsEmptyOf n (kept_at kept n) other
+    → IsLowestEmpty (take (n + 1) kept) (lower_of one other)
+lowest-next kept n one other low first second =
+    subst (λ (k : Kept). IsLowestEmpty k (lower_of one other))
+    (sym (take_more kept n None low ∙ ap (λ x. take n kept ++ x ∷ []) (sym (unwrap_or-slice_get kept n None))))
+    (lower-one (take n kept) (kept_at kept n) one other first
+    (subst (λ (m : ℕ). IsEmptyOf m (kept_at kept n) other) (sym (length-take-le n kept (omega (arith, low)))) second))
+
+-- one that has literals
+pub lowest-more : (kept : Kept) (clause : KeptClause) (r : Option EmptyClause) → clause.literals ≢ []
+    → IsLowestEmpty kept r → IsLowestEmpty (kept ++ Some clause ∷ []) r
+lowest-more kept clause None some h = lower-one kept (Some clause) None None h
+    (λ c is. subst (λ (k : KeptClause). k.literals ≢ []) (same_Some clause c is) some)
+lowest-more kept clause (Some old) some h = lower-one kept (Some clause) (Some old) None h
+    (λ c is. subst (λ (k : KeptClause). k.literals ≢ []) (same_Some clause c is) some)
+
+-- Where levels are left.
+
+pub lowest-left : (level : ℕ) (kept : Kept) (r : Option EmptyClause) → IsLowestEmpty kept r
+    → IsLowestEmpty (kept_up_to level kept) (refuted_up_to level r)
+lowest-left level kept None h = λ id c there. h id c (kept_at-up_to level kept id c there).0
+lowest-left level kept (Some empty) h = step (nat_lt level empty.level) refl
+  where
+    step : (b : Bool) → nat_lt level empty.level ≡ b
+        → IsLowestEmpty (kept_up_to level kept) (if b then None else Some empty)
+    step true is = λ id c there bare.
+        let before = kept_at-up_to level kept id c there in
+        let lower : empty.level ≤ c.level = h.1 id c before.0 bare in
+        let low : c.level ≤ level = before.1 in
+        let above : level < empty.level = ltb-true level empty.level is in omega (arith, lower, low, above)
+    step false is =
+        let low : empty.level ≤ level = grind (arith, nat_tests) in (
+          stays level kept empty.clause.0 (empty_at empty) h.0 low,
+          λ id c there bare. h.1 id c (kept_at-up_to level kept id c there).0 bare,
         )
-
-pub lowest-all : (kept : Kept) (n : ℕ) (found : Option EmptyClause) → length kept ≤ n → IsLowestBefore n kept found
-    → IsLowestEmpty kept found
-lowest-all kept n None all h = λ id c there.
-    let low = kept-within kept id c there in h id c (omega (arith, low, all)) there
-lowest-all kept n (Some empty) all h = (
-  h.0,
-  λ id c there bare. let low = kept-within kept id c there in h.1 id c (omega (arith, low, all)) there bare,
-)
-
--- What stands before others.
-
-pub lowest-first : (atoms : List (AtomOver ℕ)) (kept : Kept) (asserted : List (Option Asserted))
-    (found : Option EmptyClause) (gates n : ℕ) → Stand atoms (take n kept) asserted found gates
-    → IsLowestBefore n kept found
-lowest-first atoms kept asserted None gates n h = λ id c low there bare.
-    let it = h.alone id c (in-front kept n id c low there) bare in none-some it.0 it.1
-lowest-first atoms kept asserted (Some empty) gates n h = (
-  of-front kept n empty.clause.0 (empty_at empty) (h.refuted empty refl),
-  λ id c low there bare.
-      let it = h.alone id c (in-front kept n id c low there) bare in
-      subst (λ (x : EmptyClause). x.level ≤ c.level) (sym (same_Some empty it.0 it.1)) it.2,
-)
-
-pub stand-found : (atoms : List (AtomOver ℕ)) (kept : Kept) (asserted : List (Option Asserted))
-    (old new : Option EmptyClause) (gates n : ℕ) → has_room_for (length atoms) kept ≡ true → IsLowestEmpty kept new
-    → Stand atoms (take n kept) asserted old gates → Stand atoms kept asserted new gates
-stand-found atoms kept asserted old None gates n known lowest h = record {
-  of_atoms = h.of_atoms;
-  earlier = h.earlier;
-  known = known;
-  refuted = λ empty there. absurd (none-some empty there);
-  alone = λ id c there bare. absurd (lowest id c there bare);
-  gates_known = h.gates_known;
-  gated = λ i low a clause named among.
-      let it = h.gated i low a clause named among in
-      (it.0, of-front kept n it.0 (record { literals = clause; level = 0 }) it.1);
-}
-stand-found atoms kept asserted old (Some new) gates n known lowest h = record {
-  of_atoms = h.of_atoms;
-  earlier = h.earlier;
-  known = known;
-  refuted = λ empty there.
-      subst (λ (x : EmptyClause). kept_at kept x.clause.0 ≡ Some (empty_at x)) (same_Some new empty there) lowest.0;
-  alone = λ id c there bare. (new, refl, lowest.1 id c there bare);
-  gates_known = h.gates_known;
-  gated = λ i low a clause named among.
-      let it = h.gated i low a clause named among in
-      (it.0, of-front kept n it.0 (record { literals = clause; level = 0 }) it.1);
-}

@@ -1,7 +1,8 @@
--- Private: what makes the lines of atoms and of assertions follow, where these are kept, and the empty clause of the
--- lowest level.
-use Rattle.std.specs.Prelude.{◌≡◌, ◌≢◌, ℕ, ◌<◌, ◌≤◌, zero, suc, true, nat_lt, if◌then◌else◌, List, [], ◌∷◌, length, slice_get, Option, Some, None}
-use Rattle.sb_lit.specs.Kept.{Kept, KeptClause, kept_at}
+-- Private: what the calls that put lines of atoms, gates and assertions come to, where assertions are kept, and the
+-- empty clause of the lowest level.
+use Rattle.std.specs.Prelude.{◌≡◌, ◌≢◌, ℕ, ◌≤◌, zero, suc, true, nat_lt, if◌then◌else◌, List, [], ◌∷◌, length, take, slice_get, Option, Some, None, option_map, IfSome, Result, Ok, Err}
+use Rattle.std.specs.Result.{IfOk}
+use Rattle.sb_lit.specs.Kept.{KeptClause}
 use Rattle.sb_lang.specs.Regex.{Regex}
 use Rattle.sb_lit.specs.Clauses.{are_ascending}
 use Rattle.sb_lit.specs.declared.clause.Lit.{Lit}
@@ -14,11 +15,13 @@ use Rattle.sb_rulebook.specs.Brought.{is_brought}
 use Rattle.sb_rulebook.specs.Gates.{is_gate}
 use Rattle.sb_rulebook.specs.Kept.{AllKept, Asked}
 use Rattle.sb_rulebook.specs.Lines.{atom_line}
+use Rattle.sb_rulebook.specs.LineLaws.{atom_has_text}
 use Rattle.sb_rulebook.specs.Translation.{translation}
 use Rattle.sb_atoms.specs.Numbered.{Names, over, atoms_in}
-use Rattle.sb_trace.specs.Putting.{Puts}
-use Rattle.sb_trace.specs.Tracking.{Traced, Tracks, TracesUncounted}
-use Rattle.sb_refute.specs.Backing.{empty_at}
+use Rattle.sb_proof.specs.declared.tape.TapeFault.{TapeFault}
+use Rattle.sb_trace.specs.Putting.{CountsTapeFault}
+use Rattle.sb_trace.specs.Tracking.{Traced, TracesUncounted}
+use Rattle.sb_refute.specs.Backing.{Backing, Backs, EvidencesUncounted, HasGates, KeepsAsserted, asserted_at, empty_at}
 use Rattle.sb_refute.specs.declared.evidence.Asserted.{Asserted}
 use Rattle.sb_refute.specs.declared.evidence.EmptyClause.{EmptyClause}
 
@@ -28,6 +31,17 @@ abbrev pub AreDue : Asked → ℕ → List (AtomOver ℕ) → Type 0
 AreDue asked known atoms = (i : ℕ) (a : AtomOver ℕ) → known ≤ i → Names atoms i a → (is_well_formed a ≡ true)
     × ((before : List Atom) → length before ≡ i → has_its_parts asked.sorts before a ≡ true)
 
+-- A call on a tape: P of what it answers, Q whatever it answers, and a fault was counted.
+pub record Called {A : Type 0} (result : Result A TapeFault) (P : A → Type 0) (Q : Type 0) (old new : ℕ) : Type 0 where
+  pub ok : IfOk result P
+  pub rest : Q
+  pub counts : CountsTapeFault result old new
+
+-- what a call makes of a value: that one where it answers, and nothing else where it fails
+abbrev pub Becomes : {T E X : Type 0} → Result T E → X → X → X → Type 0
+Becomes (Ok t) old new that = new ≡ that
+Becomes (Err e) old new that = new ≡ old
+
 -- An atom as its line has it, behind the lines of its regex.
 pub record IsLineOf (asked : Asked) (before : AllKept) (rs : List Regex) (memo : Memo) (t : Traced)
     (a line : AtomOver ℕ) (old new : Option (List ℕ)) : Type 0
@@ -36,17 +50,19 @@ pub record IsLineOf (asked : Asked) (before : AllKept) (rs : List Regex) (memo :
     pub defined : with_regex traced.0.regexes line ≡ Some (over rs a)
     pub brought : is_brought (atom_line line) ≡ true
     pub parts : (sorts : List Sort) (atoms : List Atom) → has_its_parts sorts atoms line ≡ has_its_parts sorts atoms a
+    pub text : atom_has_text line ≡ true
 
--- The lines of atoms were put, and follow.
-pub record Defines (asked : Asked) (before : AllKept) (rs : List Regex) (memo : Memo) (t : Traced)
-    (atoms : List (AtomOver ℕ)) (old new : Option (List ℕ)) : Type 0
-  where
-    pub after : AllKept
-    pub puts : Puts asked before after old new
-    pub tracks : Tracks rs memo t after
-    pub known : after.atoms ≡ atoms_in rs atoms
-    pub clauses : after.clauses ≡ before.clauses
-    pub counted : after.counted ≡ before.counted
+-- the line is that of the atom, which names no regex
+abbrev pub IsWritten : AtomOver ℕ → AtomOver ℕ → Type 0
+IsWritten a line = (line ≡ a) × (atom_has_text line ≡ true)
+
+-- Lines lead from one evidence to another: what a reader keeps that backs the one is followed by what backs the other.
+abbrev pub Leads : Asked → List Regex → Memo → Backing → Backing → Option (List ℕ) → Option (List ℕ) → Type 0
+Leads asked rs memo e f old new =
+    (before : AllKept) → Backs rs memo e before → EvidencesUncounted asked before rs memo f old new
+
+abbrev pub LeadsAlways : Backing → Backing → Option (List ℕ) → Option (List ℕ) → Type 0
+LeadsAlways e f old new = (asked : Asked) (rs : List Regex) (memo : Memo) → Leads asked rs memo e f old new
 
 -- The clause is one of gates of these atoms, and its literals ascend.
 pub record IsOfGates (atoms : List (AtomOver ℕ)) (clause : List Lit) : Type 0 where
@@ -54,11 +70,41 @@ pub record IsOfGates (atoms : List (AtomOver ℕ)) (clause : List Lit) : Type 0 
   pub ascends : are_ascending clause ≡ true
   pub gate : (rs : List Regex) → is_gate (atoms_in rs atoms) clause ≡ true
 
+-- a clause at level 0
+abbrev pub at_bottom : List Lit → Option KeptClause
+at_bottom ls = Some (record { literals = ls; level = 0 })
+
 -- The literal is that of the live assertion of the place, on this level.
-pub record IsAssertion (asked : Asked) (kept : AllKept) (place : ℕ) (l : Lit) (level : ℕ) : Type 0 where
+pub record IsAssertion (asked : Asked) (atoms : List Atom) (place : ℕ) (l : Lit) (level : ℕ) : Type 0 where
   pub term : Term
   pub live : slice_get asked.live place ≡ Some (Some term, level)
-  pub literal : translation kept.atoms term ≡ Some l
+  pub literal : translation atoms term ≡ Some l
+
+-- so lines lead on, where the literal is the assertion's, if it has one,
+abbrev pub LeadsClaimed : ℕ → Option Lit → ℕ → Backing → Backing → Option (List ℕ) → Option (List ℕ) → Type 0
+LeadsClaimed place literal level e f old new = (asked : Asked) (rs : List Regex) (memo : Memo)
+    → IfSome literal (λ l. IsAssertion asked (atoms_in rs e.atoms) place l level) → Leads asked rs memo e f old new
+
+-- and from the atoms before a number alone, where the others are due
+abbrev pub LeadsFrom : List Regex → ℕ → ℕ → Option Lit → ℕ → Backing → Backing → Option (List ℕ) → Option (List ℕ)
+    → Type 0
+LeadsFrom rs known place literal level e f old new = (asked : Asked) (memo : Memo) → AreDue asked known e.atoms
+    → IfSome literal (λ l. IsAssertion asked (atoms_in rs e.atoms) place l level)
+    → Leads asked rs memo (record e { atoms = take known e.atoms }) f old new
+
+-- What is answered is the clause of the assertion at the place, of this literal and level, if it has one. The clause
+-- that stood there stays if it was of these, and so do those of other places.
+pub record IsClaimed (Puts : Type 0) (place : ℕ) (literal : Option Lit) (level : ℕ) (e f : Backing)
+    (found : Option Asserted) : Type 0
+  where
+    pub puts : Puts
+    pub asserted : found ≡ asserted_at f.asserted place
+    pub literal_is : option_map (λ a. a.literal) found ≡ literal
+    pub level_is : IfSome found (λ a. a.level ≡ level)
+    pub stays : IfSome (asserted_at e.asserted place) (λ a. (a.level ≡ level) × (Some a.literal ≡ literal))
+        → KeepsAsserted e f
+    pub others : (other : ℕ) → other ≢ place → asserted_at f.asserted other ≡ asserted_at e.asserted other
+    pub gated : HasGates f.gates f.atoms f.kept
 
 -- the places with an assertion more
 abbrev pub placed : List (Option Asserted) → ℕ → Option Asserted → List (Option Asserted)
@@ -72,19 +118,10 @@ abbrev pub IsStanding : Option Asserted → Lit → ℕ → Option Asserted → 
 IsStanding at l level (Some a) = (at ≡ Some a) × (a.literal ≡ l) × (a.level ≡ level)
 IsStanding at l level None = (a : Asserted) → at ≡ Some a → a.literal ≡ l → a.level ≡ level → ⊥
 
--- it is a kept clause without literals, and none of those before the number is of a lower level; none only where each of
--- these has literals
-abbrev pub IsLowestBefore : ℕ → Kept → Option EmptyClause → Type 0
-IsLowestBefore n kept None = (id : ℕ) (clause : KeptClause) → id < n → kept_at kept id ≡ Some clause
-    → clause.literals ≢ []
-IsLowestBefore n kept (Some empty) = (kept_at kept empty.clause.0 ≡ Some (empty_at empty))
-    × ((id : ℕ) (clause : KeptClause) → id < n → kept_at kept id ≡ Some clause → clause.literals ≡ []
-    → empty.level ≤ clause.level)
-
 -- the clause of the number, if it has no literals
-abbrev pub IsEmptyOf : Kept → ℕ → Option EmptyClause → Type 0
-IsEmptyOf kept n None = (clause : KeptClause) → kept_at kept n ≡ Some clause → clause.literals ≢ []
-IsEmptyOf kept n (Some empty) = (empty.clause.0 ≡ n) × (kept_at kept n ≡ Some (empty_at empty))
+abbrev pub IsEmptyOf : ℕ → Option KeptClause → Option EmptyClause → Type 0
+IsEmptyOf n kept None = (clause : KeptClause) → kept ≡ Some clause → clause.literals ≢ []
+IsEmptyOf n kept (Some empty) = (empty.clause.0 ≡ n) × (kept ≡ Some (empty_at empty))
 
 -- the one of the lower level
 abbrev pub lower_of : Option EmptyClause → Option EmptyClause → Option EmptyClause

@@ -1,6 +1,6 @@
 //! The lines of atoms.
 
-ghost use Rattle.std.specs.Prelude.{◌≡◌, ◌<◌, ◌≤◌, ◌+◌, ◌∷◌, ℕ, [], true, length, take, map, IfOk, OnOk};
+ghost use Rattle.std.specs.Prelude.{◌≡◌, ◌<◌, ◌+◌, ◌∷◌, [], true, length, take, map, IfOk, OnOk};
 ghost use Rattle.std.specs.List.{list_all};
 ghost use Rattle.sb_script.specs.Pieces.{constant_piece};
 ghost use Rattle.sb_script.specs.Steps.{line as ended};
@@ -10,11 +10,12 @@ ghost use Rattle.sb_deriv.specs.Faithful.{Memo};
 ghost use Rattle.sb_rulebook.specs.Atoms.{bool_atom, in_atom, and_atom, iff_atom};
 ghost use Rattle.sb_rulebook.specs.Kept.{AllKept, Asked};
 ghost use Rattle.sb_rulebook.specs.Lines.{text_of};
-ghost use Rattle.sb_rulebook.specs.LineLaws.{atom_has_text, is_small_literal};
-ghost use Rattle.sb_atoms.specs.Numbered.{atom_in, atoms_in, HasRegexBelow, HaveRegexesBelow};
+ghost use Rattle.sb_rulebook.specs.LineLaws.{is_small_literal};
+ghost use Rattle.sb_atoms.specs.Numbered.{atom_in, HasRegexBelow, HaveRegexesBelow};
 ghost use Rattle.sb_trace.specs.Putting.{CountsTapeFault};
 ghost use Rattle.sb_trace.specs.Tracking.{StaysNumbered, Tracks};
-ghost use Rattle.sb_refute.specs.Lines.{AreDue, IsLineOf, Defines};
+ghost use Rattle.sb_refute.specs.Backing.{Backing};
+ghost use Rattle.sb_refute.specs.Lines.{AreDue, Called, IsLineOf, IsWritten, Leads};
 
 use sb_atoms::{Atom, AtomId, Atoms};
 use sb_lang::order::order_tells_apart;
@@ -35,12 +36,11 @@ pub(crate) fn define_atoms<L: Tape>(
     tape: &mut L,
 ) -> Result<(), TapeFault>
     requires regexes { HaveRegexesBelow (length arena.now) atoms.now }
-    ensures puts { OnOk result ((asked : Asked) (memo : Memo) (before : AllKept) → AreDue asked known atoms.now
-        → known ≤ length atoms.now → Tracks arena.now memo trace.old before
-        → before.atoms ≡ atoms_in arena.now (take known atoms.now)
-        → Defines asked before arena.now memo trace.new atoms.now (L.Tape.told tape.old) (L.Tape.told tape.new)) }
-    ensures numbers_stay { StaysNumbered trace.old trace.new }
-    ensures counts { CountsTapeFault result (L.Tape.faults tape.old) (L.Tape.faults tape.new) }
+    ensures { Called result
+        (λ _. (asked : Asked) (memo : Memo) (e : Backing) → AreDue asked known atoms.now
+        → Leads asked arena.now memo (record e { trace = trace.old; atoms = take known atoms.now })
+        (record e { trace = trace.new; atoms = atoms.now }) (L.Tape.told tape.old) (L.Tape.told tape.new))
+        (StaysNumbered trace.old trace.new) (L.Tape.faults tape.old) (L.Tape.faults tape.new) }
 {
     let mut number = known;
     while number < atoms.len() {
@@ -61,12 +61,12 @@ fn define_atom<L: Tape>(
 ) -> Result<(), TapeFault>
     requires inside { number < length atoms.now }
     requires regexes { HaveRegexesBelow (length arena.now) atoms.now }
-    ensures puts { OnOk result ((asked : Asked) (memo : Memo) (before : AllKept) → AreDue asked number atoms.now
-        → Tracks arena.now memo trace.old before → before.atoms ≡ atoms_in arena.now (take number atoms.now)
-        → Defines asked before arena.now memo trace.new (take (number + 1) atoms.now) (L.Tape.told tape.old)
-        (L.Tape.told tape.new)) }
-    ensures numbers_stay { StaysNumbered trace.old trace.new }
-    ensures counts { CountsTapeFault result (L.Tape.faults tape.old) (L.Tape.faults tape.new) }
+    ensures { Called result
+        (λ _. (asked : Asked) (memo : Memo) (e : Backing) → AreDue asked number atoms.now
+        → Leads asked arena.now memo (record e { trace = trace.old; atoms = take number atoms.now })
+        (record e { trace = trace.new; atoms = take (number + 1) atoms.now }) (L.Tape.told tape.old)
+        (L.Tape.told tape.new))
+        (StaysNumbered trace.old trace.new) (L.Tape.faults tape.old) (L.Tape.faults tape.new) }
 {
     order_tells_apart();
     arena.normal_regexes_each_once();
@@ -97,13 +97,11 @@ fn line_of<L: Tape>(
     tape: &mut L,
 ) -> Result<ProofAtom, TapeFault>
     requires { HasRegexBelow (length arena.now) (atom_in atom.now) }
-    ensures puts { IfOk result (λ line. (asked : Asked) (memo : Memo) (before : AllKept)
-        → Tracks arena.now memo trace.old before
-        → IsLineOf asked before arena.now memo trace.new (atom_in atom.now) (line_atom line)
-        (L.Tape.told tape.old) (L.Tape.told tape.new)) }
-    ensures text { IfOk result (λ line. atom_has_text (line_atom line) ≡ true) }
-    ensures numbers_stay { StaysNumbered trace.old trace.new }
-    ensures counts { CountsTapeFault result (L.Tape.faults tape.old) (L.Tape.faults tape.new) }
+    ensures { Called result
+        (λ line. (asked : Asked) (memo : Memo) (before : AllKept) → Tracks arena.now memo trace.old before
+        → IsLineOf asked before arena.now memo trace.new (atom_in atom.now) (line_atom line) (L.Tape.told tape.old)
+        (L.Tape.told tape.new))
+        (StaysNumbered trace.old trace.new) (L.Tape.faults tape.old) (L.Tape.faults tape.new) }
 {
     match atom {
         Atom::Bool(serial) => Ok(constant_line(*serial)),
@@ -123,13 +121,11 @@ fn member_line<L: Tape>(
     tape: &mut L,
 ) -> Result<ProofAtom, TapeFault>
     requires { regex < length arena.now }
-    ensures puts { IfOk result (λ line. (asked : Asked) (memo : Memo) (before : AllKept)
-        → Tracks arena.now memo trace.old before
+    ensures { Called result
+        (λ line. (asked : Asked) (memo : Memo) (before : AllKept) → Tracks arena.now memo trace.old before
         → IsLineOf asked before arena.now memo trace.new (in_atom (constant_piece serial.0 ∷ []) regex)
-        (line_atom line) (L.Tape.told tape.old) (L.Tape.told tape.new)) }
-    ensures text { IfOk result (λ line. atom_has_text (line_atom line) ≡ true) }
-    ensures numbers_stay { StaysNumbered trace.old trace.new }
-    ensures counts { CountsTapeFault result (L.Tape.faults tape.old) (L.Tape.faults tape.new) }
+        (line_atom line) (L.Tape.told tape.old) (L.Tape.told tape.new))
+        (StaysNumbered trace.old trace.new) (L.Tape.faults tape.old) (L.Tape.faults tape.new) }
 {
     let number = trace.number(arena, regex, tape)?;
     let pieces = constant(alloc, serial)?;
@@ -147,24 +143,21 @@ fn constant(alloc: Global, serial: Serial) -> Result<Vec<Piece>, AllocError>
 
 /// That a constant is true.
 fn constant_line(serial: Serial) -> ProofAtom
-    ensures is { line_atom result ≡ bool_atom serial.0 }
-    ensures text { atom_has_text (line_atom result) ≡ true }
+    ensures { IsWritten (bool_atom serial.0) (line_atom result) }
 {
     ProofAtom::Bool(serial.0)
 }
 
 /// That two literals are both true or both false.
 fn equivalence_line(one: Lit, other: Lit) -> ProofAtom
-    ensures is { line_atom result ≡ iff_atom one other }
-    ensures text { atom_has_text (line_atom result) ≡ true }
+    ensures { IsWritten (iff_atom one other) (line_atom result) }
 {
     ProofAtom::Iff(one, other)
 }
 
 /// The conjunction of literals.
 fn conjunction_line(alloc: Global, literals: &[Lit]) -> Result<ProofAtom, AllocError>
-    ensures is { IfOk result (λ line. line_atom line ≡ and_atom literals.now) }
-    ensures text { IfOk result (λ line. atom_has_text (line_atom line) ≡ true) }
+    ensures { IfOk result (λ line. IsWritten (and_atom literals.now) (line_atom line)) }
 {
     let all = copied(alloc, literals)?;
     Ok(ProofAtom::And(all))
@@ -172,8 +165,8 @@ fn conjunction_line(alloc: Global, literals: &[Lit]) -> Result<ProofAtom, AllocE
 
 /// The literals, of which each has a text.
 pub(crate) fn copied(alloc: Global, literals: &[Lit]) -> Result<Vec<Lit>, AllocError>
-    ensures same { IfOk result (λ all. all.items ≡ literals.now) }
-    ensures small { OnOk result (list_all is_small_literal literals.now ≡ true) }
+    ensures { IfOk result
+        (λ all. (all.items ≡ literals.now) × (list_all is_small_literal literals.now ≡ true)) }
 {
     let mut all = Vec::with_capacity(alloc, literals.len())?;
     for literal in literals {

@@ -1,6 +1,6 @@
 //! What stands in a proof of the live assertions.
 
-ghost use Rattle.std.specs.Prelude.{◌≡◌, ◌≢◌, ◌<◌, ◌≤◌, ◌∷◌, ◌++◌, ℕ, [], take, true, List, Some, None, length, option_map, OnOk, OnErr, IfOk, IfSome};
+ghost use Rattle.std.specs.Prelude.{◌≡◌, ◌≢◌, ◌<◌, ◌∷◌, ◌++◌, ℕ, [], take, true, List, Some, None, length, option_map, OnOk, IfOk, IfSome};
 ghost use Rattle.sb_lit.specs.Kept.{kept_at};
 ghost use Rattle.sb_clauses.specs.Propagation.{are_reserved, has_room_for};
 ghost use Rattle.sb_lang.specs.Regex.{Regex};
@@ -14,8 +14,8 @@ ghost use Rattle.sb_atoms.specs.Numbered.{atoms_in, HaveRegexesBelow, Extends};
 ghost use Rattle.sb_atoms.specs.Translated.{brought_translation, HasNoLiteral};
 ghost use Rattle.sb_trace.specs.Putting.{CountsTapeFault};
 ghost use Rattle.sb_trace.specs.Tracking.{StaysNumbered};
-ghost use Rattle.sb_refute.specs.Backing.{backing_of, IsLowestEmpty, HasGates, Backs, EvidencesUncounted, IsStatement, KeepsAsserted, AreUpTo, asserted_at, unit_at, empty_at, left_above, refuted_up_to, left_all};
-ghost use Rattle.sb_refute.specs.Lines.{AreDue, IsAssertion, IsStanding, placed, IsLowestBefore, IsEmptyOf, lower_of};
+ghost use Rattle.sb_refute.specs.Backing.{backing_of, IsLowestEmpty, HasGates, Backs, EvidencesUncounted, IsStatement, KeepsAsserted, AreUpTo, asserted_at, empty_at, left_above, refuted_up_to, left_all};
+ghost use Rattle.sb_refute.specs.Lines.{AreDue, Becomes, Called, IsClaimed, IsStanding, Leads, LeadsClaimed, LeadsFrom, placed, IsEmptyOf, lower_of};
 ghost use Rattle.sb_refute.specs.Standing.{Stand};
 
 use crate::defining::{define_atoms, put_line};
@@ -51,47 +51,35 @@ pub struct EmptyClause {
 #[derive(Drop)]
 pub struct Evidence {
     pub(crate) alloc: Global,
-    trace: Trace,
-    /// An atom has the same number in the proof.
-    pub(crate) atoms: Atoms,
-    /// The clauses that stand in the proof, each under the number that it has there. No literals stand on the trail.
-    engine: Engine,
-    /// By the places of live assertions.
-    asserted: Vec<Option<Asserted>>,
-    refuted: Option<EmptyClause>,
-    /// Of so many atoms, the first ones, the clauses of their gates stand in the proof.
-    pub(crate) gates: usize,
+    /// No literals stand on the trail.
+    pub(crate) parts: Parts,
 }
 
 /// An evidence taken apart, for a search that goes on with its tables.
 #[derive(Drop)]
 pub struct Parts {
     pub trace: Trace,
+    /// An atom has the same number in the proof.
     pub atoms: Atoms,
+    /// The clauses that stand in the proof, each under the number that it has there.
     pub engine: Engine,
+    /// By the places of live assertions.
     pub asserted: Vec<Option<Asserted>>,
     pub refuted: Option<EmptyClause>,
+    /// Of so many atoms, the first ones, the clauses of their gates stand in the proof.
     pub gates: usize,
 }
 
 impl Model for Evidence {
-    ghost use Rattle.sb_refute.specs.Backing.{Backing};
+    ghost use Rattle.sb_refute.specs.Backing.{Backing, backing_of};
     ghost use Rattle.std.specs.Prelude.{◌≡◌, []};
     ghost use Rattle.sb_refute.specs.Standing.{Stand};
 
     ghost Value = { Backing };
 
-    ghost view = { λ evidence. record {
-      trace = evidence.trace;
-      atoms = evidence.atoms;
-      kept = evidence.engine.kept;
-      asserted = evidence.asserted.items;
-      refuted = evidence.refuted;
-      gates = evidence.gates;
-    } };
+    ghost view = { λ evidence. backing_of evidence.parts };
 
-    ghost invariant = { λ evidence. Stand evidence.atoms evidence.engine.kept evidence.asserted.items evidence.refuted
-        evidence.gates × (evidence.engine.trail.literals ≡ []) };
+    ghost invariant = { λ evidence. Stand (backing_of evidence.parts) × (evidence.parts.engine.trail.literals ≡ []) };
 }
 
 impl Evidence {
@@ -100,40 +88,25 @@ impl Evidence {
         ensures backs { (rs : List Regex) (memo : Memo) (format : ℕ) → Backs rs memo result (nothing_kept format) }
         ensures nothing { result.asserted ≡ [] }
     {
-        Evidence {
-            alloc,
+        let parts = Parts {
             trace: Trace::new(alloc),
             atoms: Atoms::new(alloc),
             engine: Engine::new(alloc),
             asserted: Vec::new(alloc),
             refuted: None,
             gates: 0,
-        }
+        };
+        Evidence { alloc, parts }
     }
 
     /// Its parts. Takes no memory.
     pub fn into_parts(self) -> Parts
         ensures backing { backing_of result ≡ self }
-        ensures stands { Stand result.atoms result.engine.kept result.asserted.items result.refuted result.gates }
+        ensures stands { Stand (backing_of result) }
         ensures trail { result.engine.trail.literals ≡ [] }
     {
-        let Evidence {
-            alloc: _,
-            trace,
-            atoms,
-            engine,
-            asserted,
-            refuted,
-            gates,
-        } = self;
-        Parts {
-            trace,
-            atoms,
-            engine,
-            asserted,
-            refuted,
-            gates,
-        }
+        let Evidence { alloc: _, parts } = self;
+        parts
     }
 
     /// The evidence of these parts, where what is known of all that stands in a proof holds of the first clauses, so many
@@ -141,37 +114,31 @@ impl Evidence {
     /// the trail. Takes no memory; linear in these literals and in the clauses behind the first ones.
     pub fn from_parts(parts: Parts, before: usize) -> Evidence
         requires known { has_room_for (length parts.atoms) parts.engine.kept ≡ true }
-        requires stands { Stand parts.atoms (take before parts.engine.kept) parts.asserted.items parts.refuted
-            parts.gates }
+        requires stands { Stand (record (backing_of parts) { kept = take before parts.engine.kept }) }
         ensures backing { result ≡ record (backing_of parts) { refuted = result.refuted } }
         ensures lowest { IsLowestEmpty parts.engine.kept result.refuted }
     {
-        let Parts {
-            trace,
-            atoms,
-            mut engine,
-            asserted,
-            refuted,
-            gates,
-        } = parts;
-        engine.clear();
-        let refuted = lowest_empty(engine.clauses(), before, refuted);
+        let mut parts = parts;
+        parts.engine.clear();
+        parts.refuted = lowest_empty(parts.engine.clauses(), before, parts.refuted);
         Evidence {
-            alloc: *asserted.allocator(),
-            trace,
-            atoms,
-            engine,
-            asserted,
-            refuted,
-            gates,
+            alloc: *parts.asserted.allocator(),
+            parts,
         }
+    }
+
+    /// The atoms that stand in the proof.
+    pub fn atoms(&self) -> &Atoms
+        ensures { result.now ≡ self.now.atoms }
+    {
+        &self.parts.atoms
     }
 
     /// The clause of the live assertion at a place, if it stands in the proof. Constant time.
     pub fn asserted(&self, place: usize) -> Option<Asserted>
         ensures { result ≡ asserted_at self.now.asserted place }
     {
-        match self.asserted.get(place) {
+        match self.parts.asserted.get(place) {
             Some(asserted) => *asserted,
             None => None,
         }
@@ -182,7 +149,7 @@ impl Evidence {
         ensures known { result ≡ self.now.refuted }
         ensures kept { IfSome result (λ empty. kept_at self.now.kept empty.clause.0 ≡ Some (empty_at empty)) }
     {
-        self.refuted
+        self.parts.refuted
     }
 
     /// Forgets what a reader drops where the levels above this one are left, and so many assertions stay: the clauses
@@ -194,16 +161,16 @@ impl Evidence {
             → AreUpTo level count self.old.asserted → Backs rs memo self.new (dropped_above level kept) }
     {
         let empty = self.empty_up_to(level);
-        self.engine.leave_above(level);
-        self.asserted.truncate(count);
-        self.refuted = empty;
+        self.parts.engine.leave_above(level);
+        self.parts.asserted.truncate(count);
+        self.parts.refuted = empty;
     }
 
     /// The empty clause, unless it is above the level.
     fn empty_up_to(&self, level: u64) -> Option<EmptyClause>
         ensures { result ≡ refuted_up_to level self.now.refuted }
     {
-        let empty = self.refuted?;
+        let empty = self.parts.refuted?;
         if empty.level > level {
             None
         } else {
@@ -219,10 +186,10 @@ impl Evidence {
         ensures backs { (rs : List Regex) (memo : Memo) (kept : AllKept) → Backs rs memo self.old kept
             → Backs rs memo self.new (all_dropped kept) }
     {
-        self.engine.leave_all();
-        self.asserted.clear();
-        self.refuted = None;
-        self.gates = 0;
+        self.parts.engine.leave_all();
+        self.parts.asserted.clear();
+        self.parts.refuted = None;
+        self.parts.gates = 0;
     }
 
     /// The clause of the live assertion at a place, whose term and level these are. The lines that it lacks are put:
@@ -271,11 +238,37 @@ impl Evidence {
         ensures arena { regex.Extends arena.old arena.new }
         ensures counts { CountsTapeFault result (L.Tape.faults tape.old) (L.Tape.faults tape.new) }
     {
-        let known = self.atoms.len();
-        let found = self.atoms.translate(measures, normals, table, arena, term)?;
+        let parts = &mut self.parts;
+        let known = parts.atoms.len();
+        let found = parts
+            .atoms
+            .translate(measures, normals, table, arena, term)?;
+        self.lines(arena, known, place, found, level, tape)
+    }
+
+    /// The clause of the assertion at a place, whose literal and level these are. Puts the lines of the atoms from this
+    /// number on, those of the gates that lack them, and its own where it lacks that.
+    fn lines<L: Tape>(
+        &mut self,
+        arena: &Arena,
+        known: usize,
+        place: usize,
+        literal: Option<Lit>,
+        level: u64,
+        tape: &mut L,
+    ) -> Result<Option<Asserted>, TapeFault>
+        requires regexes { HaveRegexesBelow (length arena.now) self.old.atoms }
+        requires known { IfSome literal (λ l. l.atom < length self.old.atoms) }
+        ensures { Called result
+            (λ found. IsClaimed (LeadsFrom arena.now known place literal level self.old self.new
+            (L.Tape.told tape.old) (L.Tape.told tape.new)) place literal level self.old self.new found
+            × (self.new.gates ≡ length self.new.atoms))
+            (StaysNumbered self.old.trace self.new.trace × (self.new.atoms ≡ self.old.atoms)) (L.Tape.faults tape.old)
+            (L.Tape.faults tape.new) }
+    {
         self.define(arena, known, tape)?;
         self.put_gates(tape)?;
-        self.stated(place, found, level, tape)
+        self.stated(place, literal, level, tape)
     }
 
     /// The clause of the assertion at a place, whose literal and level these are, and its line where it lacks that. An
@@ -288,20 +281,11 @@ impl Evidence {
         tape: &mut L,
     ) -> Result<Option<Asserted>, TapeFault>
         requires { IfSome literal (λ l. l.atom < length self.old.atoms) }
-        ensures puts { OnOk result ((asked : Asked) (rs : List Regex) (memo : Memo) (before : AllKept)
-            → Backs rs memo self.old before → IfSome literal (λ l. IsAssertion asked before place l level)
-            → EvidencesUncounted asked before rs memo self.new (L.Tape.told tape.old) (L.Tape.told tape.new)) }
-        ensures asserted { IfOk result (λ found. found ≡ asserted_at self.new.asserted place) }
-        ensures literal { IfOk result (λ found. option_map (λ a. a.literal) found ≡ literal) }
-        ensures level { IfOk result (λ found. IfSome found (λ a. a.level ≡ level)) }
-        ensures stays { OnOk result (IfSome (asserted_at self.old.asserted place)
-            (λ a. (a.level ≡ level) × (Some a.literal ≡ literal)) → KeepsAsserted self.old self.new) }
-        ensures others { OnOk result ((other : ℕ) → other ≢ place
-            → asserted_at self.new.asserted other ≡ asserted_at self.old.asserted other) }
-        ensures gates { OnOk result (HasGates self.old.gates self.new.atoms self.new.kept) }
-        ensures atoms { self.new.atoms ≡ self.old.atoms }
-        ensures trace { self.new.trace ≡ self.old.trace }
-        ensures counts { CountsTapeFault result (L.Tape.faults tape.old) (L.Tape.faults tape.new) }
+        ensures { Called result
+            (IsClaimed (LeadsClaimed place literal level self.old self.new (L.Tape.told tape.old)
+            (L.Tape.told tape.new)) place literal level self.old self.new)
+            (self.new ≡ record self.old { kept = self.new.kept; asserted = self.new.asserted }) (L.Tape.faults tape.old)
+            (L.Tape.faults tape.new) }
     {
         self.stands();
         let Some(literal) = literal else {
@@ -334,15 +318,22 @@ impl Evidence {
         tape: &mut L,
     ) -> Result<(), TapeFault>
         requires regexes { HaveRegexesBelow (length arena.now) self.old.atoms }
-        ensures puts { OnOk result ((asked : Asked) (memo : Memo) (before : AllKept)
-            → AreDue asked known self.old.atoms → known ≤ length self.old.atoms
-            → Backs arena.now memo (record self.old { atoms = take known self.old.atoms }) before
-            → EvidencesUncounted asked before arena.now memo self.new (L.Tape.told tape.old) (L.Tape.told tape.new)) }
-        ensures numbers_stay { StaysNumbered self.old.trace self.new.trace }
-        ensures others { self.new ≡ record self.old { trace = self.new.trace } }
-        ensures counts { CountsTapeFault result (L.Tape.faults tape.old) (L.Tape.faults tape.new) }
+        ensures { Called result
+            (λ _. (asked : Asked) (memo : Memo) → AreDue asked known self.old.atoms
+            → Leads asked arena.now memo (record self.old { atoms = take known self.old.atoms }) self.new
+            (L.Tape.told tape.old) (L.Tape.told tape.new))
+            (StaysNumbered self.old.trace self.new.trace × (self.new ≡ record self.old { trace = self.new.trace }))
+            (L.Tape.faults tape.old) (L.Tape.faults tape.new) }
     {
-        define_atoms(self.alloc, &mut self.trace, arena, &self.atoms, known, tape)
+        let parts = &mut self.parts;
+        define_atoms(
+            self.alloc,
+            &mut parts.trace,
+            arena,
+            &parts.atoms,
+            known,
+            tape,
+        )
     }
 
     /// Puts the clause of the assertion at a place, whose literal and level these are.
@@ -353,18 +344,15 @@ impl Evidence {
         level: u64,
         tape: &mut L,
     ) -> Result<Asserted, TapeFault>
-        requires { literal.atom < length self.old.atoms }
-        ensures puts { OnOk result ((asked : Asked) (rs : List Regex) (memo : Memo) (before : AllKept)
-            → Backs rs memo self.old before → IsAssertion asked before place literal level
-            → EvidencesUncounted asked before rs memo self.new (L.Tape.told tape.old) (L.Tape.told tape.new)) }
-        ensures literal { IfOk result (λ a. a.literal ≡ literal) }
-        ensures level { IfOk result (λ a. a.level ≡ level) }
-        ensures asserted { IfOk result (λ a. self.new.asserted ≡ placed self.old.asserted place (Some a)) }
-        ensures kept { IfOk result (λ a. self.new.kept ≡ self.old.kept ++ Some (unit_at a) ∷ []) }
-        ensures atoms { self.new.atoms ≡ self.old.atoms }
-        ensures trace { self.new.trace ≡ self.old.trace }
-        ensures counts { CountsTapeFault result (L.Tape.faults tape.old) (L.Tape.faults tape.new) }
+        requires known { literal.atom < length self.old.atoms }
+        requires lacks { IsStanding (asserted_at self.old.asserted place) literal level None }
+        ensures { Called result
+            (λ a. IsClaimed (LeadsClaimed place (Some literal) level self.old self.new (L.Tape.told tape.old)
+            (L.Tape.told tape.new)) place (Some literal) level self.old self.new (Some a))
+            (self.new ≡ record self.old { kept = self.new.kept; asserted = self.new.asserted }) (L.Tape.faults tape.old)
+            (L.Tape.faults tape.new) }
     {
+        self.stands();
         assertion_lines_are_exact();
         put_line(Line::Assertion(place as u64, literal), tape)?;
         let clause = self.add(&[literal], level)?;
@@ -380,10 +368,10 @@ impl Evidence {
     /// Keeps the clause of the assertion at a place, or that it has none.
     fn keep(&mut self, place: usize, asserted: Option<Asserted>) -> Result<(), AllocError>
         requires { IfSome asserted (λ a. a.literal.atom < length self.old.atoms) }
-        ensures ok { OnOk result (self.new ≡ record self.old { asserted = placed self.old.asserted place asserted }) }
-        ensures err { OnErr result (self.new ≡ self.old) }
+        ensures { Becomes result self.old self.new
+            (record self.old { asserted = placed self.old.asserted place asserted }) }
     {
-        put_at(&mut self.asserted, place, asserted)
+        put_at(&mut self.parts.asserted, place, asserted)
     }
 
     /// Keeps a clause, whose line is put in the same step, and answers its number. `AllocError` also for an atom of
@@ -392,26 +380,25 @@ impl Evidence {
         requires known { are_reserved (length self.old.atoms) literals.now ≡ true }
         requires some { literals.now ≢ [] }
         ensures number { IfOk result (λ id. id.0 ≡ length self.old.kept) }
-        ensures ok { OnOk result (self.new ≡ record self.old {
+        ensures adds { Becomes result self.old self.new (record self.old {
           kept = self.old.kept ++ Some (record { literals = literals.now; level = level }) ∷ [];
         }) }
-        ensures err { OnErr result (self.new ≡ self.old) }
     {
         let clause = Clause::from_literals(Vec::from_slice(self.alloc, literals)?);
-        self.engine.add(&clause, level)
+        self.parts.engine.add(&clause, level)
     }
 
     /// What is known of all that stands in the proof.
     fn stands(&self)
-        ensures { Stand self.now.atoms self.now.kept self.now.asserted self.now.refuted self.now.gates }
+        ensures { Stand self.now }
     {
-        let _engine = &self.engine;
+        let _parts = &self.parts;
     }
 }
 
-/// The empty clause of the lowest level, of this one and of those from a number on.
+/// The empty clause of the lowest level, of this one, which is that of the clauses before a number, and of the others.
 fn lowest_empty(clauses: &Clauses, before: usize, found: Option<EmptyClause>) -> Option<EmptyClause>
-    requires { IsLowestBefore before clauses.now found }
+    requires { IsLowestEmpty (take before clauses.now) found }
     ensures { IsLowestEmpty clauses.now result }
 {
     let mut lowest = found;
@@ -425,7 +412,7 @@ fn lowest_empty(clauses: &Clauses, before: usize, found: Option<EmptyClause>) ->
 
 /// The clause of a number, if it has no literals.
 fn empty_clause(clauses: &Clauses, number: usize) -> Option<EmptyClause>
-    ensures { IsEmptyOf clauses.now number result }
+    ensures { IsEmptyOf number (kept_at clauses.now number) result }
 {
     let clause = ClauseId(number as u64);
     if !clauses.literals(clause)?.is_empty() {
@@ -458,8 +445,7 @@ fn put_at(
     place: usize,
     asserted: Option<Asserted>,
 ) -> Result<(), AllocError>
-    ensures ok { OnOk result (all.new.items ≡ placed all.old.items place asserted) }
-    ensures err { OnErr result (all.new.items ≡ all.old.items) }
+    ensures { Becomes result all.old.items all.new.items (placed all.old.items place asserted) }
 {
     if place < all.len() {
         all[place] = asserted;

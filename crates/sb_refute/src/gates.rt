@@ -1,13 +1,9 @@
 //! The clauses of gates.
 
-ghost use Rattle.std.specs.Prelude.{◌≡◌, ◌<◌, ◌+◌, ◌++◌, ◌∷◌, [], true, false, List, Some, length, All, IfOk, OnOk};
-ghost use Rattle.sb_lang.specs.Regex.{Regex};
-ghost use Rattle.sb_deriv.specs.Faithful.{Memo};
-ghost use Rattle.sb_rulebook.specs.Kept.{AllKept, Asked};
+ghost use Rattle.std.specs.Prelude.{◌≡◌, ◌<◌, ◌+◌, ◌++◌, ◌∷◌, [], true, false, length, All, IfOk};
 ghost use Rattle.sb_atoms.specs.GateClauses.{clauses_of, atom_at};
-ghost use Rattle.sb_trace.specs.Putting.{CountsTapeFault};
-ghost use Rattle.sb_refute.specs.Backing.{HasGatesOf, Backs, EvidencesUncounted};
-ghost use Rattle.sb_refute.specs.Lines.{IsOfGates};
+ghost use Rattle.sb_refute.specs.Backing.{HasGatesOf};
+ghost use Rattle.sb_refute.specs.Lines.{Called, IsOfGates, LeadsAlways, at_bottom};
 
 use crate::defining::{copied, put_line};
 use crate::evidence::Evidence;
@@ -21,14 +17,11 @@ use std::alloc::AllocError;
 impl Evidence {
     /// Puts the lines of the gates of all atoms that lack them, and keeps their clauses.
     pub(crate) fn put_gates<L: Tape>(&mut self, tape: &mut L) -> Result<(), TapeFault>
-        ensures puts { OnOk result ((asked : Asked) (rs : List Regex) (memo : Memo) (before : AllKept)
-            → Backs rs memo self.old before
-            → EvidencesUncounted asked before rs memo self.new (L.Tape.told tape.old) (L.Tape.told tape.new)) }
-        ensures all { OnOk result (self.new.gates ≡ length self.new.atoms) }
-        ensures asserted { self.new.asserted ≡ self.old.asserted }
-        ensures atoms { self.new.atoms ≡ self.old.atoms }
-        ensures trace { self.new.trace ≡ self.old.trace }
-        ensures counts { CountsTapeFault result (L.Tape.faults tape.old) (L.Tape.faults tape.new) }
+        ensures { Called result
+            (λ _. LeadsAlways self.old self.new (L.Tape.told tape.old) (L.Tape.told tape.new)
+            × (self.new.gates ≡ length self.new.atoms))
+            (self.new ≡ record self.old { kept = self.new.kept; gates = self.new.gates }) (L.Tape.faults tape.old)
+            (L.Tape.faults tape.new) }
     {
         while self.lacks_gates() {
             self.put_next(tape)?;
@@ -41,20 +34,17 @@ impl Evidence {
         ensures lacking { result ≡ true → self.now.gates < length self.now.atoms }
         ensures all { result ≡ false → self.now.gates ≡ length self.now.atoms }
     {
-        self.gates < self.atoms.len()
+        self.parts.gates < self.parts.atoms.len()
     }
 
     /// Puts the lines of the gates of the first atom that lacks them, and keeps their clauses.
     fn put_next<L: Tape>(&mut self, tape: &mut L) -> Result<(), TapeFault>
         requires { self.old.gates < length self.old.atoms }
-        ensures puts { OnOk result ((asked : Asked) (rs : List Regex) (memo : Memo) (before : AllKept)
-            → Backs rs memo self.old before
-            → EvidencesUncounted asked before rs memo self.new (L.Tape.told tape.old) (L.Tape.told tape.new)) }
-        ensures next { OnOk result (self.new.gates ≡ self.old.gates + 1) }
-        ensures asserted { self.new.asserted ≡ self.old.asserted }
-        ensures atoms { self.new.atoms ≡ self.old.atoms }
-        ensures trace { self.new.trace ≡ self.old.trace }
-        ensures counts { CountsTapeFault result (L.Tape.faults tape.old) (L.Tape.faults tape.new) }
+        ensures { Called result
+            (λ _. LeadsAlways self.old self.new (L.Tape.told tape.old) (L.Tape.told tape.new)
+            × (self.new.gates ≡ self.old.gates + 1))
+            (self.new ≡ record self.old { kept = self.new.kept; gates = self.new.gates }) (L.Tape.faults tape.old)
+            (L.Tape.faults tape.new) }
     {
         let clauses = self.next_clauses()?;
         for clause in &clauses {
@@ -72,25 +62,19 @@ impl Evidence {
         ensures gates { IfOk result (λ found. All (IsOfGates self.now.atoms) found.items) }
     {
         let id = AtomId::of(Lit {
-            atom: self.gates as u64,
+            atom: self.parts.gates as u64,
             positive: true,
         });
-        gate_clauses(self.alloc, &self.atoms, id)
+        gate_clauses(self.alloc, &self.parts.atoms, id)
     }
 
     /// Keeps a clause of gates, and puts its line.
     fn put_gate<L: Tape>(&mut self, clause: &Clause, tape: &mut L) -> Result<(), TapeFault>
         requires { IsOfGates self.old.atoms clause.now }
-        ensures puts { OnOk result ((asked : Asked) (rs : List Regex) (memo : Memo) (before : AllKept)
-            → Backs rs memo self.old before
-            → EvidencesUncounted asked before rs memo self.new (L.Tape.told tape.old) (L.Tape.told tape.new)) }
-        ensures kept { OnOk result
-            (self.new.kept ≡ self.old.kept ++ Some (record { literals = clause.now; level = 0 }) ∷ []) }
-        ensures gates { self.new.gates ≡ self.old.gates }
-        ensures asserted { self.new.asserted ≡ self.old.asserted }
-        ensures atoms { self.new.atoms ≡ self.old.atoms }
-        ensures trace { self.new.trace ≡ self.old.trace }
-        ensures counts { CountsTapeFault result (L.Tape.faults tape.old) (L.Tape.faults tape.new) }
+        ensures { Called result
+            (λ _. LeadsAlways self.old self.new (L.Tape.told tape.old) (L.Tape.told tape.new)
+            × (self.new ≡ record self.old { kept = self.old.kept ++ at_bottom clause.now ∷ [] }))
+            (self.new ≡ record self.old { kept = self.new.kept }) (L.Tape.faults tape.old) (L.Tape.faults tape.new) }
     {
         rule_lines_are_exact();
         gates_are_exact();
@@ -105,7 +89,7 @@ impl Evidence {
         requires kept { HasGatesOf self.old.gates self.old.atoms self.old.kept }
         ensures { self.new ≡ record self.old { gates = self.old.gates + 1 } }
     {
-        let _count = self.atoms.len();
-        self.gates += 1;
+        let _count = self.parts.atoms.len();
+        self.parts.gates += 1;
     }
 }

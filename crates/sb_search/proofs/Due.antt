@@ -1,18 +1,5 @@
 -- The lowest level on which a clause is false or leaves one literal.
-use Rattle.std.proofs.Common.{◌≡◌, ℕ, ◌&&◌, ◌||◌, ◌+◌, ◌<◌, ◌≤◌, Bool, true, false, eqb, leb, length, List, [], ◌∷◌, Option, Some, None, refl, sym, ◌∙◌, ap, subst, inl, inr, arith, unwrap_or, if◌then◌else◌}
-use Rattle.std.specs.List.{list_all}
-use Rattle.std.proofs.lemmas.Bool.{false≢true, cases_Bool, cases_lt, and_parts, and_from, or_cases, or_left, or_right, eq-eqb, ne_eqb, leb-true, le-leb, false_from_ne_true}
-use Rattle.sb_facts.proofs.CallerLemmas.{all_weaker}
-use Rattle.sb_lit.specs.declared.clause.ClauseId.{ClauseId}
-use Rattle.sb_lit.specs.declared.clause.Lit.{Lit}
-use Rattle.sb_lit.specs.Clauses.{negation, is_same_literal, is_among, is_true_under, is_false_under, is_open_under, is_false_clause, leaves_only, value_under}
-use Rattle.sb_lit.proofs.CallerLemmas.{all_among, is_same_literal-true, is_same_literal-of, open-not_true}
-use Rattle.sb_trail.specs.declared.assigned.Assigned.{Assigned}
-use Rattle.sb_trail.specs.Assignments.{IsConsistent, IsTrail, Assignments, AreDistinct, AreLevelled, entry_of, held, level_after, level_behind, current_level, up_to}
-use Rattle.sb_trail.proofs.CallerLemmas.{cond_none, up_to-up_to}
-use Rattle.sb_analyze.specs.Reasons.{level_in}
-use Rattle.sb_analyze.proofs.CallerLemmas.{true_up_to_low, not_false_with}
-use Rattle.sb_search.specs.Searching.{false_from, IsSecond, IsDue, IsLowest, IsHighest}
+use Rattle.sb_search.proofs.Words.{◌≡◌, ℕ, ◌&&◌, ◌||◌, ◌+◌, ◌<◌, ◌≤◌, Bool, true, false, eqb, leb, length, List, [], ◌∷◌, Option, Some, None, refl, sym, ◌∙◌, ap, subst, inl, inr, arith, unwrap_or, if◌then◌else◌, list_all, false≢true, cases_Bool, and_parts, and_from, or_cases, or_left, or_right, leb-true, le-leb, false_from_ne_true, all_weaker, Lit, negation, is_same_literal, is_among, is_true_under, is_false_under, is_false_clause, leaves_only, all_among, is_same_literal-true, ClauseId, Assigned, IsTrail, Assignments, AreDistinct, AreLevelled, held, current_level, up_to, up_to-up_to, false_from, IsSecond, IsLowest, IsHighest, cases_lt, eq-eqb, ne_eqb, is_open_under, value_under, is_same_literal-of, open-not_true, IsConsistent, entry_of, level_after, level_behind, cond_none, level_in, true_up_to_low, not_false_with, IsDue}
 use Rattle.sb_search.proofs.Truths.{true_up_to}
 
 -- the value of a literal
@@ -177,9 +164,10 @@ not_due_true literals clause a among holds stays due =
 not_due_below : (es : List Assigned) (clause : List Lit) (last : Lit) (level n : ℕ) → AreDistinct es
     → IsSecond es clause last level → n < level → IsDue (held (up_to n es)) clause → ⊥
 not_due_below es clause last level n distinct second low =
-    let two = second.two_below n low in
-    not_due_two (held (up_to n es)) clause two.one two.other two.one_there two.other_there two.differ
-    (not_false_low n es two.one distinct two.one_above) (not_false_low n es two.other distinct two.other_above)
+    let two = second.second (omega (arith, low)) in
+    not_due_two (held (up_to n es)) clause two.0 last two.1 second.there two.2
+    (not_false_low n es two.0 distinct (omega (arith, low, two.3)))
+    (not_false_low n es last distinct (omega (arith, low, two.4)))
 
 -- where that one is true on that level,
 pub lowest_true : (trail : Assignments) (clause : List Lit) (last : Lit) (level : ℕ) → IsTrail trail
@@ -240,7 +228,8 @@ lowest_open trail clause last level is_trail second not_true = record {
           last,
           and_from (is_among clause last && is_open_under literals last)
               (list_all (λ m. is_same_literal m last || is_false_under literals m) clause)
-              (and_from (is_among clause last) (is_open_under literals last) second.there (rw (not_true, stays) refl)) others,
+              (and_from (is_among clause last) (is_open_under literals last) second.there
+              (rw (not_true, stays) refl)) others,
         )
       ];
 }

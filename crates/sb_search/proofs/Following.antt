@@ -1,22 +1,35 @@
 -- What is kept follows from what was kept before.
-use Rattle.std.proofs.Common.{◌≡◌, ℕ, suc, zero, ◌≤◌, ltb, Bool, true, false, not, ◌||◌, List, [], ◌∷◌, ◌++◌, map, Option, Some, None, Ok, refl, sym, subst, ◌∙◌, ap, inl, inr, arith}
-use Rattle.std.specs.List.{list_all}
-use Rattle.std.proofs.lemmas.Bool.{and_parts, and_from, or_cases, not-true, false≢true, false_from_ne_true, cases_Bool, ltb-true, ltb-false}
-use Rattle.sb_lit.specs.declared.clause.Lit.{Lit}
-use Rattle.sb_lit.specs.Clauses.{negation, is_among}
-use Rattle.sb_lit.specs.Kept.{KeptClause, Kept, kept_at, stays_up_to, kept_up_to}
-use Rattle.sb_lit.specs.Hints.{learned}
-use Rattle.sb_lit.proofs.CallerLemmas.{all_among, among_negated}
-use Rattle.sb_analyze.specs.Cores.{are_negated, IsKeptCore}
-use Rattle.sb_search.specs.Following.{literal_holds, clause_holds, place_holds, all_hold, Follows, FollowsByLevel, AreRefuted}
-use Rattle.sb_lit.specs.declared.clause.ClauseId.{ClauseId}
-use Rattle.sb_lit.specs.Budgets.{Spending}
-use Rattle.sb_clauses.specs.Propagation.{State}
-use Rattle.sb_search.specs.declared.found.Found.{Found}
-use Rattle.sb_search.specs.declared.found.Found.TheVariants as found
-use Rattle.sb_search.specs.Asking.{with_lemma}
-use Rattle.sb_search.specs.Searching.{Entails, Continues}
-use Rattle.sb_search.proofs.Hints.{learned_holds, negation_holds}
+use Rattle.sb_search.proofs.Words.{◌≡◌, ℕ, suc, zero, ◌≤◌, ◌⊎◌, ltb, Bool, true, false, not, ◌||◌, List, [], ◌∷◌, ◌++◌, map, Option, Some, None, refl, sym, subst, ◌∙◌, inl, inr, arith, not-not, list_all, and_parts, and_from, or_cases, false≢true, false_from_ne_true, cases_Bool, ltb-true, ltb-false, Lit, negation, is_among, KeptClause, Kept, kept_at, all_among, among_negated, are_negated, FollowsByLevel, with_lemma, Entails, LessonsFollow, not-true, stays_up_to, kept_up_to, IsKeptCore, LearnedHolds, LearnedHasLevels, literal_holds, clause_holds, place_holds, all_hold, Follows, AreRefuted}
+
+-- a clause of a level up to this one
+holds_at : (values : ℕ → Bool) (kept : Kept) (bound id : ℕ) (clause : KeptClause)
+    → all_hold values (kept_up_to bound kept) ≡ true → kept_at kept id ≡ Some clause → clause.level ≤ bound → clause_holds values clause.literals ≡ true
+holds_at values [] bound id clause all there low = absurd (Prim.cc (there))
+holds_at values (None ∷ ks) bound zero clause all there low = absurd (Prim.cc (there))
+holds_at values (Some k ∷ ks) bound zero clause all there low = step (cases_Bool (ltb bound clause.level)) at
+  where
+    at : all_hold values (kept_up_to bound (Some clause ∷ ks)) ≡ true
+    at = subst (λ (x : Option KeptClause). all_hold values (kept_up_to bound (x ∷ ks)) ≡ true) there all
+
+    step : (ltb bound clause.level ≡ true) ⊎ (ltb bound clause.level ≡ false)
+        → all_hold values (kept_up_to bound (Some clause ∷ ks)) ≡ true → clause_holds values clause.literals ≡ true
+    step (inl high) h = absurd (omega (arith, ltb-true bound clause.level high, low))
+    step (inr under) h = (and_parts (clause_holds values clause.literals) (all_hold values (kept_up_to bound ks))
+        (rw under at h)).0
+holds_at values (k ∷ ks) bound (suc id) clause all there low = holds_at values ks bound id clause (rest k all) there low
+  where
+    rest : (k : Option KeptClause) → all_hold values (kept_up_to bound (k ∷ ks)) ≡ true
+        → all_hold values (kept_up_to bound ks) ≡ true
+    rest k h = (and_parts _ (all_hold values (kept_up_to bound ks)) h).1
+
+-- of a literal and its negation one is true
+negation_holds : (values : ℕ → Bool) (l : Lit) → literal_holds values (negation l) ≡ not (literal_holds values l)
+negation_holds values l = sign l.atom l.positive
+  where
+    sign : (a : ℕ) (b : Bool) → literal_holds values (negation (record { atom = a; positive = b }))
+        ≡ not (literal_holds values (record { atom = a; positive = b }))
+    sign a true = refl
+    sign a false = sym (not-not (values a))
 
 -- one more clause
 holds_more : (values : ℕ → Bool) (bound : ℕ) (kept : Kept) (k : KeptClause)
@@ -33,14 +46,13 @@ holds_more values bound (x ∷ xs) k h all =
     and_from (place_holds values (stays_up_to bound x)) (all_hold values (kept_up_to bound (xs ++ Some k ∷ []))) parts.0
     (holds_more values bound xs k h parts.1)
 
--- that is learned by hints,
-pub entails_learned : (kept new : Kept) (clause : List Lit) (ids : List ℕ) (level : ℕ)
-    → new ≡ kept ++ Some (record { literals = clause; level = level }) ∷ [] → learned kept clause ids ≡ Ok level
-    → Entails kept new
-entails_learned kept new clause ids level is h = λ values bound all.
-    subst (λ (ks : Kept). all_hold values (kept_up_to bound ks) ≡ true) (sym is)
-    (holds_more values bound kept (record { literals = clause; level = level })
-    (λ low. learned_holds values kept clause ids level bound h low all) all)
+-- that is learned,
+pub entails_learned : LearnedHolds → LearnedHasLevels → LessonsFollow
+entails_learned holds levels kept clause ids level lesson = λ values bound all.
+    holds_more values bound kept (record { literals = clause; level = level })
+    (λ low. holds (literal_holds values) (negation_holds values) kept clause ids level lesson.accepted
+    (λ id c among there. holds_at values kept bound id c all there
+    (omega (arith, low, levels kept clause ids level lesson.accepted id c among there)))) all
 
 both_hold : (values : ℕ → Bool) (atom : ℕ)
     → clause_holds values (record { atom = atom; positive = true } ∷ record { atom = atom; positive = false } ∷ [])
@@ -68,23 +80,13 @@ follows_lemma teaches kept new clause is taught = λ bound values obeys all.
     (holds_more values bound kept (record { literals = clause; level = 0 }) (λ _. obeys clause taught) all)
 
 -- the clauses as they were,
-pub entails_same : (old new : Kept) → new ≡ old → Entails old new
-entails_same old new same = λ values bound all.
+pub follows_same : (teaches : List Lit → Type 0) (old new : Kept) → new ≡ old → FollowsByLevel teaches old new
+follows_same teaches old new same = λ bound values obeys all.
     subst (λ (ks : Kept). all_hold values (kept_up_to bound ks) ≡ true) (sym same) all
 
-pub follows_same : (teaches : List Lit → Type 0) (old new : Kept) → new ≡ old → FollowsByLevel teaches old new
-follows_same teaches old new same = λ bound values obeys all. entails_same old new same values bound all
-
--- what follows with nothing taught,
-pub follows_alone : (teaches : List Lit → Type 0) (old middle new : Kept) → middle ≡ old → Entails middle new
-    → FollowsByLevel teaches old new
-follows_alone teaches old middle new same h = λ bound values obeys all.
-    h values bound (entails_same old middle same values bound all)
-
 -- one after the other
-pub follows_on : (one two : List Lit → Type 0) (old middle new : Kept)
-    → ((clause : List Lit) → one clause → two clause) → FollowsByLevel one old middle
-    → FollowsByLevel two middle new → FollowsByLevel two old new
+pub follows_on : (one two : List Lit → Type 0) (old middle new : Kept) → ((clause : List Lit) → one clause → two clause)
+    → FollowsByLevel one old middle → FollowsByLevel two middle new → FollowsByLevel two old new
 follows_on one two old middle new more h k = λ bound values obeys all.
     k bound values obeys (h bound values (λ clause taught. obeys clause (more clause taught)) all)
 
@@ -150,11 +152,3 @@ refuted teaches old new assumptions id h core = λ values obeys all.
     false_from_ne_true (list_all (literal_holds values) assumptions) (λ given.
     negated_fails values assumptions core.clause.literals core.negated given
     (holds_there values new id core.clause (follows_in_all teaches old new h values obeys all) core.there))
-
--- the clause that an answer names
-pub core_found : (wanted : List ℕ) (assumptions : List Lit) (levels next : ℕ) (new : State) (after : Spending)
-    (o : Option Found) (f : Found) (id : ClauseId) → Continues wanted assumptions levels next new after o → o ≡ Some f
-    → f ≡ found.Unsat id → IsKeptCore new.kept assumptions id.0
-core_found wanted assumptions levels next new after o f id h some unsat =
-    (subst (λ (p : Option Found). Continues wanted assumptions levels next new after p)
-    (some ∙ ap (λ (g : Found). Some g) unsat) h).0

@@ -1,14 +1,5 @@
 -- The literals of the highest levels of a clause.
-use Rattle.std.proofs.Common.{◌≡◌, ℕ, ◌<◌, ◌≤◌, true, false, ◌||◌, ◌+◌, leb, length, take, get_or, List, [], ◌∷◌, ◌++◌, Option, Some, None, ◌∙◌, inl, inr, arith}
-use Rattle.std.specs.List.{list_all}
-use Rattle.std.proofs.lemmas.Bool.{cases_Bool, or_left, or_right, or_cases, leb-true, leb-false, le-leb}
-use Rattle.std.proofs.lemmas.List.{take_more}
-use Rattle.sb_facts.proofs.CallerLemmas.{all_weaker, all_push}
-use Rattle.sb_lit.specs.declared.clause.Lit.{Lit}
-use Rattle.sb_lit.specs.Clauses.{is_same_literal, is_among}
-use Rattle.sb_lit.proofs.CallerLemmas.{among_push, among_push_same, all_among}
-use Rattle.sb_trail.specs.declared.assigned.Assigned.{Assigned}
-use Rattle.sb_search.specs.Searching.{false_from, higher, is_but, IsHighest, IsHighUpTo, IsSecond}
+use Rattle.sb_search.proofs.Words.{◌≡◌, ℕ, ◌<◌, ◌≤◌, true, false, ◌||◌, ◌+◌, leb, length, take, get_or, List, [], ◌∷◌, ◌++◌, Option, Some, None, ◌∙◌, inl, inr, arith, list_all, cases_Bool, or_left, or_right, or_cases, leb-true, le-leb, take_more, all_weaker, all_push, Lit, is_same_literal, is_among, all_among, Assigned, false_from, IsHighest, IsSecond, leb-false, among_push, among_push_same, higher, is_but}
 
 among_front : (ls : List Lit) (m l : Lit) → is_among ls l ≡ true → is_among (ls ++ m ∷ []) l ≡ true
 among_front ls m l h = among_push ls m l ∙ or_left (is_among ls l) (is_same_literal m l || false) h
@@ -72,39 +63,29 @@ highest_more entries but (Some m) ls l h =
       ])
     ]
 
--- the level of the second one
-high_up_to : (entries : List Assigned) (clause : List Lit) (one other : Lit)
-    → IsHighest entries clause None (Some one) → IsHighest entries clause (Some one) (Some other)
-    → IsHighUpTo entries clause (false_from entries other)
-high_up_to entries clause one other h k = λ n low. record {
-  one = other;
-  other = one;
-  one_there = k.0;
-  other_there = h.0;
-  differ = k.1;
-  one_above = low;
-  other_above = omega (
-    arith,
-    low,
-    leb-true (false_from entries other) (false_from entries one)
-        (all_among (λ l. false || leb (false_from entries l) (false_from entries one)) clause other h.2 k.0),
-  );
-}
-
 -- the level from which on the others are false
 pub second_two : (entries : List Assigned) (clause : List Lit) (one other : Lit)
     → IsHighest entries clause None (Some one) → IsHighest entries clause (Some one) (Some other)
     → IsSecond entries clause one (false_from entries other)
-second_two entries clause one other h k =
-    record { there = h.0; two_below = high_up_to entries clause one other h k; others = k.2 }
+second_two entries clause one other h k = record {
+  there = h.0;
+  second = λ _. (
+    other,
+    k.0,
+    k.1,
+    omega arith,
+    leb-true (false_from entries other) (false_from entries one)
+        (all_among (λ l. false || leb (false_from entries l) (false_from entries one)) clause other h.2 k.0),
+  );
+  others = k.2;
+}
 
 -- where there is no other literal
-pub second_none : (entries : List Assigned) (clause : List Lit) (one : Lit)
-    → IsHighest entries clause None (Some one) → IsHighest entries clause (Some one) None
-    → IsSecond entries clause one 0
+pub second_none : (entries : List Assigned) (clause : List Lit) (one : Lit) → IsHighest entries clause None (Some one)
+    → IsHighest entries clause (Some one) None → IsSecond entries clause one 0
 second_none entries clause one h k = record {
   there = h.0;
-  two_below = λ n low. absurd (omega (arith, low));
+  second = λ above. absurd (omega (arith, above));
   others = all_weaker (λ l. is_same_literal l one) (λ l. is_same_literal l one || leb (false_from entries l) 0)
       (λ l is. or_left (is_same_literal l one) (leb (false_from entries l) 0) is) clause k;
 }

@@ -1,20 +1,9 @@
 -- Atoms of kept clauses and of assumptions that are known.
-use Rattle.std.proofs.Common.{◌≡◌, ◌⊎◌, ℕ, zero, suc, true, false, List, [], ◌∷◌, ◌++◌, Option, Some, None, refl, sym, ap, subst, inl, inr}
-use Rattle.std.proofs.lemmas.Bool.{false≢true, or_cases}
-use Rattle.std.proofs.lemmas.Option.{same_Some}
-use Rattle.sb_lit.specs.declared.clause.Lit.{Lit}
-use Rattle.sb_lit.specs.Clauses.{is_same_literal, is_among}
-use Rattle.sb_lit.specs.Kept.{Kept, KeptClause, kept_at}
-use Rattle.sb_lit.proofs.CallerLemmas.{all_among, is_same_literal-true}
-use Rattle.sb_analyze.specs.Learning.{IsLesson, literals_at, is_named}
-use Rattle.sb_search.specs.Asking.{AreKnown, AreAllKnown, HasKnownAtoms, with_lemma}
-use Rattle.sb_search.specs.Searching.{IsWritten, nothing, learns, divides}
-use Rattle.sb_search.specs.Writing.{Written, true_or_false}
+use Rattle.sb_search.proofs.Words.{◌≡◌, ◌⊎◌, ℕ, zero, suc, true, eqb, List, [], ◌∷◌, ◌++◌, Option, Some, None, refl, sym, ap, subst, inl, inr, eqb-true, eq-eqb, false≢true, or_cases, same_Some, Lit, is_among, Kept, KeptClause, kept_at, all_among, IsLesson, AreKnown, HasKnownAtoms, IsWritten, nothing, learns, divides, Written, true_or_false, literals_at, is_named, AreAllKnown}
 
 -- where others are known too, and the same clauses are kept
-pub known_on : (old new : ℕ → Type 0) (kept now : Kept) (assumptions : List Lit)
-    → ((atom : ℕ) → old atom → new atom) → now ≡ kept → HasKnownAtoms old kept assumptions
-    → HasKnownAtoms new now assumptions
+pub known_on : (old new : ℕ → Type 0) (kept now : Kept) (assumptions : List Lit) → ((atom : ℕ) → old atom → new atom)
+    → now ≡ kept → HasKnownAtoms old kept assumptions → HasKnownAtoms new now assumptions
 known_on old new kept now assumptions more same h =
     subst (λ (k : Kept). HasKnownAtoms new k assumptions) (sym same) (record {
       clauses = λ id clause there l among. more l.atom (h.clauses id clause there l among);
@@ -41,13 +30,6 @@ known_more passes kept now clause assumptions level is known h =
       assumed = h.assumed;
     })
 
--- a lemma,
-pub known_lemma : (old new : ℕ → Type 0) (kept now : Kept) (clause assumptions : List Lit)
-    → ((atom : ℕ) → old atom → new atom) → now ≡ with_lemma kept clause → AreKnown new clause
-    → HasKnownAtoms old kept assumptions → HasKnownAtoms new now assumptions
-known_lemma old new kept now clause assumptions more is known h =
-    known_more new kept now clause assumptions 0 is known (known_on old new kept kept assumptions more refl h)
-
 one_named : (passes : ℕ → Type 0) (kept : Kept) (hints : List ℕ) (l : Lit) → AreAllKnown passes kept
     → is_named kept hints l ≡ true → passes l.atom
 one_named passes kept [] l h named = absurd (false≢true named)
@@ -68,29 +50,11 @@ pub lesson_known : (passes : ℕ → Type 0) (kept : Kept) (clause : List Lit) (
 lesson_known passes kept clause hints level h lesson = λ l among.
     one_named passes kept hints l h (all_among (is_named kept hints) clause l lesson.named among)
 
-pub known_learned : (old new : ℕ → Type 0) (kept now : Kept) (clause assumptions : List Lit) (hints : List ℕ) (level : ℕ)
-    → ((atom : ℕ) → old atom → new atom) → now ≡ kept ++ Some (record { literals = clause; level = level }) ∷ []
-    → IsLesson kept clause hints level → HasKnownAtoms old kept assumptions → HasKnownAtoms new now assumptions
-known_learned old new kept now clause assumptions hints level more is lesson h =
-    let later = known_on old new kept kept assumptions more refl h in
-    known_more new kept now clause assumptions level is (lesson_known new kept clause hints level later.clauses lesson)
-    later
-
 -- or that of an atom that is true or false
 both_known : (passes : ℕ → Type 0) (atom : ℕ) → passes atom → AreKnown passes (true_or_false atom)
 both_known passes atom known = λ l among.
-    elim (or_cases (is_same_literal (record { atom = atom; positive = true }) l)
-    (is_among (record { atom = atom; positive = false } ∷ []) l) among) [
-      | inl here ↦ moved (record { atom = atom; positive = true }) l known here
-      | inr later ↦
-          elim (or_cases (is_same_literal (record { atom = atom; positive = false }) l) false later) [
-            | inl here ↦ moved (record { atom = atom; positive = false }) l known here
-            | inr none ↦ absurd (false≢true none)
-          ]
-    ]
-  where
-    moved : (m l : Lit) → passes m.atom → is_same_literal m l ≡ true → passes l.atom
-    moved m l known same = subst (λ (x : Lit). passes x.atom) (is_same_literal-true m l same) known
+    subst passes (sym (eqb-true l.atom atom
+    (all_among (λ (m : Lit). eqb m.atom atom) (true_or_false atom) l (rw (eq-eqb atom atom refl) refl) among))) known
 
 -- so it is with what the search writes itself
 pub known_written : (passes : ℕ → Type 0) (assumptions : List Lit) (before after : Written)
@@ -98,7 +62,7 @@ pub known_written : (passes : ℕ → Type 0) (assumptions : List Lit) (before a
     → HasKnownAtoms passes after.kept assumptions
 known_written passes assumptions before after (nothing same) h =
     subst (λ (proof : Written). HasKnownAtoms passes proof.kept assumptions) (sym same) h
-known_written passes assumptions before after (learns clause hints level lesson text room same) h =
+known_written passes assumptions before after (learns clause hints level lesson follows text room same) h =
     known_more passes before.kept after.kept clause assumptions level (ap (λ (proof : Written). proof.kept) same)
     (lesson_known passes before.kept clause hints level h.clauses lesson) h
 known_written passes assumptions before after (divides l among text same) h =

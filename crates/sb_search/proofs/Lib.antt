@@ -1,11 +1,11 @@
+mod Words
 mod Truths
 mod Places
 mod Turns
 mod Highest
 mod Due
 mod Refuting
-mod Outcomes
-mod Hints
 mod Following
 mod Known
-mod Writes
+mod Steps
+mod Ends

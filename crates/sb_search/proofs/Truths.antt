@@ -1,15 +1,5 @@
 -- Literals that stay true where a trail grows, and decisions that are assumptions.
-use Rattle.std.proofs.Common.{◌≡◌, ℕ, true, ◌||◌, leb, List, [], ◌∷◌, ◌++◌, sym, ◌∙◌, inl, inr}
-use Rattle.std.proofs.lemmas.Bool.{false≢true, cases_Bool, or_left, or_right, or_cases}
-use Rattle.sb_facts.proofs.CallerLemmas.{all_weaker}
-use Rattle.sb_lit.specs.declared.clause.Lit.{Lit}
-use Rattle.sb_lit.specs.Clauses.{is_same_literal, is_among, is_true_under}
-use Rattle.sb_lit.specs.Kept.{Kept}
-use Rattle.sb_trail.specs.declared.assigned.Assigned.{Assigned}
-use Rattle.sb_trail.specs.Assignments.{held, up_to}
-use Rattle.sb_clauses.specs.Propagation.{AreForced}
-use Rattle.sb_analyze.specs.Cores.{AreAssumed}
-use Rattle.sb_search.specs.Found.{are_true}
+use Rattle.sb_search.proofs.Words.{◌≡◌, ℕ, true, ◌||◌, leb, List, [], ◌∷◌, ◌++◌, sym, ◌∙◌, inl, inr, false≢true, cases_Bool, or_left, or_right, or_cases, all_weaker, Lit, is_same_literal, is_among, is_true_under, Kept, Assigned, held, up_to, AreAssumed, are_true, AreForced}
 
 -- what is true on a front of a trail
 pub true_front : (xs ys : List Assigned) (l : Lit) → is_true_under (held xs) l ≡ true

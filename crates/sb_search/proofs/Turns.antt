@@ -1,22 +1,5 @@
 -- What the moves of a search keep.
-use Rattle.std.proofs.Common.{◌≡◌, ◌⊎◌, ℕ, ◌+◌, ◌<◌, ◌≤◌, true, leb, ltb, take, List, [], ◌∷◌, ◌++◌, Some, None, refl, sym, ◌∙◌, ap, subst, inl, inr, arith}
-use Rattle.std.proofs.lemmas.Bool.{cases_Bool, lt-leb, leb-true, ltb-true, ltb-false, false_from_ne_true}
-use Rattle.std.proofs.lemmas.List.{append-nil}
-use Rattle.std.proofs.lemmas.List.Elements.{filter-append}
-use Rattle.sb_lit.specs.declared.clause.Lit.{Lit}
-use Rattle.sb_lit.specs.Clauses.{is_among, is_false_clause, leaves_only}
-use Rattle.sb_lit.specs.Kept.{Kept, KeptClause}
-use Rattle.sb_trail.specs.declared.assigned.Assigned.{Assigned}
-use Rattle.sb_trail.specs.Assignments.{IsTrail, held, current_level, level_behind, AreLevelled, up_to}
-use Rattle.sb_trail.proofs.CallerLemmas.{level_after-push, up_to-all, up_to-up_to}
-use Rattle.sb_clauses.specs.Propagation.{State, GrowsBy, IsSettled, has_room_for, are_reserved}
-use Rattle.sb_analyze.specs.Reasons.{AreReasoned}
-use Rattle.sb_analyze.specs.Learning.{IsSettledBelow}
-use Rattle.sb_analyze.specs.Cores.{AreAssumed}
-use Rattle.sb_analyze.proofs.CallerLemmas.{level_forced, level_up_to, settled_more, reasoned_grown, reasoned_decided, reasoned_up_to, reasoned_more, below_grown, below_decided, below_up_to}
-use Rattle.sb_search.specs.Asking.{decided}
-use Rattle.sb_search.specs.Found.{are_true}
-use Rattle.sb_search.specs.Searching.{have_places, IsSearching, IsLowest}
+use Rattle.sb_search.proofs.Words.{◌≡◌, ◌⊎◌, ℕ, ◌+◌, ◌<◌, ◌≤◌, true, leb, ltb, take, List, [], ◌∷◌, ◌++◌, Some, None, refl, sym, ◌∙◌, ap, subst, inl, inr, arith, cases_Bool, leb-true, ltb-true, ltb-false, false_from_ne_true, append-nil, Lit, ClauseId, is_among, is_false_clause, leaves_only, Kept, KeptClause, Assigned, IsTrail, held, current_level, AreLevelled, up_to, up_to-all, up_to-up_to, State, GrowsBy, has_room_for, are_reserved, AreReasoned, AreAssumed, reasoned_more, below_up_to, decided, are_true, have_places, IsSearching, Widens, IsKept, IsLowest, lt-leb, filter-append, level_behind, level_after-push, IsSettled, IsSettledBelow, level_forced, level_up_to, settled_more, reasoned_grown, reasoned_decided, reasoned_up_to, below_grown, below_decided}
 use Rattle.sb_search.proofs.Truths.{true_front, all_true, assumed_append, assumed_up_to, assumed_forced}
 use Rattle.sb_search.proofs.Places.{more_places, more_reserved, more_room}
 
@@ -37,8 +20,7 @@ searching_grown wanted assumptions levels next old new h kept grows =
       room = subst (λ (r : ℕ). has_room_for r new.kept ≡ true) (sym grows.reserved)
           (subst (λ (k : Kept). has_room_for old.trail.reserved k ≡ true) (sym kept) h.room);
       places = subst (λ (r : ℕ). have_places r wanted ≡ true) (sym grows.reserved) h.places;
-      assumption_places = subst (λ (r : ℕ). are_reserved r assumptions ≡ true) (sym grows.reserved)
-          h.assumption_places;
+      assumption_places = subst (λ (r : ℕ). are_reserved r assumptions ≡ true) (sym grows.reserved) h.assumption_places;
       assumed = subst (λ (es : List Assigned). AreAssumed assumptions es) (sym front)
           (assumed_append assumptions (up_to levels old.trail.literals) (up_to levels grows.added) h.assumed
           (assumed_up_to assumptions levels grows.added
@@ -59,8 +41,8 @@ level_decided es l = level_after-push 0 es (record { literal = l; level = curren
 
 -- an assumption is decided
 pub searching_assumed : (wanted : List ℕ) (assumptions : List Lit) (levels next now : ℕ) (old : State) (l : Lit)
-    → IsTrail old.trail → IsSettled old.kept (held old.trail.literals) → now ≡ current_level (decided old.trail.literals l)
-    → IsSearching wanted assumptions levels next old → is_among assumptions l ≡ true
+    → IsTrail old.trail → IsSettled old.kept (held old.trail.literals)
+    → now ≡ current_level (decided old.trail.literals l) → IsSearching wanted assumptions levels next old → is_among assumptions l ≡ true
     → current_level old.trail.literals ≤ levels
     → IsSearching wanted assumptions now next
     (record old { trail = record old.trail { literals = decided old.trail.literals l } })
@@ -135,22 +117,24 @@ assumed_back assumptions levels level es h =
           (sym (up_to-up_to levels level es (omega (arith, ltb-false level levels above)))) h
     ]
 
+pub below_back : (kept : Kept) (es : List Assigned) (level : ℕ) → AreLevelled 0 es → IsSettledBelow kept es
+    → IsSettledBelow kept (up_to level es)
+below_back kept es level levelled h =
+    elim (cases_Bool (ltb level (current_level es))) [
+      | inl under ↦ below_up_to kept es level h (ltb-true level (current_level es) under)
+      | inr top ↦ subst (λ (xs : List Assigned). IsSettledBelow kept xs)
+          (sym (up_to-all level 0 es levelled (omega (arith, ltb-false level (current_level es) top)))) h
+    ]
+
 -- levels are taken back
 pub searching_back : (wanted : List ℕ) (assumptions : List Lit) (levels next level : ℕ) (old : State)
     → IsTrail old.trail → IsSearching wanted assumptions levels next old
     → IsSearching wanted assumptions levels 0
     (record old { trail = record old.trail { literals = up_to level old.trail.literals } })
 searching_back wanted assumptions levels next level old is_trail h =
-    let es = old.trail.literals in
     record {
       reasoned = reasoned_up_to old.kept [] old.trail.literals level 0 h.reasoned is_trail.levelled;
-      below = elim (cases_Bool (ltb level (current_level old.trail.literals))) [
-        | inl under ↦ below_up_to old.kept old.trail.literals level h.below
-            (ltb-true level (current_level old.trail.literals) under)
-        | inr top ↦ subst (λ (xs : List Assigned). IsSettledBelow old.kept xs)
-            (sym (up_to-all level 0 old.trail.literals is_trail.levelled
-            (omega (arith, ltb-false level (current_level old.trail.literals) top)))) h.below
-      ];
+      below = below_back old.kept old.trail.literals level is_trail.levelled h.below;
       room = h.room;
       places = h.places;
       assumption_places = h.assumption_places;
@@ -168,19 +152,15 @@ searching_back wanted assumptions levels next level old is_trail h =
       first = λ _. refl;
     }
 
--- a clause is kept, and atoms get places
-pub searching_kept : (wanted : List ℕ) (assumptions : List Lit) (levels next : ℕ) (old new : State)
-    (clause : KeptClause) → new.kept ≡ old.kept ++ Some clause ∷ []
+-- the trail stays, atoms get places, and other clauses are kept
+pub searching_wider : (wanted : List ℕ) (assumptions : List Lit) (levels next : ℕ) (old new : State)
     → new.trail.literals ≡ old.trail.literals → old.trail.reserved ≤ new.trail.reserved
-    → has_room_for new.trail.reserved new.kept ≡ true
-    → IsSettledBelow (old.kept ++ Some clause ∷ []) old.trail.literals
-    → IsSearching wanted assumptions levels next old → IsSearching wanted assumptions levels next new
-searching_kept wanted assumptions levels next old new clause kept same more room below h = record {
-  reasoned = subst (λ (k : Kept). AreReasoned k [] new.trail.literals) (sym kept)
-      (subst (λ (es : List Assigned). AreReasoned (old.kept ++ Some clause ∷ []) [] es) (sym same)
-      (reasoned_more old.kept (Some clause) [] old.trail.literals h.reasoned));
-  below = subst (λ (k : Kept). IsSettledBelow k new.trail.literals) (sym kept)
-      (subst (λ (es : List Assigned). IsSettledBelow (old.kept ++ Some clause ∷ []) es) (sym same) below);
+    → has_room_for new.trail.reserved new.kept ≡ true → AreReasoned new.kept [] old.trail.literals
+    → IsSettledBelow new.kept old.trail.literals → IsSearching wanted assumptions levels next old
+    → IsSearching wanted assumptions levels next new
+searching_wider wanted assumptions levels next old new same more room reasoned below h = record {
+  reasoned = subst (λ (es : List Assigned). AreReasoned new.kept [] es) (sym same) reasoned;
+  below = subst (λ (es : List Assigned). IsSettledBelow new.kept es) (sym same) below;
   room = room;
   places = more_places old.trail.reserved new.trail.reserved wanted more h.places;
   assumption_places = more_reserved old.trail.reserved new.trail.reserved assumptions more h.assumption_places;
@@ -193,23 +173,13 @@ searching_kept wanted assumptions levels next old new clause kept same more room
 
 -- atoms get places
 pub searching_placed : (wanted : List ℕ) (assumptions : List Lit) (levels next : ℕ) (old new : State)
-    → new.kept ≡ old.kept → new.trail.literals ≡ old.trail.literals → old.trail.reserved ≤ new.trail.reserved
-    → IsSearching wanted assumptions levels next old → IsSearching wanted assumptions levels next new
-searching_placed wanted assumptions levels next old new kept same more h = record {
-  reasoned = subst (λ (k : Kept). AreReasoned k [] new.trail.literals) (sym kept)
-      (subst (λ (es : List Assigned). AreReasoned old.kept [] es) (sym same) h.reasoned);
-  below = subst (λ (k : Kept). IsSettledBelow k new.trail.literals) (sym kept)
-      (subst (λ (es : List Assigned). IsSettledBelow old.kept es) (sym same) h.below);
-  room = subst (λ (k : Kept). has_room_for new.trail.reserved k ≡ true) (sym kept)
-      (more_room old.trail.reserved new.trail.reserved old.kept more h.room);
-  places = more_places old.trail.reserved new.trail.reserved wanted more h.places;
-  assumption_places = more_reserved old.trail.reserved new.trail.reserved assumptions more h.assumption_places;
-  assumed = subst (λ (es : List Assigned). AreAssumed assumptions (up_to levels es)) (sym same) h.assumed;
-  given = subst (λ (es : List Assigned). levels < current_level es
-      → are_true (held (up_to levels es)) assumptions ≡ true) (sym same) h.given;
-  first = subst (λ (es : List Assigned). current_level es ≤ levels
-      → are_true (held es) (take next assumptions) ≡ true) (sym same) h.first;
-}
+    → Widens old new → IsSearching wanted assumptions levels next old → IsSearching wanted assumptions levels next new
+searching_placed wanted assumptions levels next old new w h =
+    searching_wider wanted assumptions levels next old new w.literals w.reserved
+    (subst (λ (k : Kept). has_room_for new.trail.reserved k ≡ true) (sym w.kept)
+    (more_room old.trail.reserved new.trail.reserved old.kept w.reserved h.room))
+    (subst (λ (k : Kept). AreReasoned k [] old.trail.literals) (sym w.kept) h.reasoned)
+    (subst (λ (k : Kept). IsSettledBelow k old.trail.literals) (sym w.kept) h.below) h
 
 -- a lemma is kept where it is neither false nor leaves a literal on each level below
 pub below_lemma : (kept : Kept) (k : KeptClause) (es : List Assigned) (level : ℕ) → IsLowest es k.literals level
@@ -227,32 +197,26 @@ below_lemma kept k es level lowest h = λ n low.
 
 -- levels are taken back, and a clause is kept there
 pub searching_after : (wanted wanted_now : List ℕ) (assumptions : List Lit) (levels next levels_now next_now level : ℕ)
-    (old middle new : State) (k : KeptClause) → IsTrail old.trail
+    (old middle new : State) (k : KeptClause) (id : ClauseId) → IsTrail old.trail
     → middle ≡ record old { trail = record old.trail { literals = up_to level old.trail.literals } }
-    → wanted_now ≡ wanted → levels_now ≡ levels → next_now ≡ 0 → new.kept ≡ middle.kept ++ Some k ∷ []
-    → new.trail.literals ≡ middle.trail.literals → middle.trail.reserved ≤ new.trail.reserved
-    → has_room_for new.trail.reserved new.kept ≡ true
+    → wanted_now ≡ wanted → levels_now ≡ levels → next_now ≡ 0 → IsKept middle new k id
+    → IsSearching wanted assumptions levels next old
     → IsSettledBelow (old.kept ++ Some k ∷ []) (up_to level old.trail.literals)
-    → IsSearching wanted assumptions levels next old → IsSearching wanted_now assumptions levels_now next_now new
-searching_after wanted wanted_now assumptions levels next levels_now next_now level old middle new k is_trail is_middle
-    same_wanted same_levels none kept same more room below h =
+    → IsSearching wanted_now assumptions levels_now next_now new
+searching_after wanted wanted_now assumptions levels next levels_now next_now level old middle new k id is_trail
+    is_middle same_wanted same_levels none kept h below =
+    let before = searching_back wanted assumptions levels next level old is_trail h in
+    let is_kept = kept.kept ∙ ap (λ (s : State). s.kept ++ Some k ∷ []) is_middle in
     subst (λ (w : List ℕ). IsSearching w assumptions levels_now next_now new) (sym same_wanted)
     (subst (λ (n : ℕ). IsSearching wanted assumptions n next_now new) (sym same_levels)
     (subst (λ (n : ℕ). IsSearching wanted assumptions levels n new) (sym none)
-    (searching_kept wanted assumptions levels 0
-    (record old { trail = record old.trail { literals = up_to level old.trail.literals } }) new k
-    (kept ∙ ap (λ (s : State). s.kept ++ Some k ∷ []) is_middle) (same ∙ ap (λ (s : State). s.trail.literals) is_middle)
-    (omega (arith, more, ap (λ (s : State). s.trail.reserved) is_middle)) room below
-    (searching_back wanted assumptions levels next level old is_trail h))))
-
-pub below_back : (kept : Kept) (es : List Assigned) (level : ℕ) → AreLevelled 0 es → IsSettledBelow kept es
-    → IsSettledBelow kept (up_to level es)
-below_back kept es level levelled h =
-    elim (cases_Bool (ltb level (current_level es))) [
-      | inl under ↦ below_up_to kept es level h (ltb-true level (current_level es) under)
-      | inr top ↦ subst (λ (xs : List Assigned). IsSettledBelow kept xs)
-          (sym (up_to-all level 0 es levelled (omega (arith, ltb-false level (current_level es) top)))) h
-    ]
+    (searching_wider wanted assumptions levels 0
+    (record old { trail = record old.trail { literals = up_to level old.trail.literals } }) new
+    (kept.literals ∙ ap (λ (s : State). s.trail.literals) is_middle)
+    (omega (arith, kept.reserved, ap (λ (s : State). s.trail.reserved) is_middle)) kept.room
+    (subst (λ (ks : Kept). AreReasoned ks [] (up_to level old.trail.literals)) (sym is_kept)
+    (reasoned_more old.kept (Some k) [] (up_to level old.trail.literals) before.reasoned))
+    (subst (λ (ks : Kept). IsSettledBelow ks (up_to level old.trail.literals)) (sym is_kept) below) before)))
 
 assumed_base : (assumptions : List Lit) (n : ℕ) (es : List Assigned) → AreLevelled n es
     → AreAssumed assumptions (up_to 0 es)
@@ -268,10 +232,9 @@ assumed_base assumptions n (e ∷ es) h =
 
 -- where a search begins
 pub searching_begun : (wanted : List ℕ) (assumptions : List Lit) (levels : ℕ) (old new : State) → IsTrail old.trail
-    → AreReasoned old.kept [] old.trail.literals → new.kept ≡ old.kept
-    → new.trail.literals ≡ up_to 0 old.trail.literals → has_room_for new.trail.reserved new.kept ≡ true
-    → have_places new.trail.reserved wanted ≡ true → are_reserved new.trail.reserved assumptions ≡ true
-    → IsSearching wanted assumptions levels 0 new
+    → AreReasoned old.kept [] old.trail.literals → new.kept ≡ old.kept → new.trail.literals ≡ up_to 0 old.trail.literals
+    → has_room_for new.trail.reserved new.kept ≡ true → have_places new.trail.reserved wanted ≡ true
+    → are_reserved new.trail.reserved assumptions ≡ true → IsSearching wanted assumptions levels 0 new
 searching_begun wanted assumptions levels old new is_trail reasoned kept same room places more =
     let flat : current_level new.trail.literals ≤ 0 =
     subst (λ (es : List Assigned). current_level es ≤ 0) (sym same)

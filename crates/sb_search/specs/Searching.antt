@@ -1,26 +1,19 @@
 -- Private: what holds between the turns of a search.
-use Rattle.std.specs.Prelude.{◌≡◌, ℕ, ◌<◌, ◌≤◌, ◌-◌, ◌⊎◌, Bool, true, false, nat_lt, nat_le, ◌||◌, if◌then◌else◌, List, [], take, length, Option, Some, None}
+use Rattle.std.specs.Prelude.{◌≡◌, ℕ, ◌<◌, ◌≤◌, ◌⊎◌, Bool, true, false, nat_lt, nat_le, ◌||◌, if◌then◌else◌, List, [], ◌∷◌, ◌++◌, take, length, Option, Some, None, Result, Ok, Err}
 use Rattle.std.specs.List.{list_all, slice_get}
 use Rattle.sb_lit.specs.declared.clause.Lit.{Lit}
-use Rattle.sb_lit.specs.Budgets.{Spending}
 use Rattle.sb_lit.specs.Clauses.{is_among, is_same_literal, is_true_under, is_false_under, is_false_clause, leaves_only}
+use Rattle.sb_lit.specs.declared.clause.ClauseId.{ClauseId}
+use Rattle.sb_lit.specs.Kept.{KeptClause}
 use Rattle.sb_trail.specs.declared.assigned.Assigned.{Assigned}
 use Rattle.sb_trail.specs.Assignments.{held, value_of, current_level, up_to}
 use Rattle.sb_clauses.specs.Propagation.{State, has_room_for, are_reserved}
 use Rattle.sb_analyze.specs.Reasons.{AreReasoned, level_in}
-use Rattle.sb_analyze.specs.Learning.{IsSettledBelow, IsLesson}
+use Rattle.sb_analyze.specs.Learning.{IsSettledBelow}
 use Rattle.sb_analyze.specs.Cores.{AreAssumed}
-use Rattle.sb_lit.specs.Kept.{Kept, kept_up_to}
-use Rattle.sb_rulebook.specs.Lines.{learned_line, rule_line, gate}
-use Rattle.sb_rulebook.specs.LineLaws.{has_text}
-use Rattle.sb_search.specs.Following.{all_hold}
-use Rattle.sb_search.specs.Found.{has_value, are_true, IsFound, GrowsTo}
-use Rattle.sb_search.specs.Writing.{Written, with_learned, with_gate, true_or_false}
+use Rattle.sb_search.specs.Found.{has_value, are_true}
 use Rattle.sb_search.specs.declared.stage.Next.{Next}
 use Rattle.sb_search.specs.declared.stage.Next.TheVariants as next
-use Rattle.sb_search.specs.declared.found.Found.{Found}
-use Rattle.sb_search.specs.declared.turn.Turn.{Turn}
-use Rattle.sb_search.specs.declared.turn.Turn.TheVariants as turn
 
 -- each of the atoms has a place
 abbrev pub have_places : ℕ → List ℕ → Bool
@@ -41,6 +34,20 @@ pub record IsSearching (wanted : List ℕ) (assumptions : List Lit) (levels next
   pub first : current_level search.trail.literals ≤ levels
       → are_true (held search.trail.literals) (take next assumptions) ≡ true
 
+-- atoms get places
+pub record Widens (old new : State) : Type 0 where
+  pub kept : new.kept ≡ old.kept
+  pub literals : new.trail.literals ≡ old.trail.literals
+  pub reserved : old.trail.reserved ≤ new.trail.reserved
+
+-- a clause is kept, and its atoms get places
+pub record IsKept (old new : State) (clause : KeptClause) (id : ClauseId) : Type 0 where
+  pub number : id.0 ≡ length old.kept
+  pub kept : new.kept ≡ old.kept ++ Some clause ∷ []
+  pub literals : new.trail.literals ≡ old.trail.literals
+  pub reserved : old.trail.reserved ≤ new.trail.reserved
+  pub room : has_room_for new.trail.reserved new.kept ≡ true
+
 -- an assumption that is not true, or none is left
 abbrev pub IsNextAssumption : List Lit → List Lit → Option Lit → Type 0
 IsNextAssumption held assumptions None = are_true held assumptions ≡ true
@@ -49,78 +56,33 @@ IsNextAssumption held assumptions (Some l) = (is_among assumptions l ≡ true) �
 -- an atom that is wanted and has no value, or none is left
 abbrev pub IsNextWanted : List ℕ → List Assigned → Option ℕ → Type 0
 IsNextWanted wanted entries None = list_all (has_value entries) wanted ≡ true
-IsNextWanted wanted entries (Some atom) = (value_of entries atom ≡ None) × ((at : ℕ) × (slice_get wanted at ≡ Some atom))
+IsNextWanted wanted entries (Some atom) =
+    (value_of entries atom ≡ None) × ((at : ℕ) × (slice_get wanted at ≡ Some atom))
 
 -- what is next
-abbrev pub IsNext : List ℕ → List Lit → ℕ → State → Next → Type 0
-IsNext wanted assumptions levels search (next.Assume l) = (current_level search.trail.literals ≤ levels)
+abbrev pub IsNext : List ℕ → List Lit → ℕ → State → Result Next Lit → Type 0
+IsNext wanted assumptions levels search (Ok (next.Assume l)) = (current_level search.trail.literals ≤ levels)
     × (is_among assumptions l ≡ true) × (value_of search.trail.literals l.atom ≡ None)
     × (l.atom < search.trail.reserved)
-IsNext wanted assumptions levels search (next.Refuted l) = (current_level search.trail.literals ≤ levels)
-    × (is_among assumptions l ≡ true) × (is_false_under (held search.trail.literals) l ≡ true)
-IsNext wanted assumptions levels search (next.Free atom) = (value_of search.trail.literals atom ≡ None)
-    × (atom < search.trail.reserved) × (are_true (held search.trail.literals) assumptions ≡ true)
-IsNext wanted assumptions levels search next.Full = (list_all (has_value search.trail.literals) wanted ≡ true)
+IsNext wanted assumptions levels search (Ok (next.Free (Some atom))) =
+    (value_of search.trail.literals atom ≡ None) × (atom < search.trail.reserved)
     × (are_true (held search.trail.literals) assumptions ≡ true)
+IsNext wanted assumptions levels search (Ok (next.Free None)) =
+    (list_all (has_value search.trail.literals) wanted ≡ true)
+    × (are_true (held search.trail.literals) assumptions ≡ true)
+IsNext wanted assumptions levels search (Err l) = (current_level search.trail.literals ≤ levels)
+    × (is_among assumptions l ≡ true) × (is_false_under (held search.trail.literals) l ≡ true)
 
 -- the level from which on the literal is false; where it is not, the number of entries, which no level is above
 abbrev pub false_from : List Assigned → Lit → ℕ
 false_from entries l = if is_false_under (held entries) l then level_in entries l else length entries
 
--- two different literals of the clause are not false up to the level
-pub record HasTwoAbove (entries : List Assigned) (clause : List Lit) (level : ℕ) : Type 0 where
-  pub one : Lit
-  pub other : Lit
-  pub one_there : is_among clause one ≡ true
-  pub other_there : is_among clause other ≡ true
-  pub differ : is_same_literal one other ≡ false
-  pub one_above : level < false_from entries one
-  pub other_above : level < false_from entries other
-
--- a budget of which as much is spent, or more, and that within its limit
-pub record IsSpentOn (old new : Spending) : Type 0 where
-  pub limit : new.limit ≡ old.limit
-  pub spent : old.spent ≤ new.spent
-  pub within : old.spent < new.spent → new.spent ≤ new.limit
-
--- more was spent, or as much and the measure did not rise
-abbrev pub IsNoWorse : Spending → Spending → ℕ → ℕ → Type 0
-IsNoWorse before after old new = (before.spent < after.spent) ⊎ ((after.spent ≡ before.spent) × (new ≤ old))
-
--- more was spent, or as much and the measure fell
-abbrev pub IsBetter : Spending → Spending → ℕ → ℕ → Type 0
-IsBetter before after old new = (before.spent < after.spent) ⊎ ((after.spent ≡ before.spent) × (new < old))
-
--- how a turn ends: with an answer, with a longer trail on which nothing is worse, or with something better
-abbrev pub GoesOn : List ℕ → List Lit → ℕ → ℕ → State → State → Spending → Spending → ℕ → ℕ → Turn → Type 0
-GoesOn wanted assumptions levels next old new before after most now (turn.Ends found) =
-    IsFound wanted assumptions new after found × AreReasoned new.kept [] new.trail.literals
-GoesOn wanted assumptions levels next old new before after most now turn.Decides =
-    IsSearching wanted assumptions levels next new × IsNoWorse before after most now
-    × (new.trail.reserved - length new.trail.literals < old.trail.reserved - length old.trail.literals)
-GoesOn wanted assumptions levels next old new before after most now turn.Moves =
-    IsSearching wanted assumptions levels next new × IsBetter before after most now
-
--- what a turn makes of the search
-pub record IsTurned (wanted : List ℕ) (assumptions : List Lit) (levels next : ℕ) (old new : State)
-    (before after : Spending) (most now : ℕ) (turn : Turn) : Type 0 where
-  pub grows : GrowsTo old.kept new.kept
-  pub spends : IsSpentOn before after
-  pub goes_on : GoesOn wanted assumptions levels next old new before after most now turn
-
--- the new clauses are true wherever the old ones are, up to each level
-abbrev pub Entails : Kept → Kept → Type 0
-Entails old new = (values : ℕ → Bool) (level : ℕ) → all_hold values (kept_up_to level old) ≡ true
-    → all_hold values (kept_up_to level new) ≡ true
-
--- below the level two different literals are not false
-abbrev pub IsHighUpTo : List Assigned → List Lit → ℕ → Type 0
-IsHighUpTo entries clause level = (n : ℕ) → n < level → HasTwoAbove entries clause n
-
--- The level is the lowest one from which on all literals of the clause but this one are false.
+-- The level is the lowest one from which on all literals of the clause but this one are false: below it neither this
+-- one nor another one is.
 pub record IsSecond (entries : List Assigned) (clause : List Lit) (last : Lit) (level : ℕ) : Type 0 where
   pub there : is_among clause last ≡ true
-  pub two_below : IsHighUpTo entries clause level
+  pub second : 0 < level → (l : Lit) × (is_among clause l ≡ true) × (is_same_literal l last ≡ false)
+      × (level ≤ false_from entries l) × (level ≤ false_from entries last)
   pub others : list_all (λ l. is_same_literal l last || nat_le (false_from entries l) level) clause ≡ true
 
 -- the clause is false, or leaves one literal
@@ -147,31 +109,9 @@ higher entries but best l =
       | Some m ↦ if nat_le (false_from entries l) (false_from entries m) then Some m else Some l
     ]
 
--- a literal of those that are false from the highest level on, among those that are not this one; none where there is no
--- other
+-- a literal of those that are false from the highest level on, among those that are not this one; none where there is
+-- no other
 abbrev pub IsHighest : List Assigned → List Lit → Option Lit → Option Lit → Type 0
 IsHighest entries clause but None = list_all (is_but but) clause ≡ true
 IsHighest entries clause but (Some best) = (is_among clause best ≡ true) × (is_but but best ≡ false)
     × (list_all (λ l. is_but but l || nat_le (false_from entries l) (false_from entries best)) clause ≡ true)
-
--- what some turns make of the search: an answer, or a place from which it goes on
-abbrev pub Continues : List ℕ → List Lit → ℕ → ℕ → State → Spending → Option Found → Type 0
-Continues wanted assumptions levels next new after None = IsSearching wanted assumptions levels next new
-Continues wanted assumptions levels next new after (Some found) =
-    IsFound wanted assumptions new after found × AreReasoned new.kept [] new.trail.literals
-
-pub record IsRound (wanted : List ℕ) (assumptions : List Lit) (levels next : ℕ) (old new : State)
-    (before after : Spending) (found : Option Found) : Type 0 where
-  pub grows : GrowsTo old.kept new.kept
-  pub spends : IsSpentOn before after
-  pub continues : Continues wanted assumptions levels next new after found
-
--- what the search writes itself: nothing, a clause that is learned where a step was left, or that the atom of an
--- assumption is true or false
-pub data IsWritten (assumptions : List Lit) (before after : Written) : Type 0 where
-  nothing : after ≡ before → IsWritten assumptions before after
-  learns : (clause : List Lit) (hints : List ℕ) (level : ℕ) → IsLesson before.kept clause hints level
-      → has_text (learned_line clause hints) ≡ true → before.budget.spent < before.budget.limit
-      → after ≡ with_learned clause hints level before → IsWritten assumptions before after
-  divides : (l : Lit) → is_among assumptions l ≡ true → has_text (rule_line gate (true_or_false l.atom)) ≡ true
-      → after ≡ with_gate l.atom before → IsWritten assumptions before after

@@ -1,25 +1,20 @@
 //! Clauses that are false on the trail.
 
-ghost use Rattle.std.specs.Prelude.{◌≡◌, ◌≢◌, ℕ, ◌<◌, ◌≤◌, [], ◌∷◌, ◌++◌, List, true, Some, IfOk, OnOk};
+ghost use Rattle.std.specs.Prelude.{◌≡◌, List, [], true, IfOk};
 ghost use Rattle.sb_lit.specs.declared.clause.Lit.{Lit as TheLit};
 ghost use Rattle.sb_lit.specs.Budgets.{Spending};
-ghost use Rattle.sb_lit.specs.Clauses.{is_among};
-ghost use Rattle.sb_trail.specs.Assignments.{held, current_level};
+ghost use Rattle.sb_trail.specs.Assignments.{held};
 ghost use Rattle.sb_clauses.specs.Propagation.{IsConflict};
 ghost use Rattle.sb_analyze.specs.Reasons.{AreReasoned};
-ghost use Rattle.sb_analyze.specs.Learning.{IsLesson, IsAsserting, IsSettledBelow};
 ghost use Rattle.sb_analyze.specs.Cores.{AreAssumed, IsFinal, IsBothCore, IsNewCore};
 ghost use Rattle.sb_rulebook.specs.Lines.{rule_line, gate};
 ghost use Rattle.sb_rulebook.specs.LineLaws.{has_text};
-ghost use Rattle.sb_search.specs.Asking.{HasKnownAtoms, CountsFaults};
-ghost use Rattle.sb_search.specs.Found.{GrowsTo, IsFound};
-ghost use Rattle.sb_search.specs.Searching.{IsSearching, IsTurned, IsSpentOn, IsWritten, Entails};
-ghost use Rattle.sb_search.specs.Writing.{Written, written, true_or_false};
-ghost use Rattle.sb_search.specs.declared.found.Found.TheVariants.{Sat};
-ghost use Rattle.sb_search.specs.declared.turn.Turn.TheVariants.{Ends};
+ghost use Rattle.sb_search.specs.Asking.{CountsFaults};
+ghost use Rattle.sb_search.specs.Turning.{Stays, IsReady, IsTurned, LessonsFollow, Refutes, moment};
+ghost use Rattle.sb_search.specs.Writing.{true_or_false};
 
 use crate::found::Found;
-use crate::lemma::{backtrack, keep};
+use crate::lemma::{keep, keep_at, keeps_laws};
 use crate::lines::{put_both, put_learned};
 use crate::stage::Stage;
 use crate::theory::Theory;
@@ -28,10 +23,11 @@ use sb_analyze::{Core, Learned, final_core, learn};
 use sb_clauses::Engine;
 use sb_lit::{Budget, Clause, ClauseId, Lit};
 use sb_proof::{Tape, TapeFault};
+use sb_sound::hints::{learned_has_levels, learned_holds};
 use std::alloc::{AllocError, Global};
 
-/// Learns from a false clause, and goes back to where what was learned leaves one literal; where all decisions are
-/// assumptions they are refuted.
+/// Learns from a false clause, and goes back to where what was learned leaves one literal, or to the beginning; where
+/// all decisions are assumptions they are refuted.
 pub(crate) fn resolve<T: Theory, L: Tape>(
     alloc: Global,
     theory: &mut T,
@@ -42,26 +38,15 @@ pub(crate) fn resolve<T: Theory, L: Tape>(
     tape: &mut L,
     budget: &mut Budget,
 ) -> Result<Turn, TapeFault>
-    requires searching { IsSearching (T.wanted theory.old) assumptions.now stage.old.levels stage.old.next engine.old }
+    requires ready { IsReady T.Theory assumptions.now stage.old theory.old engine.old }
     requires conflict { IsConflict engine.old.kept (held engine.old.trail.literals) conflict.0 }
-    requires stands { T.stands theory.old engine.old.trail.literals }
-    requires known { HasKnownAtoms (T.passes theory.old) engine.old.kept assumptions.now }
-    ensures turned { IfOk result (IsTurned (T.wanted theory.new) assumptions.now stage.new.levels stage.new.next
-        engine.old engine.new budget.old budget.new
-        (T.measure theory.old engine.old.kept engine.old.trail.literals)
-        (T.measure theory.new engine.new.kept engine.new.trail.literals)) }
-    ensures follows { OnOk result (Entails engine.old.kept engine.new.kept) }
-    ensures not_sat { IfOk result (λ turn. turn ≢ Ends Sat) }
-    ensures stands { OnOk result (T.stands theory.new engine.new.trail.literals) }
-    ensures known { OnOk result (HasKnownAtoms (T.passes theory.new) engine.new.kept assumptions.now) }
-    ensures puts { OnOk result (T.puts theory.old theory.new
-        (written engine.old.kept budget.old (L.Tape.told tape.old))
-        (written engine.new.kept budget.new (L.Tape.told tape.new))) }
-    ensures wanted { T.wanted theory.new ≡ T.wanted theory.old }
-    ensures passes { (atom : ℕ) → T.passes theory.old atom → T.passes theory.new atom }
-    ensures teaches { (clause : List TheLit) → T.teaches theory.old clause → T.teaches theory.new clause }
+    ensures turned { IfOk result (IsTurned T.Theory assumptions.now stage.new
+        (moment theory.old engine.old budget.old (L.Tape.told tape.old))
+        (moment theory.new engine.new budget.new (L.Tape.told tape.new))) }
+    ensures stays { Stays T.Theory theory.old theory.new }
     ensures counts { CountsFaults result (L.Tape.faults tape.old) (L.Tape.faults tape.new) }
 {
+    keeps_laws::<T>();
     let trail = engine.trail();
     let _before = trail.literals();
     if trail.current_level() <= stage.levels {
@@ -71,57 +56,13 @@ pub(crate) fn resolve<T: Theory, L: Tape>(
     if budget.tick().is_err() {
         return Ok(Turn::Ends(Found::Spent));
     }
-    let lesson = explain(alloc, engine, conflict)?;
+    let lesson = learn(alloc, engine.trail(), engine.clauses(), conflict)?;
     stage.choices.learn(engine.clauses(), &lesson);
+    learned_follows();
     put_learned(alloc, &lesson, tape)?;
-    take_lesson(theory, engine, stage, &lesson)?;
-    Ok(Turn::Moves)
-}
-
-/// What a false clause teaches.
-fn explain(alloc: Global, engine: &Engine, conflict: ClauseId) -> Result<Learned, AllocError>
-    requires reasoned { AreReasoned engine.now.kept [] engine.now.trail.literals }
-    requires below { IsSettledBelow engine.now.kept engine.now.trail.literals }
-    requires above { 0 < current_level engine.now.trail.literals }
-    requires conflict { IsConflict engine.now.kept (held engine.now.trail.literals) conflict.0 }
-    ensures { IfOk result
-        (IsAsserting engine.now.kept engine.now.trail.literals (current_level engine.now.trail.literals)) }
-{
-    let trail = engine.trail();
-    let _before = trail.literals();
-    let lesson = learn(alloc, trail, engine.clauses(), conflict)?;
-    Ok(lesson)
-}
-
-/// Goes back to where what was learned leaves one literal, or to the beginning, and keeps it.
-fn take_lesson<T: Theory>(
-    theory: &mut T,
-    engine: &mut Engine,
-    stage: &mut Stage,
-    lesson: &Learned,
-) -> Result<(), AllocError>
-    requires { IsAsserting engine.old.kept engine.old.trail.literals
-        (current_level engine.old.trail.literals) lesson.now }
-    ensures searching { OnOk result ((assumptions : List TheLit)
-        → IsSearching (T.wanted theory.old) assumptions stage.old.levels stage.old.next engine.old
-        → IsSearching (T.wanted theory.new) assumptions stage.new.levels stage.new.next engine.new) }
-    ensures grows { OnOk result (GrowsTo engine.old.kept engine.new.kept) }
-    ensures kept { OnOk result (engine.new.kept ≡ engine.old.kept
-        ++ Some (record { literals = lesson.now.clause; level = lesson.now.level }) ∷ []) }
-    ensures follows { OnOk result (Entails engine.old.kept engine.new.kept) }
-    ensures stands { OnOk result (T.stands theory.old engine.old.trail.literals
-        → T.stands theory.new engine.new.trail.literals) }
-    ensures puts { (proof : Written) → T.puts theory.old theory.new proof proof }
-    ensures wanted { T.wanted theory.new ≡ T.wanted theory.old }
-    ensures passes { (atom : ℕ) → T.passes theory.old atom → T.passes theory.new atom }
-    ensures teaches { (clause : List TheLit) → T.teaches theory.old clause → T.teaches theory.new clause }
-{
-    let trail = engine.trail();
-    let _before = trail.literals();
     let level = stage.restarts.level(lesson.backjump_level);
-    backtrack(theory, engine, stage, level);
-    keep(engine, &lesson.clause, lesson.level)?;
-    Ok(())
+    keep_at(theory, engine, stage, level, &lesson.clause, lesson.level)?;
+    Ok(Turn::Moves)
 }
 
 /// A kept clause of negated assumptions: one that is there, or that two assumptions are not both true, or one that is
@@ -137,17 +78,8 @@ pub(crate) fn refute<L: Tape>(
     requires reasoned { AreReasoned engine.old.kept [] engine.old.trail.literals }
     requires assumed { AreAssumed assumptions.now engine.old.trail.literals }
     requires conflict { IsFinal engine.old.kept engine.old.trail.literals assumptions.now conflict }
-    ensures found { IfOk result (λ found. (wanted : List ℕ)
-        → IsFound wanted assumptions.now engine.new budget.new found) }
-    ensures not_sat { IfOk result (λ found. found ≢ Sat) }
-    ensures reasoned { OnOk result (AreReasoned engine.new.kept [] engine.new.trail.literals) }
-    ensures literals { OnOk result (engine.new.trail.literals ≡ engine.old.trail.literals) }
-    ensures grows { OnOk result (GrowsTo engine.old.kept engine.new.kept) }
-    ensures follows { OnOk result (Entails engine.old.kept engine.new.kept) }
-    ensures writes { OnOk result (IsWritten assumptions.now
-        (written engine.old.kept budget.old (L.Tape.told tape.old))
-        (written engine.new.kept budget.new (L.Tape.told tape.new))) }
-    ensures spends { OnOk result (IsSpentOn budget.old budget.new) }
+    ensures refutes { IfOk result (Refutes assumptions.now engine.old engine.new budget.old budget.new
+        (L.Tape.told tape.old) (L.Tape.told tape.new)) }
     ensures counts { CountsFaults result (L.Tape.faults tape.old) (L.Tape.faults tape.new) }
 {
     let core = final_core(
@@ -171,18 +103,10 @@ fn keep_both<L: Tape>(
     literal: Lit,
     tape: &mut L,
 ) -> Result<Found, TapeFault>
-    requires reasoned { AreReasoned engine.old.kept [] engine.old.trail.literals }
-    ensures found { IfOk result (λ found. (wanted : List ℕ) (assumptions : List TheLit) (budget : Spending)
-        → IsBothCore engine.old.kept assumptions literal → IsFound wanted assumptions engine.new budget found) }
-    ensures not_sat { IfOk result (λ found. found ≢ Sat) }
-    ensures reasoned { OnOk result (AreReasoned engine.new.kept [] engine.new.trail.literals) }
-    ensures literals { OnOk result (engine.new.trail.literals ≡ engine.old.trail.literals) }
-    ensures grows { OnOk result (GrowsTo engine.old.kept engine.new.kept) }
-    ensures follows { OnOk result (Entails engine.old.kept engine.new.kept) }
-    ensures writes { OnOk result ((assumptions : List TheLit) (budget : Spending)
-        → is_among assumptions literal ≡ true → IsWritten assumptions
-        (written engine.old.kept budget (L.Tape.told tape.old))
-        (written engine.new.kept budget (L.Tape.told tape.new))) }
+    requires { AreReasoned engine.old.kept [] engine.old.trail.literals }
+    ensures refutes { IfOk result (λ found. (assumptions : List TheLit) (budget : Spending)
+        → IsBothCore engine.old.kept assumptions literal → Refutes assumptions engine.old engine.new budget budget
+        (L.Tape.told tape.old) (L.Tape.told tape.new) found) }
     ensures counts { CountsFaults result (L.Tape.faults tape.old) (L.Tape.faults tape.new) }
 {
     put_both(both(alloc, literal.atom)?, tape)?;
@@ -217,25 +141,25 @@ fn keep_core<L: Tape>(
     tape: &mut L,
     budget: &mut Budget,
 ) -> Result<Found, TapeFault>
-    requires reasoned { AreReasoned engine.old.kept [] engine.old.trail.literals }
-    requires is_lesson { IsLesson engine.old.kept lesson.now.clause lesson.now.hints lesson.now.level }
-    ensures found { IfOk result (λ found. (wanted : List ℕ) (assumptions : List TheLit)
-        → IsNewCore engine.old.kept assumptions lesson.now → IsFound wanted assumptions engine.new budget.new found) }
-    ensures not_sat { IfOk result (λ found. found ≢ Sat) }
-    ensures reasoned { OnOk result (AreReasoned engine.new.kept [] engine.new.trail.literals) }
-    ensures literals { OnOk result (engine.new.trail.literals ≡ engine.old.trail.literals) }
-    ensures grows { OnOk result (GrowsTo engine.old.kept engine.new.kept) }
-    ensures follows { OnOk result (Entails engine.old.kept engine.new.kept) }
-    ensures writes { OnOk result ((assumptions : List TheLit) → IsWritten assumptions
-        (written engine.old.kept budget.old (L.Tape.told tape.old))
-        (written engine.new.kept budget.new (L.Tape.told tape.new))) }
-    ensures spends { OnOk result (IsSpentOn budget.old budget.new) }
+    requires { AreReasoned engine.old.kept [] engine.old.trail.literals }
+    ensures refutes { IfOk result (λ found. (assumptions : List TheLit)
+        → IsNewCore engine.old.kept assumptions lesson.now → Refutes assumptions engine.old engine.new budget.old
+        budget.new (L.Tape.told tape.old) (L.Tape.told tape.new) found) }
     ensures counts { CountsFaults result (L.Tape.faults tape.old) (L.Tape.faults tape.new) }
 {
     if budget.tick().is_err() {
         return Ok(Found::Spent);
     }
+    learned_follows();
     put_learned(alloc, lesson, tape)?;
     let id = keep(engine, &lesson.clause, lesson.level)?;
     Ok(Found::Unsat(id))
+}
+
+/// A clause that is learned follows from what is kept, up to each level.
+fn learned_follows()
+    ensures { LessonsFollow }
+{
+    learned_holds();
+    learned_has_levels();
 }

@@ -1,16 +1,13 @@
 //! Lemmas of the theory, and going back.
 
-ghost use Rattle.std.specs.Prelude.{◌≡◌, ℕ, ◌<◌, ◌≤◌, ◌∷◌, ◌++◌, [], List, length, true, Some, None, OnOk, IfOk};
-ghost use Rattle.sb_lit.specs.declared.clause.Lit.{Lit as TheLit};
+ghost use Rattle.std.specs.Prelude.{◌≡◌, ◌<◌, List, true, Some, None, OnOk, IfOk};
 ghost use Rattle.sb_lit.specs.Clauses.{is_true_under};
-ghost use Rattle.sb_lit.specs.Kept.{Kept};
 ghost use Rattle.sb_trail.specs.declared.assigned.Assigned.{Assigned};
 ghost use Rattle.sb_trail.specs.Assignments.{held, up_to};
 ghost use Rattle.sb_clauses.specs.Propagation.{has_room_for};
 ghost use Rattle.sb_analyze.specs.Reasons.{level_in};
-ghost use Rattle.sb_search.specs.Asking.{with_lemma};
-ghost use Rattle.sb_search.specs.Searching.{IsLowest, IsHighest, IsSecond, IsSearching, false_from, higher, is_but};
-ghost use Rattle.sb_search.specs.Writing.{Written};
+ghost use Rattle.sb_search.specs.Searching.{IsKept, Widens, IsLowest, IsHighest, IsSecond, false_from, higher, is_but};
+ghost use Rattle.sb_search.specs.Turning.{GoesBack, HasLaws, Keeps};
 
 use crate::stage::Stage;
 use crate::theory::Theory;
@@ -19,35 +16,28 @@ use sb_lit::{Clause, ClauseId, Lit};
 use sb_trail::Trail;
 use std::alloc::AllocError;
 
-/// Keeps a lemma, and goes back to the lowest level on which it is false or leaves one literal, if there is one.
-pub(crate) fn take_lemma<T: Theory>(
+/// What the laws of a theory say.
+pub(crate) fn keeps_laws<T: Theory>()
+    ensures { HasLaws T.Theory }
+{}
+
+/// Takes the levels above this one back, and keeps a clause.
+pub(crate) fn keep_at<T: Theory>(
     theory: &mut T,
     engine: &mut Engine,
     stage: &mut Stage,
+    level: usize,
     clause: &Clause,
+    clause_level: u64,
 ) -> Result<(), AllocError>
-    ensures searching { OnOk result ((assumptions : List TheLit)
-        → IsSearching (T.wanted theory.old) assumptions stage.old.levels stage.old.next engine.old
-        → IsSearching (T.wanted theory.new) assumptions stage.new.levels stage.new.next engine.new) }
-    ensures kept { OnOk result (engine.new.kept ≡ with_lemma engine.old.kept clause.now) }
-    ensures back { OnOk result ((level : ℕ) × IsLowest engine.old.trail.literals clause.now level
-        × (engine.new.trail.literals ≡ up_to level engine.old.trail.literals)) }
-    ensures stands { OnOk result (T.stands theory.old engine.old.trail.literals
-        → T.stands theory.new engine.new.trail.literals) }
-    ensures falls { OnOk result ((most : ℕ)
-        → ((level : ℕ) → T.measure theory.old (with_lemma engine.old.kept clause.now)
-        (up_to level engine.old.trail.literals) < most)
-        → T.measure theory.new engine.new.kept engine.new.trail.literals < most) }
-    ensures puts { (proof : Written) → T.puts theory.old theory.new proof proof }
-    ensures wanted { T.wanted theory.new ≡ T.wanted theory.old }
-    ensures passes { (atom : ℕ) → T.passes theory.old atom → T.passes theory.new atom }
-    ensures teaches { (clause : List TheLit) → T.teaches theory.old clause → T.teaches theory.new clause }
+    ensures keeps { OnOk result (Keeps T.Theory theory.old theory.new engine.old engine.new
+        stage.old.levels stage.old.next stage.new level (record { literals = clause.now; level = clause_level })) }
+    ensures back { GoesBack T.Theory theory.old theory.new }
 {
     let trail = engine.trail();
     let _before = trail.literals();
-    let level = lowest_level(trail, clause.literals());
     backtrack(theory, engine, stage, level);
-    keep(engine, clause, 0)?;
+    keep(engine, clause, clause_level)?;
     Ok(())
 }
 
@@ -63,12 +53,7 @@ pub(crate) fn backtrack<T: Theory>(
     ensures levels { stage.new.levels ≡ stage.old.levels }
     ensures next { stage.new.next ≡ 0 }
     ensures stands { (entries : List Assigned) → T.stands theory.old entries → T.stands theory.new (up_to level entries) }
-    ensures puts { (proof : Written) → T.puts theory.old theory.new proof proof }
-    ensures wanted { T.wanted theory.new ≡ T.wanted theory.old }
-    ensures passes { (atom : ℕ) → T.passes theory.old atom → T.passes theory.new atom }
-    ensures teaches { (clause : List TheLit) → T.teaches theory.old clause → T.teaches theory.new clause }
-    ensures falls { (kept : Kept) (entries : List Assigned)
-        → T.measure theory.new kept entries ≤ T.measure theory.old kept entries }
+    ensures back { GoesBack T.Theory theory.old theory.new }
 {
     stage.choices.backtrack(engine.trail().literals(), level);
     engine.backtrack(level);
@@ -79,12 +64,7 @@ pub(crate) fn backtrack<T: Theory>(
 
 /// Keeps a clause, and makes places for its atoms.
 pub(crate) fn keep(engine: &mut Engine, clause: &Clause, level: u64) -> Result<ClauseId, AllocError>
-    ensures number { IfOk result (λ id. id.0 ≡ length engine.old.kept) }
-    ensures kept { OnOk result
-        (engine.new.kept ≡ engine.old.kept ++ Some (record { literals = clause.now; level = level }) ∷ []) }
-    ensures literals { OnOk result (engine.new.trail.literals ≡ engine.old.trail.literals) }
-    ensures reserved { OnOk result (engine.old.trail.reserved ≤ engine.new.trail.reserved) }
-    ensures room { OnOk result (has_room_for engine.new.trail.reserved engine.new.kept ≡ true) }
+    ensures { IfOk result (IsKept engine.old engine.new (record { literals = clause.now; level = level })) }
 {
     let id = engine.add(clause, level)?;
     make_room(engine)?;
@@ -93,9 +73,7 @@ pub(crate) fn keep(engine: &mut Engine, clause: &Clause, level: u64) -> Result<C
 
 /// Makes places for all atoms of kept clauses.
 pub(crate) fn make_room(engine: &mut Engine) -> Result<(), AllocError>
-    ensures kept { OnOk result (engine.new.kept ≡ engine.old.kept) }
-    ensures literals { OnOk result (engine.new.trail.literals ≡ engine.old.trail.literals) }
-    ensures reserved { OnOk result (engine.old.trail.reserved ≤ engine.new.trail.reserved) }
+    ensures widens { OnOk result (Widens engine.old engine.new) }
     ensures room { OnOk result (has_room_for engine.new.trail.reserved engine.new.kept ≡ true) }
 {
     let atoms = engine.atoms();
@@ -105,9 +83,7 @@ pub(crate) fn make_room(engine: &mut Engine) -> Result<(), AllocError>
 
 /// Makes a place for an atom.
 pub(crate) fn make_place(engine: &mut Engine, atom: u64) -> Result<(), AllocError>
-    ensures kept { OnOk result (engine.new.kept ≡ engine.old.kept) }
-    ensures literals { OnOk result (engine.new.trail.literals ≡ engine.old.trail.literals) }
-    ensures reserved { OnOk result (engine.old.trail.reserved ≤ engine.new.trail.reserved) }
+    ensures widens { OnOk result (Widens engine.old engine.new) }
     ensures place { OnOk result (atom < engine.new.trail.reserved) }
 {
     match atom.checked_add(1) {
@@ -118,7 +94,7 @@ pub(crate) fn make_place(engine: &mut Engine, atom: u64) -> Result<(), AllocErro
 
 /// The lowest level on which a clause is false or leaves one literal, where there is one below the current level; else a
 /// level that leaves the trail as it is.
-fn lowest_level(trail: &Trail, clause: &[Lit]) -> usize
+pub(crate) fn lowest_level(trail: &Trail, clause: &[Lit]) -> usize
     ensures { IsLowest trail.now.literals clause.now result }
 {
     let Some(last) = highest_but(trail, clause, None) else {

@@ -1,6 +1,6 @@
 //! The whole search.
 
-ghost use Rattle.std.specs.Prelude.{◌≡◌, ℕ, ◌<◌, ◌≤◌, List, [], true, Some, None, IfOk, OnOk};
+ghost use Rattle.std.specs.Prelude.{◌≡◌, ℕ, ◌≤◌, List, [], true, IfOk, OnOk};
 ghost use Rattle.sb_lit.specs.declared.clause.Lit.{Lit as TheLit};
 ghost use Rattle.sb_lit.specs.declared.clause.ClauseId.{ClauseId as TheId};
 ghost use Rattle.sb_clauses.specs.Propagation.{are_reserved};
@@ -8,13 +8,15 @@ ghost use Rattle.sb_analyze.specs.Reasons.{AreReasoned};
 ghost use Rattle.sb_search.specs.Asking.{AreAllKnown, HasKnownAtoms, CountsFaults};
 ghost use Rattle.sb_search.specs.Following.{Follows, FollowsByLevel, AreRefuted};
 ghost use Rattle.sb_search.specs.Found.{GrowsTo, IsFound};
-ghost use Rattle.sb_search.specs.Searching.{have_places, IsSearching, IsBetter, IsRound};
-ghost use Rattle.sb_search.specs.Writing.{Written, written};
+ghost use Rattle.sb_search.specs.Searching.{have_places, Widens};
+ghost use Rattle.sb_search.specs.Turning.{Stays, GoesBack, IsReady, IsTurned, moment};
+ghost use Rattle.sb_search.specs.Writing.{written};
 ghost use Rattle.sb_search.specs.declared.found.Found.TheVariants.{Sat, Unsat};
+ghost use Rattle.sb_search.specs.declared.turn.Turn.TheVariants.{Ends};
 
 use crate::choices::Choices;
 use crate::found::Found;
-use crate::lemma::{backtrack, make_place, make_room};
+use crate::lemma::{backtrack, keeps_laws, make_place, make_room};
 use crate::restarts::Restarts;
 use crate::stage::Stage;
 use crate::theory::Theory;
@@ -78,18 +80,46 @@ pub fn search<T: Theory, L: Tape>(
         choices: Choices::new(alloc),
         restarts: Restarts::new(),
     };
-    begin(theory, engine, &mut stage, assumptions)?;
-    loop {
-        if let Some(found) = spend_one(
-            alloc,
-            theory,
-            engine,
-            &mut stage,
-            assumptions,
-            tape,
-            budget,
-        )? {
-            return Ok(found);
+    run(alloc, theory, engine, &mut stage, assumptions, tape, budget)
+}
+
+/// Begins, and takes turns until the search ends. Each round of the outermost loop spends a step; each round of the
+/// next one lets the measure fall, where no step is spent; each round of the innermost makes the trail longer.
+fn run<T: Theory, L: Tape>(
+    alloc: Global,
+    theory: &mut T,
+    engine: &mut Engine,
+    stage: &mut Stage,
+    assumptions: &[Lit],
+    tape: &mut L,
+    budget: &mut Budget,
+) -> Result<Found, TapeFault>
+    requires reasoned { AreReasoned engine.old.kept [] engine.old.trail.literals }
+    requires stands { T.stands theory.old engine.old.trail.literals }
+    requires passes { HasKnownAtoms (T.passes theory.old) engine.old.kept assumptions.now }
+    ensures turned { IfOk result (λ found. IsTurned T.Theory assumptions.now stage.new
+        (moment theory.old engine.old budget.old (L.Tape.told tape.old))
+        (moment theory.new engine.new budget.new (L.Tape.told tape.new)) (Ends found)) }
+    ensures stays { Stays T.Theory theory.old theory.new }
+    ensures counts { CountsFaults result (L.Tape.faults tape.old) (L.Tape.faults tape.new) }
+{
+    keeps_laws::<T>();
+    begin(theory, engine, stage, assumptions)?;
+    'steps: loop {
+        let start = budget.spent();
+        'moves: loop {
+            'decisions: loop {
+                match take_turn(alloc, theory, engine, stage, assumptions, tape, budget)? {
+                    Turn::Ends(found) => return Ok(found),
+                    Turn::Decides => {}
+                    Turn::Moves => {
+                        if budget.spent() > start {
+                            continue 'steps;
+                        }
+                        continue 'moves;
+                    }
+                }
+            }
         }
     }
 }
@@ -102,15 +132,11 @@ fn begin<T: Theory>(
     assumptions: &[Lit],
 ) -> Result<(), AllocError>
     requires reasoned { AreReasoned engine.old.kept [] engine.old.trail.literals }
-    ensures searching { OnOk result
-        (IsSearching (T.wanted theory.new) assumptions.now stage.new.levels stage.new.next engine.new) }
+    requires stands { T.stands theory.old engine.old.trail.literals }
+    requires passes { HasKnownAtoms (T.passes theory.old) engine.old.kept assumptions.now }
+    ensures ready { OnOk result (IsReady T.Theory assumptions.now stage.new theory.new engine.new) }
     ensures kept { OnOk result (engine.new.kept ≡ engine.old.kept) }
-    ensures stands { OnOk result (T.stands theory.old engine.old.trail.literals
-        → T.stands theory.new engine.new.trail.literals) }
-    ensures puts { (proof : Written) → T.puts theory.old theory.new proof proof }
-    ensures wanted { T.wanted theory.new ≡ T.wanted theory.old }
-    ensures passes { (atom : ℕ) → T.passes theory.old atom → T.passes theory.new atom }
-    ensures teaches { (clause : List TheLit) → T.teaches theory.old clause → T.teaches theory.new clause }
+    ensures back { GoesBack T.Theory theory.old theory.new }
 {
     let trail = engine.trail();
     let _before = trail.literals();
@@ -127,9 +153,7 @@ fn place_wanted<T: Theory>(
     engine: &mut Engine,
     choices: &mut Choices,
 ) -> Result<(), AllocError>
-    ensures kept { OnOk result (engine.new.kept ≡ engine.old.kept) }
-    ensures literals { OnOk result (engine.new.trail.literals ≡ engine.old.trail.literals) }
-    ensures reserved { OnOk result (engine.old.trail.reserved ≤ engine.new.trail.reserved) }
+    ensures widens { OnOk result (Widens engine.old engine.new) }
     ensures places { OnOk result (have_places engine.new.trail.reserved (T.wanted theory.now) ≡ true) }
 {
     let mut at: u64 = 0;
@@ -143,91 +167,11 @@ fn place_wanted<T: Theory>(
 
 /// Makes places for the atoms of literals.
 fn place_all(engine: &mut Engine, literals: &[Lit]) -> Result<(), AllocError>
-    ensures kept { OnOk result (engine.new.kept ≡ engine.old.kept) }
-    ensures literals { OnOk result (engine.new.trail.literals ≡ engine.old.trail.literals) }
-    ensures reserved { OnOk result (engine.old.trail.reserved ≤ engine.new.trail.reserved) }
+    ensures widens { OnOk result (Widens engine.old engine.new) }
     ensures places { OnOk result (are_reserved engine.new.trail.reserved literals.now ≡ true) }
 {
     for literal in literals {
         make_place(engine, literal.atom)?;
     }
     Ok(())
-}
-
-/// Turns until a step was spent, or the search ends.
-fn spend_one<T: Theory, L: Tape>(
-    alloc: Global,
-    theory: &mut T,
-    engine: &mut Engine,
-    stage: &mut Stage,
-    assumptions: &[Lit],
-    tape: &mut L,
-    budget: &mut Budget,
-) -> Result<Option<Found>, TapeFault>
-    requires searching { IsSearching (T.wanted theory.old) assumptions.now stage.old.levels stage.old.next engine.old }
-    requires stands { T.stands theory.old engine.old.trail.literals }
-    requires known { HasKnownAtoms (T.passes theory.old) engine.old.kept assumptions.now }
-    ensures round { IfOk result (IsRound (T.wanted theory.new) assumptions.now stage.new.levels stage.new.next
-        engine.old engine.new budget.old budget.new) }
-    ensures spends { IfOk result (λ found. found ≡ None → budget.old.spent < budget.new.spent) }
-    ensures follows { OnOk result (FollowsByLevel (T.teaches theory.new) engine.old.kept engine.new.kept) }
-    ensures agrees { IfOk result (λ found. found ≡ Some Sat → T.agrees theory.new engine.new.trail.literals) }
-    ensures stands { OnOk result (T.stands theory.new engine.new.trail.literals) }
-    ensures known { OnOk result (HasKnownAtoms (T.passes theory.new) engine.new.kept assumptions.now) }
-    ensures puts { OnOk result (T.puts theory.old theory.new
-        (written engine.old.kept budget.old (L.Tape.told tape.old))
-        (written engine.new.kept budget.new (L.Tape.told tape.new))) }
-    ensures wanted { T.wanted theory.new ≡ T.wanted theory.old }
-    ensures passes { (atom : ℕ) → T.passes theory.old atom → T.passes theory.new atom }
-    ensures teaches { (clause : List TheLit) → T.teaches theory.old clause → T.teaches theory.new clause }
-    ensures counts { CountsFaults result (L.Tape.faults tape.old) (L.Tape.faults tape.new) }
-{
-    let start = budget.spent();
-    loop {
-        if let Some(found) = move_on(alloc, theory, engine, stage, assumptions, tape, budget)? {
-            return Ok(Some(found));
-        }
-        if budget.spent() > start {
-            return Ok(None);
-        }
-    }
-}
-
-/// Turns until something moved, or the search ends.
-fn move_on<T: Theory, L: Tape>(
-    alloc: Global,
-    theory: &mut T,
-    engine: &mut Engine,
-    stage: &mut Stage,
-    assumptions: &[Lit],
-    tape: &mut L,
-    budget: &mut Budget,
-) -> Result<Option<Found>, TapeFault>
-    requires searching { IsSearching (T.wanted theory.old) assumptions.now stage.old.levels stage.old.next engine.old }
-    requires stands { T.stands theory.old engine.old.trail.literals }
-    requires known { HasKnownAtoms (T.passes theory.old) engine.old.kept assumptions.now }
-    ensures round { IfOk result (IsRound (T.wanted theory.new) assumptions.now stage.new.levels stage.new.next
-        engine.old engine.new budget.old budget.new) }
-    ensures better { IfOk result (λ found. found ≡ None → IsBetter budget.old budget.new
-        (T.measure theory.old engine.old.kept engine.old.trail.literals)
-        (T.measure theory.new engine.new.kept engine.new.trail.literals)) }
-    ensures follows { OnOk result (FollowsByLevel (T.teaches theory.new) engine.old.kept engine.new.kept) }
-    ensures agrees { IfOk result (λ found. found ≡ Some Sat → T.agrees theory.new engine.new.trail.literals) }
-    ensures stands { OnOk result (T.stands theory.new engine.new.trail.literals) }
-    ensures known { OnOk result (HasKnownAtoms (T.passes theory.new) engine.new.kept assumptions.now) }
-    ensures puts { OnOk result (T.puts theory.old theory.new
-        (written engine.old.kept budget.old (L.Tape.told tape.old))
-        (written engine.new.kept budget.new (L.Tape.told tape.new))) }
-    ensures wanted { T.wanted theory.new ≡ T.wanted theory.old }
-    ensures passes { (atom : ℕ) → T.passes theory.old atom → T.passes theory.new atom }
-    ensures teaches { (clause : List TheLit) → T.teaches theory.old clause → T.teaches theory.new clause }
-    ensures counts { CountsFaults result (L.Tape.faults tape.old) (L.Tape.faults tape.new) }
-{
-    loop {
-        match take_turn(alloc, theory, engine, stage, assumptions, tape, budget)? {
-            Turn::Ends(found) => return Ok(Some(found)),
-            Turn::Moves => return Ok(None),
-            Turn::Decides => {}
-        }
-    }
 }

@@ -1,6 +1,6 @@
 //! What is decided next.
 
-ghost use Rattle.std.specs.Prelude.{◌≡◌, ℕ, true, false, ◌≤◌, List, take, drop, Some, None, MatchOption};
+ghost use Rattle.std.specs.Prelude.{◌≡◌, ℕ, true, false, ◌≤◌, List, take, drop, Some, None, Ok, MatchOption};
 ghost use Rattle.std.specs.List.{slice_get, list_all};
 ghost use Rattle.sb_lit.specs.declared.clause.Lit.{Lit as TheLit};
 ghost use Rattle.sb_lit.specs.Clauses.{is_among, is_true_under};
@@ -8,6 +8,7 @@ ghost use Rattle.sb_trail.specs.Assignments.{held, value_of, current_level};
 ghost use Rattle.sb_clauses.specs.Propagation.{State, are_reserved};
 ghost use Rattle.sb_search.specs.Found.{has_value, are_true};
 ghost use Rattle.sb_search.specs.Searching.{have_places, IsNextAssumption, IsNextWanted, IsSearching, IsNext};
+ghost use Rattle.sb_search.specs.declared.stage.Next.TheVariants.{Free};
 
 use crate::choices::Choices;
 use crate::restarts::Restarts;
@@ -35,17 +36,30 @@ pub(crate) struct Stage {
 pub(crate) enum Next {
     /// This assumption, which has no value.
     Assume(Lit),
-    /// Nothing: this assumption is false.
-    Refuted(Lit),
-    /// This atom, which is wanted and has no value.
-    Free(u64),
-    /// Nothing: all assumptions are true, and all atoms that are wanted have values.
-    Full,
+    /// All assumptions are true: this atom, which is wanted and has no value; nothing where none is left.
+    Free(Option<u64>),
+}
+
+impl Next {
+    /// Whether nothing is left to decide.
+    pub fn is_last(self) -> bool
+        ensures { self ≡ Free None → result ≡ true }
+    {
+        match self {
+            Next::Assume(_) => false,
+            Next::Free(atom) => atom.is_none(),
+        }
+    }
 }
 
 impl Stage {
-    /// What is decided next.
-    pub fn next<T: Theory>(&mut self, theory: &T, engine: &Engine, assumptions: &[Lit]) -> Next
+    /// What is decided next; an `Err` is an assumption that is false.
+    pub fn next<T: Theory>(
+        &mut self,
+        theory: &T,
+        engine: &Engine,
+        assumptions: &[Lit],
+    ) -> Result<Next, Lit>
         requires { IsSearching (T.wanted theory.now) assumptions.now self.old.levels self.old.next engine.now }
         ensures levels { self.new.levels ≡ self.old.levels }
         ensures searching { IsSearching (T.wanted theory.now) assumptions.now self.new.levels self.new.next engine.now }
@@ -53,42 +67,39 @@ impl Stage {
     {
         let trail = engine.trail();
         if trail.current_level() > self.levels {
-            return free(theory, trail, &mut self.choices, &mut self.at);
+            return Ok(Next::Free(free(theory, trail, &mut self.choices, &mut self.at)));
         }
         match next_assumption(trail, assumptions, &mut self.next) {
             Some(literal) => given(trail, literal),
-            None => free(theory, trail, &mut self.choices, &mut self.at),
+            None => Ok(Next::Free(free(theory, trail, &mut self.choices, &mut self.at))),
         }
     }
 }
 
 /// An assumption that is not true: it has no value, or is false.
-fn given(trail: &Trail, literal: Lit) -> Next
+fn given(trail: &Trail, literal: Lit) -> Result<Next, Lit>
     requires { is_true_under (held trail.now.literals) literal ≡ false }
     ensures { (wanted : List ℕ) (assumptions : List TheLit) (levels : ℕ) (search : State) → search.trail ≡ trail.now
         → current_level trail.now.literals ≤ levels → is_among assumptions literal ≡ true
         → are_reserved trail.now.reserved assumptions ≡ true → IsNext wanted assumptions levels search result }
 {
     if trail.literal_value(literal).is_none() {
-        Next::Assume(literal)
+        Ok(Next::Assume(literal))
     } else {
-        Next::Refuted(literal)
+        Err(literal)
     }
 }
 
 /// A wanted atom without a value, where all assumptions are true: one that waits, or else one that is looked for.
-fn free<T: Theory>(theory: &T, trail: &Trail, choices: &mut Choices, at: &mut u64) -> Next
+fn free<T: Theory>(theory: &T, trail: &Trail, choices: &mut Choices, at: &mut u64) -> Option<u64>
     ensures { (assumptions : List TheLit) (levels : ℕ) (search : State) → search.trail ≡ trail.now
         → are_true (held trail.now.literals) assumptions ≡ true
         → have_places trail.now.reserved (T.wanted theory.now) ≡ true
-        → IsNext (T.wanted theory.now) assumptions levels search result }
+        → IsNext (T.wanted theory.now) assumptions levels search (Ok (Free result)) }
 {
-    if let Some(atom) = choices.next(trail) {
-        return Next::Free(atom);
-    }
-    match next_wanted(theory, trail, at) {
-        Some(atom) => Next::Free(atom),
-        None => Next::Full,
+    match choices.next(trail) {
+        Some(atom) => Some(atom),
+        None => next_wanted(theory, trail, at),
     }
 }
 

@@ -1,20 +1,9 @@
 -- What a run writes of a proof is an accepted proof.
 use Rattle.std.proofs.Common.{◌≡◌, ◌⊎◌, ℕ, Bool, true, List, [], ◌∷◌, ◌++◌, Option, Some, None, option_map, append_assoc, refl, ap, ap₂, ◌∙◌, subst, inl, inr}
-use Rattle.std.proofs.lemmas.List.{append-nil}
-use Rattle.sb_world.specs.Outside.{Outside}
-use Rattle.sb_world.specs.Moved.{Moved, Write, moved_by, writing_all}
+use Rattle.sb_session.proofs.Words.{Along, AllAnswered, AnsweredToTheEnd, AnsweredToTheExit, AnsweredUnfinished, Answers, Asked, CertifiesOn, Entry, GoesOn, IsAll, Moved, Outside, Progress, Run, SolveStatus, Stage, Write, append-nil, asks_proof, beginnings, end_writes, last_lines, moved_by, opened, unfinished_line, with_lines, work, writing_all, writing_all-append}
 use Rattle.sb_world.specs.declared.OutPort.TheVariants as out_port
-use Rattle.sb_world.proofs.CallerLemmas.{writing_all-append}
-use Rattle.sb_reader.specs.Entries.{Entry}
-use Rattle.sb_script.specs.Scripts.{Along, unfinished_line}
-use Rattle.sb_rulebook.specs.Judging.{Progress}
-use Rattle.sb_sound.specs.Certified.{CertifiesOn, last_lines}
 use Rattle.sb_sound.specs.CertifiedLaws.{CertifiedIsAccepted, CertifiedToExitIsAccepted}
-use Rattle.sb_session.specs.declared.solve.SolveStatus.{SolveStatus}
 use Rattle.sb_session.specs.declared.solve.SolveStatus.TheVariants as status
-use Rattle.sb_session.specs.Commanding.{Stage, Answers, with_lines}
-use Rattle.sb_session.specs.Reading.{work, GoesOn, beginnings, end_writes}
-use Rattle.sb_session.specs.Solve.{Asked, opened, asks_proof, Run, AnsweredToTheEnd, AnsweredToTheExit, AnsweredUnfinished}
 use Rattle.sb_session.specs.Certifying.{IsCertified}
 
 -- what of the pieces goes to the proof
@@ -51,9 +40,8 @@ more_written (Some w) first more whole e = ap Some (append_assoc w first more �
 
 -- what is written to the proof's port, in two parts
 proof_written : (opened before now : Outside) (count : ℕ) (writes more : List Write) (bytes last : List ℕ)
-    → before ≡ moved_by (work count writes) opened → now ≡ moved_by (writing_all more) before
-    → proof_in writes ≡ bytes → proof_in more ≡ last
-    → now.proof_out.written ≡ option_map (λ w. w ++ (bytes ++ last)) opened.proof_out.written
+    → before ≡ moved_by (work count writes) opened → now ≡ moved_by (writing_all more) before → proof_in writes ≡ bytes
+    → proof_in more ≡ last → now.proof_out.written ≡ option_map (λ w. w ++ (bytes ++ last)) opened.proof_out.written
 proof_written opened before now count writes more bytes last e h first second =
     ap (λ (o : Outside). o.proof_out.written) h
     ∙ (ap (λ (o : Outside). option_map (λ w. w ++ proof_in more) o.proof_out.written) e
@@ -65,41 +53,33 @@ end_proof p = append-nil (last_lines p)
 
 module _ (accepts : CertifiedIsAccepted) (accepts_exit : CertifiedToExitIsAccepted) (asked : Asked)
     (old new : Outside) (proved : asks_proof asked ≡ true) where
+  -- all is read and answered, and the proof is ended
+  all_certified : (script left : List ℕ) (before : Outside) (more : List Write) → IsAll script (opened asked old)
+      → (all : AllAnswered (asks_proof asked) (opened asked old) script true left before)
+      → proof_in more ≡ last_lines all.s.1 → new ≡ moved_by (writing_all more) before → IsCertified asked old new
+  all_certified script left before more read all last ends = record {
+    entries = all.entries;
+    proof = proof_in all.writes ++ last_lines all.s.1;
+    script = inl (script, left, read, all.answered.begins, all.none);
+    written = proof_written (opened asked old) before new _ all.writes more (proof_in all.writes)
+        (last_lines all.s.1) all.outside ends refl last;
+    accepted = accepts all.entries (proof_in all.writes) all.s.0 all.s.1
+        (certified_up_to beginnings all.entries all.writes all.s
+        (subst (λ (b : Bool). Along (GoesOn b) beginnings all.entries all.writes all.s) proved all.answered.along));
+  }
+
   to_the_end : AnsweredToTheEnd asked old new → IsCertified asked old new
   to_the_end h =
-      let all = h.answered in
-      let ends : new ≡ moved_by (writing_all (end_writes true all.s.1)) h.before =
-      subst (λ (b : Bool). new ≡ moved_by (writing_all (end_writes b all.s.1)) h.before) proved h.ends in
-      record {
-        entries = all.entries;
-        proof = proof_in all.writes ++ last_lines all.s.1;
-        script = inl (h.script, h.left, h.all, all.answered.begins, all.none);
-        written = proof_written (opened asked old) h.before new _ all.writes (end_writes true all.s.1)
-            (proof_in all.writes) (last_lines all.s.1) all.outside ends refl (end_proof all.s.1);
-        accepted = accepts all.entries (proof_in all.writes) all.s.0 all.s.1
-            (certified_up_to beginnings all.entries all.writes all.s
-            (subst (λ (b : Bool). Along (GoesOn b) beginnings all.entries all.writes all.s) proved
-            all.answered.along));
-      }
+      let p = h.answered.s.1 in
+      all_certified h.script h.left h.before (end_writes true p) h.all h.answered (end_proof p)
+      (subst (λ (b : Bool). new ≡ moved_by (writing_all (end_writes b p)) h.before) proved h.ends)
 
   unfinished : AnsweredUnfinished asked old new → IsCertified asked old new
   unfinished h =
-      let all = h.answered in
-      let ends : new ≡ moved_by (writing_all ((out_port.Answers, unfinished_line) ∷ end_writes true all.s.1)) h.before =
-      subst (λ (b : Bool). new ≡ moved_by (writing_all ((out_port.Answers, unfinished_line) ∷ end_writes b all.s.1))
-      h.before) proved h.outside in
-      record {
-        entries = all.entries;
-        proof = proof_in all.writes ++ last_lines all.s.1;
-        script = inl (h.script, h.left, h.all, all.answered.begins, all.none);
-        written = proof_written (opened asked old) h.before new _ all.writes
-            ((out_port.Answers, unfinished_line) ∷ end_writes true all.s.1)
-            (proof_in all.writes) (last_lines all.s.1) all.outside ends refl (end_proof all.s.1);
-        accepted = accepts all.entries (proof_in all.writes) all.s.0 all.s.1
-            (certified_up_to beginnings all.entries all.writes all.s
-            (subst (λ (b : Bool). Along (GoesOn b) beginnings all.entries all.writes all.s) proved
-            all.answered.along));
-      }
+      let p = h.answered.s.1 in
+      all_certified h.script h.left h.before ((out_port.Answers, unfinished_line) ∷ end_writes true p) h.all h.answered
+      (end_proof p) (subst (λ (b : Bool). new
+      ≡ moved_by (writing_all ((out_port.Answers, unfinished_line) ∷ end_writes b p)) h.before) proved h.outside)
 
   to_the_exit : AnsweredToTheExit asked old new → IsCertified asked old new
   to_the_exit h =

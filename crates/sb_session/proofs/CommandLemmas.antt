@@ -2,27 +2,14 @@
 use Rattle.std.proofs.Common.{◌≡◌, ◌⊎◌, ℕ, ◌<◌, Bool, true, false, if◌then◌else◌, List, [], ◌∷◌, length, take, Option, None, Some, Result, Ok, refl, sym, ap, ◌∙◌, inl, inr, subst}
 use Rattle.std.specs.declared.vec.Vec.{Vec}
 use Rattle.std.specs.declared.alloc.Global.{Global}
-use Rattle.sb_world.specs.Outside.{Outside, write_at}
+use Rattle.sb_session.proofs.Words.{Answering, Answers, AnswersCheck, AnswersEntry, CutCheck, CutOrNot, CutReply, Entry, Event, Finding, Finds, FindsProved, FindsUnproved, IsMoved, IsReply, IsStep, IsTracked, Outside, Progress, SessionState, State, Verdict, Went, behind, event_of_leaving, events_of, is_proved, leaving, leaving_in, progress_by, settled, state_of, step_of, verdict_text, went_of, with_lines, write_at}
 use Rattle.sb_world.specs.declared.OutPort.TheVariants as out_port
-use Rattle.sb_reader.specs.Entries.{Entry}
-use Rattle.sb_script.specs.State.{State}
 use Rattle.sb_script.specs.Steps as meaning
-use Rattle.sb_script.specs.Replies.{step_of}
-use Rattle.sb_script.specs.Verdicts.{Verdict, verdict_text, settled, Finding, FindsUnproved, IsReply}
-use Rattle.sb_rulebook.specs.Accepted.{event_of_leaving, events_of}
-use Rattle.sb_rulebook.specs.Judging.{Event, Progress}
-use Rattle.sb_sound.specs.Certified.{behind, FindsProved}
 use Rattle.sb_sound.proofs.CallerLemmas.{is_exits, entry_exits}
 use Rattle.sb_term.specs.declared.assertion.Assertion.{Assertion}
 use Rattle.sb_stack.specs.declared.stack.Step.{Step}
 use Rattle.sb_stack.specs.declared.stack.Step.TheVariants as code
-use Rattle.sb_stack.specs.Stacked.{state_of}
-use Rattle.sb_prover.specs.Proving.{leaving}
-use Rattle.sb_stack.specs.Steps.{IsStep, IsMoved, leaving_in}
-use Rattle.sb_session.specs.declared.command.Went.{Went}
 use Rattle.sb_session.specs.declared.command.Went.TheVariants.{Go, Exited}
-use Rattle.sb_session.specs.Commanding.{SessionState, is_proved, IsTracked, Answering, Answers, AnswersEntry, CutReply, CutOrNot, went_of}
-use Rattle.sb_session.specs.Checking.{progress_by, Finds, AnswersCheck, CutCheck}
 use Rattle.sb_session.proofs.WritingLemmas.{one_written, one_cut}
 
 abbrev pub went_by : Bool → Went
@@ -37,10 +24,8 @@ IsQuietReply (meaning.exits bytes) s text after = (text ≡ bytes) × (after ≡
 
 is_reply : (Finds : Finding) (step : meaning.Step) (s : State) (text : List ℕ) (after : State)
     → IsQuietReply step s text after → IsReply Finds step s [] None text after
-is_reply Finds (meaning.answers bytes new) s text after h = (refl, refl, h.0, h.1)
-is_reply Finds (meaning.leaves what bytes new) s text after h = (refl, refl, h.0, h.1)
 is_reply Finds (meaning.checks given) s text after h = absurd h
-is_reply Finds (meaning.exits bytes) s text after h = (refl, refl, h.0, h.1)
+is_reply Finds _ s text after h = (refl, refl, h.0, h.1)
 
 -- a reply of an entry that is no check, whether it ends the run, what its proof meets, and the state after it
 pub record Replied (step : meaning.Step) (ends : Bool) (text : List ℕ) (es : List Event) (s after : State) : Type 0
@@ -49,39 +34,35 @@ pub record Replied (step : meaning.Step) (ends : Bool) (text : List ℕ) (es : L
     pub reply : IsQuietReply step s text after
     pub events : events_of step s ≡ es
 
-pub by_answer : (step : meaning.Step) (text : Vec ℕ Global) (s after : State) → IsStep step (code.Answer text) s after
-    → Replied step false text.items [] s after
-by_answer (meaning.answers bytes t) text s after h =
-    record { ends_run = refl; reply = (h.0, h.1); events = refl }
-by_answer (meaning.leaves what bytes t) text s after h = absurd h
-by_answer (meaning.checks []) text s after h = absurd h
-by_answer (meaning.checks (a ∷ given)) text s after h = absurd h
-by_answer (meaning.exits bytes) text s after h = absurd h
+pub by_answer : (step : meaning.Step) (reply : Vec ℕ Global) (text : List ℕ) (s after : State) → text ≡ reply.items
+    → IsStep step (code.Answer reply) s after → Replied step false text [] s after
+by_answer (meaning.answers bytes t) reply text s after same h =
+    record { ends_run = refl; reply = (same ∙ h.0, h.1); events = refl }
+by_answer (meaning.checks []) reply text s after same h = absurd h
+by_answer _ reply text s after same h = absurd h
 
-pub by_exit : (step : meaning.Step) (text : Vec ℕ Global) (s after : State) → IsStep step (code.Exit text) s after
-    → Replied step true text.items [] s after
-by_exit (meaning.answers bytes t) text s after h = absurd h
-by_exit (meaning.leaves what bytes t) text s after h = absurd h
-by_exit (meaning.checks []) text s after h = absurd h
-by_exit (meaning.checks (a ∷ given)) text s after h = absurd h
-by_exit (meaning.exits bytes) text s after h =
-    record { ends_run = refl; reply = (h.0, h.1); events = refl }
+pub by_exit : (step : meaning.Step) (reply : Vec ℕ Global) (text : List ℕ) (s after : State) → text ≡ reply.items
+    → IsStep step (code.Exit reply) s after → Replied step true text [] s after
+by_exit (meaning.exits bytes) reply text s after same h =
+    record { ends_run = refl; reply = (same ∙ h.0, h.1); events = refl }
+by_exit (meaning.checks []) reply text s after same h = absurd h
+by_exit _ reply text s after same h = absurd h
 
 leaving_event : (level : Option ℕ) → event_of_leaving (leaving_in level) ≡ leaving level
 leaving_event (Some level) = refl
 leaving_event None = refl
 
-pub by_left : (step : meaning.Step) (text : Vec ℕ Global) (level : Option ℕ) (s after : State)
-    → IsStep step (code.Left text level) s after → Replied step false text.items (leaving level ∷ []) s after
-by_left (meaning.answers bytes t) text level s after h = absurd h
-by_left (meaning.leaves what bytes t) text level s after h = record {
+pub by_left : (step : meaning.Step) (reply : Vec ℕ Global) (level : Option ℕ) (text : List ℕ) (s after : State)
+    → text ≡ reply.items → IsStep step (code.Left reply level) s after
+    → Replied step false text (leaving level ∷ []) s after
+by_left (meaning.leaves what bytes t) reply level text s after same h = record {
   ends_run = refl;
-  reply = (h.0, h.1.1);
-  events = ap (λ (w : meaning.Leaving). event_of_leaving w ∷ []) h.1.0 ∙ ap (λ (e : Event). e ∷ []) (leaving_event level);
+  reply = (same ∙ h.0, h.1.1);
+  events = ap (λ (w : meaning.Leaving). event_of_leaving w ∷ []) h.1.0
+      ∙ ap (λ (e : Event). e ∷ []) (leaving_event level);
 }
-by_left (meaning.checks []) text level s after h = absurd h
-by_left (meaning.checks (a ∷ given)) text level s after h = absurd h
-by_left (meaning.exits bytes) text level s after h = absurd h
+by_left (meaning.checks []) reply level text s after same h = absurd h
+by_left _ reply level text s after same h = absurd h
 
 -- what a step that is answered makes of the live assertions
 pub moved_by : {E : Type 0} (r : Result Step E) (step known : Step) (old new : List Assertion) → r ≡ Ok step
@@ -92,11 +73,8 @@ moved_by {E = E} r step known old new is now h =
 -- the step of a check, which has no assumptions
 pub by_check : (step : meaning.Step) (s same : State) → IsStep step code.Check s same
     → (step ≡ meaning.checks []) × (same ≡ s)
-by_check (meaning.answers bytes t) s same h = absurd h
-by_check (meaning.leaves what bytes t) s same h = absurd h
 by_check (meaning.checks []) s same h = (refl, h)
-by_check (meaning.checks (a ∷ given)) s same h = absurd h
-by_check (meaning.exits bytes) s same h = absurd h
+by_check _ s same h = absurd h
 
 -- An entry that is no check.
 
@@ -155,8 +133,7 @@ whole_reply entry ends text session after old new stays h e =
 
 -- an entry whose answer is cut
 pub cut_reply : (entry : Entry) (ends : Bool) (text : List ℕ) (es : List Event) (session : SessionState) (after : State)
-    (old new : Outside)
-    → Replied (step_of entry (state_of session.stack)) ends text es (state_of session.stack) after
+    (old new : Outside) → Replied (step_of entry (state_of session.stack)) ends text es (state_of session.stack) after
     → ((out : ℕ) × (out < length text) × (new ≡ write_at out_port.Answers (take out text) old))
     → CutOrNot entry session old new
 cut_reply entry ends text es session after old new h cut p tracked = inr (record {
@@ -186,31 +163,39 @@ check_exits : (entry : Entry) (s : State) → step_of entry s ≡ meaning.checks
 check_exits entry s step = ap went_by (sym (ap is_exits step) ∙ entry_exits entry s)
 
 -- the state that is checked is the one before
+answers_check : (entry : Entry) (session before : SessionState) (after : State) (p q : Progress) (lines : List ℕ)
+    (v : Verdict) → (step_of entry (state_of session.stack) ≡ meaning.checks [])
+    × (state_of before.stack ≡ state_of session.stack) → is_proved before ≡ is_proved session
+    → Finds (is_proved before) p q (state_of before.stack) lines v → after ≡ settled v (state_of before.stack)
+    → Answers (is_proved session) (state_of session.stack, p) entry
+    (with_lines lines ((out_port.Answers, verdict_text v) ∷ [])) (after, q)
+answers_check entry session before after p q lines v step kind finds state = record {
+  lines = lines;
+  reply = verdict_text v;
+  found = Some v;
+  answered = answering_check (is_proved session) entry (state_of session.stack) p q lines v after step.0
+      (subst (λ (b : Bool). Finds b p q (state_of session.stack) lines v) kind
+      (subst (λ (s : State). Finds (is_proved before) p q s lines v) step.1 finds))
+      (state ∙ ap (settled v) step.1);
+  written = refl;
+}
+
 pub check_replies : (entry : Entry) (session before after : SessionState) (old new : Outside)
     → IsStep (step_of entry (state_of session.stack)) code.Check (state_of session.stack) (state_of before.stack)
-    → is_proved before ≡ is_proved session
-    → ((p : Progress) → IsTracked session p → IsTracked before p)
+    → is_proved before ≡ is_proved session → ((p : Progress) → IsTracked session p → IsTracked before p)
     → ((p : Progress) → IsTracked before p → AnswersCheck p before after old new)
     → (Go ≡ went_of entry) × AnswersEntry entry session after old new
 check_replies entry session before after old new is kind stays answers =
-    let step = by_check (step_of entry (state_of session.stack)) (state_of session.stack) (state_of before.stack) is in (
+    let step = by_check (step_of entry (state_of session.stack)) (state_of session.stack) (state_of before.stack) is
+    in (
       check_exits entry (state_of session.stack) step.0,
       λ p tracked.
           let h = answers p (stays p tracked) in
           record {
-            writes = _;
+            writes = with_lines h.lines ((out_port.Answers, verdict_text h.v) ∷ []);
             progress = h.progress;
-            answers = record {
-              lines = h.lines;
-              reply = verdict_text h.v;
-              found = Some h.v;
-              answered = answering_check (is_proved session) entry (state_of session.stack) p h.progress h.lines h.v
-                  (state_of after.stack) step.0
-                  (subst (λ (b : Bool). Finds b p h.progress (state_of session.stack) h.lines h.v) kind
-                  (subst (λ (s : State). Finds (is_proved before) p h.progress s h.lines h.v) step.1 h.finds))
-                  (h.state ∙ ap (settled h.v) step.1);
-              written = refl;
-            };
+            answers = answers_check entry session before (state_of after.stack) p h.progress h.lines h.v step kind
+                h.finds h.state;
             tracked = h.tracked;
             outside = h.outside;
           },
@@ -219,33 +204,20 @@ check_replies entry session before after old new is kind stays answers =
 -- a check whose proof or answer is cut
 pub cut_check_reply : (entry : Entry) (session before : SessionState) (old new : Outside)
     → IsStep (step_of entry (state_of session.stack)) code.Check (state_of session.stack) (state_of before.stack)
-    → is_proved before ≡ is_proved session
-    → ((p : Progress) → IsTracked session p → IsTracked before p)
-    → ((p : Progress) → IsTracked before p → (new ≡ old) ⊎ CutCheck p before old new)
-    → CutOrNot entry session old new
+    → is_proved before ≡ is_proved session → ((p : Progress) → IsTracked session p → IsTracked before p)
+    → ((p : Progress) → IsTracked before p → (new ≡ old) ⊎ CutCheck p before old new) → CutOrNot entry session old new
 cut_check_reply entry session before old new is kind stays cuts p tracked = by_cut (cuts p (stays p tracked))
   where
     by_cut : (new ≡ old) ⊎ CutCheck p before old new → (new ≡ old) ⊎ CutReply p entry session old new
     by_cut (inl same) = inl same
-    by_cut (inr h) =
-        let step = by_check (step_of entry (state_of session.stack)) (state_of session.stack) (state_of before.stack)
-        is in
-        inr (record {
-          writes = _;
-          after = (settled h.v (state_of session.stack), h.progress);
-          answers = record {
-            lines = h.lines;
-            reply = verdict_text h.v;
-            found = Some h.v;
-            answered = answering_check (is_proved session) entry (state_of session.stack) p h.progress h.lines h.v
-                (settled h.v (state_of session.stack)) step.0
-                (subst (λ (b : Bool). Finds b p h.progress (state_of session.stack) h.lines h.v) kind
-                (subst (λ (s : State). Finds (is_proved before) p h.progress s h.lines h.v) step.1 h.finds))
-                refl;
-            written = refl;
-          };
-          cut = h.cut;
-        })
+    by_cut (inr h) = inr (record {
+      writes = with_lines h.lines ((out_port.Answers, verdict_text h.v) ∷ []);
+      after = (settled h.v (state_of before.stack), h.progress);
+      answers = answers_check entry session before (settled h.v (state_of before.stack)) p h.progress h.lines h.v
+          (by_check (step_of entry (state_of session.stack)) (state_of session.stack) (state_of before.stack) is) kind
+          h.finds refl;
+      cut = h.cut;
+    })
 
 -- Whether the session has ended plays no part in what an entry has for an answer.
 

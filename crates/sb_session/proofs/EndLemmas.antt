@@ -1,29 +1,12 @@
 -- All of the script is read.
 use Rattle.std.proofs.Common.{◌≡◌, ◌≤◌, ℕ, Bool, true, if◌then◌else◌, List, [], ◌∷◌, ◌++◌, length, drop, Option, Some, None, IfSome, append_assoc, refl, sym, ap, ◌∙◌, subst, inl, inr, arith}
-use Rattle.std.proofs.Math.Seq.{drop-length}
-use Rattle.std.proofs.lemmas.Bool.{false≢true}
-use Rattle.std.proofs.lemmas.List.{append-nil}
-use Rattle.sb_world.specs.Outside.{Outside, write_at}
+use Rattle.sb_session.proofs.Words.{AllAnswered, AllRead, Answered, AnsweredToTheExit, AnsweredUnfinished, Asked, Begins, Cut, CutOf, CutShort, Entry, HoldsNoEntry, IsAll, IsFront, IsProperFront, IsRead, IsTracked, NoneLeft, Outside, Pause, Pauses, Progress, Run, SessionState, Sofar, UpToExit, Write, append-nil, asks_proof, beginning_stays, drop-length, end_writes, false≢true, is_clean, is_open_gap, is_proved, moved_by, opened, same_end, same_none, state_of, unfinished_line, unfinished_writes, work, write_at, writing_all}
 use Rattle.sb_world.specs.declared.OutPort.TheVariants as out_port
-use Rattle.sb_world.specs.Moved.{Write, moved_by, writing_all, IsProperFront}
 use Rattle.sb_reader.specs.declared.feed.Ending.{Ending}
 use Rattle.sb_reader.specs.declared.feed.Ending.TheVariants.{Clean, Unfinished}
-use Rattle.sb_reader.specs.Tokens.{is_open_gap}
-use Rattle.sb_reader.specs.Entries.{Entry, HoldsNoEntry, Begins}
 use Rattle.sb_reader.specs.Feeding as feed
-use Rattle.sb_reader.proofs.CallerLemmas.{same_none, same_end, beginning_stays}
-use Rattle.sb_rulebook.specs.Judging.{Progress}
-use Rattle.sb_script.specs.Scripts.{unfinished_line}
-use Rattle.sb_stack.specs.Stacked.{state_of}
-use Rattle.sb_session.specs.declared.solve.Pause.{Pause}
 use Rattle.sb_session.specs.declared.solve.Pause.TheVariants.{Exited, Waiting, Ended}
 use Rattle.sb_session.specs.declared.solve.SolveStatus.TheVariants as status
-use Rattle.sb_session.specs.Commanding.{SessionState, is_proved, IsTracked, CutOf}
-use Rattle.sb_session.specs.Progress.{Sofar}
-use Rattle.sb_session.specs.Reading.{work, IsFront, IsAll, Answered, UpToExit, AllAnswered, Cut, end_writes, unfinished_writes}
-use Rattle.sb_session.specs.Pausing.{NoneLeft, Pauses, is_clean}
-use Rattle.sb_session.specs.Solve.{Asked, opened, asks_proof, Run, AnsweredToTheExit, AnsweredUnfinished, CutShort}
-use Rattle.sb_session.specs.Underway.{IsRead, AllRead}
 use Rattle.sb_session.proofs.WritingLemmas.{writes_on, one_written, written_behind, front-longer, front-behind}
 
 front_of : (left : Option (List ℕ)) (bytes : List ℕ) → IfSome left (λ l. l ≡ bytes)
@@ -37,9 +20,7 @@ front_of_all bytes o h = front_of o.script_in.left bytes h
 
 -- no more bytes come
 pub end_sofar : (asked : Asked) (old : Outside) (bytes : List ℕ) (kept finished : feed.Unanswered)
-    (session : SessionState)
-    (now : Outside)
-    → finished ≡ (kept.0, true) → AllRead asked old bytes kept session now
+    (session : SessionState) (now : Outside) → finished ≡ (kept.0, true) → AllRead asked old bytes kept session now
     → Sofar (opened asked old) bytes finished session now
 end_sofar asked old bytes kept finished session now e read =
     let sofar = read.sofar in
@@ -63,8 +44,7 @@ end_sofar asked old bytes kept finished session now e read =
 
 -- all whole entries are answered
 pub all_answered : (o : Outside) (bytes : List ℕ) (kept : feed.Unanswered) (session : SessionState) (now : Outside)
-    (ended : Bool)
-    (none : NoneLeft o bytes kept session now) → kept.1 ≡ ended
+    (ended : Bool) (none : NoneLeft o bytes kept session now) → kept.1 ≡ ended
     → AllAnswered (is_proved session) o bytes ended none.sofar.left now
 all_answered o bytes kept session now ended none e = record {
   entries = none.sofar.entries;
@@ -111,9 +91,8 @@ exit_ended asked old bytes ended session before now kind front whole within exit
 
 -- the run is done
 pub end_done : (pause : Pause) (asked : Asked) (old : Outside) (bytes : List ℕ) (kept : feed.Unanswered)
-    (session : SessionState)
-    (before now : Outside) → (pause ≡ Ended Unfinished → ⊥) → kept.1 ≡ true → IsRead asked old bytes
-    → is_proved session ≡ asks_proof asked
+    (session : SessionState) (before now : Outside) → (pause ≡ Ended Unfinished → ⊥) → kept.1 ≡ true
+    → IsRead asked old bytes → is_proved session ≡ asks_proof asked
     → Pauses pause (opened asked old) bytes kept session before → EndsProof session before now
     → Run asked status.Done old now
 unfolding all_answered
@@ -142,8 +121,7 @@ end_done (Ended Clean) asked old bytes kept session before now ne ended read kin
 end_done (Ended Unfinished) asked old bytes kept session before now ne ended read kind end ends = absurd (ne refl)
 
 -- the script ended within a form, and that is answered, and the proof is ended
-pub end_unfinished : (asked : Asked) (old : Outside) (bytes : List ℕ) (kept : feed.Unanswered)
-    (session : SessionState)
+pub end_unfinished : (asked : Asked) (old : Outside) (bytes : List ℕ) (kept : feed.Unanswered) (session : SessionState)
     (before between now : Outside) → IsRead asked old bytes → is_proved session ≡ asks_proof asked
     → Pauses (Ended Unfinished) (opened asked old) bytes kept session before
     → between ≡ write_at out_port.Answers unfinished_line before → EndsProof session between now
@@ -155,7 +133,8 @@ end_unfinished asked old bytes kept session before between now read kind end e e
       all_answered (opened asked old) bytes kept session before true end.2 end.0,
       written_behind ((out_port.Answers, unfinished_line) ∷ [])
           (end_writes (is_proved session) end.2.sofar.progress) before between now
-          (one_written out_port.Answers unfinished_line before between e) (ends end.2.sofar.progress end.2.sofar.tracked),
+          (one_written out_port.Answers unfinished_line before between e)
+          (ends end.2.sofar.progress end.2.sofar.tracked),
     ) in
     record {
       script = bytes;
@@ -169,9 +148,8 @@ end_unfinished asked old bytes kept session before between now read kind end e e
     }
 
 -- the run is cut short once all is read
-pub end_cut : (asked : Asked) (old : Outside) (bytes : List ℕ) (proved : Bool) (now : Outside)
-    → IsRead asked old bytes → proved ≡ asks_proof asked → Cut proved (opened asked old) bytes true now
-    → CutShort asked old now
+pub end_cut : (asked : Asked) (old : Outside) (bytes : List ℕ) (proved : Bool) (now : Outside) → IsRead asked old bytes
+    → proved ≡ asks_proof asked → Cut proved (opened asked old) bytes true now → CutShort asked old now
 end_cut asked old bytes proved now read kind cut = inr (inr (record {
   bytes = bytes;
   ended = true;
@@ -235,7 +213,8 @@ exit_cut o bytes ended session before now exit cutting =
         answer = up.own;
         begins = up.begins;
         answers = up.answers;
-        all = ap (λ (b : Bool). up.own ++ (if b then end_writes (is_proved session) up.after.1 else [])) (sym up.is_exit);
+        all = ap (λ (b : Bool). up.own ++ (if b then end_writes (is_proved session) up.after.1 else []))
+            (sym up.is_exit);
       });
       front = up.own ++ cut.0;
       proper = front-behind up.own cut.0 (end_writes (is_proved session) up.after.1) cut.1;
@@ -245,9 +224,8 @@ exit_cut o bytes ended session before now exit cutting =
 
 -- the end of the proof is cut, once all is read and answered
 pub end_cut_done : (pause : Pause) (asked : Asked) (old : Outside) (bytes : List ℕ) (kept : feed.Unanswered)
-    (session : SessionState)
-    (before now : Outside) → (pause ≡ Ended Unfinished → ⊥) → kept.1 ≡ true → IsRead asked old bytes
-    → is_proved session ≡ asks_proof asked
+    (session : SessionState) (before now : Outside) → (pause ≡ Ended Unfinished → ⊥) → kept.1 ≡ true
+    → IsRead asked old bytes → is_proved session ≡ asks_proof asked
     → Pauses pause (opened asked old) bytes kept session before → CutsEnd session before now → CutShort asked old now
 end_cut_done Exited asked old bytes kept session before now ne ended read kind exit cuts =
     end_cut asked old bytes (is_proved session) now read kind
@@ -262,8 +240,7 @@ end_cut_done (Ended Unfinished) asked old bytes kept session before now ne ended
 
 -- the answer to the script's end is cut
 pub end_unfinished_cut : (asked : Asked) (old : Outside) (bytes : List ℕ) (kept : feed.Unanswered)
-    (session : SessionState)
-    (before now : Outside) → IsRead asked old bytes → is_proved session ≡ asks_proof asked
+    (session : SessionState) (before now : Outside) → IsRead asked old bytes → is_proved session ≡ asks_proof asked
     → Pauses (Ended Unfinished) (opened asked old) bytes kept session before
     → CutOf ((out_port.Answers, unfinished_line) ∷ []) before now → CutShort asked old now
 end_unfinished_cut asked old bytes kept session before now read kind end cut =
@@ -277,11 +254,9 @@ end_unfinished_cut asked old bytes kept session before now read kind end cut =
 
 -- and the end of the proof behind it
 pub end_unfinished_proof_cut : (asked : Asked) (old : Outside) (bytes : List ℕ) (kept : feed.Unanswered)
-    (session : SessionState)
-    (before between now : Outside) → IsRead asked old bytes → is_proved session ≡ asks_proof asked
-    → Pauses (Ended Unfinished) (opened asked old) bytes kept session before
-    → between ≡ write_at out_port.Answers unfinished_line before → CutsEnd session between now
-    → CutShort asked old now
+    (session : SessionState) (before between now : Outside) → IsRead asked old bytes
+    → is_proved session ≡ asks_proof asked → Pauses (Ended Unfinished) (opened asked old) bytes kept session before
+    → between ≡ write_at out_port.Answers unfinished_line before → CutsEnd session between now → CutShort asked old now
 end_unfinished_proof_cut asked old bytes kept session before between now read kind end e cuts =
     end_cut asked old bytes (is_proved session) now read kind
     (cut_at_end Unfinished (opened asked old) bytes kept session before now end

@@ -1,28 +1,32 @@
 -- Where levels are left, what is known of the proof goes along.
-use Rattle.std.proofs.Common.{◌≡◌, ℕ, Bool, true, false, List, [], ◌∷◌, ◌++◌, length, take, Option, Some, None, is_some, IfSome, refl, sym, ap, ◌∙◌, subst}
-use Rattle.std.proofs.lemmas.List.{length-map}
-use Rattle.sb_lang.specs.Regex.{Regex}
-use Rattle.sb_deriv.specs.Faithful.{Memo}
-use Rattle.sb_meaning.specs.Terms.{Term}
+use Rattle.std.proofs.Common.{◌≡◌, ◌≤◌, ℕ, Bool, true, false, List, [], ◌∷◌, ◌++◌, length, take, Option, Some, None, is_some, IfSome, refl, sym, ap, ◌∙◌, subst}
+use Rattle.sb_session.proofs.Words.{AreLow, GoesDown, HasLevels, HasRegexes, HaveLevels, Holds, IsAbreast, IsFit, IsTracked, LeavesProof, LevelsStay, Memo, Phase, Progress, Proving, Regex, SessionState, Stacked, State, Term, asked_in, assertion_in, at_check, at_end, at_rest, behind, behind_end, is_proved, leaving, length-map, live, met, progress_by, proof_of, state_of, stopped}
+use Rattle.sb_term.specs.Numbered as table
 use Rattle.sb_atoms.specs.Numbered.{HaveRegexesBelow}
-use Rattle.sb_script.specs.State.{State, live}
-use Rattle.sb_rulebook.specs.Accepted.{asked_in}
-use Rattle.sb_rulebook.specs.Judging.{Phase, at_rest, at_check, at_end, behind_end, stopped, Progress, met}
-use Rattle.sb_sound.specs.Certified.{behind}
-use Rattle.sb_prover.specs.Proving.{Proving, IsAbreast, HaveLevels, AreLow, leaving, GoesDown, LevelsStay}
+use Rattle.sb_sound.specs.SoundLaws.{Continues}
+use Rattle.sb_decide.specs.Laws.{KnowsStays}
+use Rattle.sb_decide.specs.declared.decide.Decider.{Decider}
+use Rattle.sb_prover.specs.Proving.{TrueGoesOn}
 use Rattle.sb_solve.specs.Truth.{IsTrue}
-use Rattle.sb_stack.specs.Stacked.{Stacked, state_of, assertion_in}
+use Rattle.sb_stack.specs.Stacked.{IsLonger}
 use Rattle.sb_stack.proofs.CallerLemmas.{live_laid}
-use Rattle.sb_session.specs.Commanding.{SessionState, proof_of, is_proved, IsTracked}
-use Rattle.sb_session.specs.Checking.{HasRegexes, HasLevels, LeavesProof, progress_by}
 
--- more assertions are live
-pub levels_grow : LevelsStay → (old new : State) (proving : Proving)
-    → (more : List (Option Term × ℕ)) × ((asked_in new).live ≡ (asked_in old).live ++ more)
-    → HasLevels old proving → HasLevels new proving
-levels_grow stays old new proving grows h =
-    subst (λ (live : List (Option Term × ℕ)). HaveLevels live proving.evidence) (sym grows.1)
-    (stays (asked_in old).live grows.0 proving.evidence h)
+-- no level is left
+pub held_on : KnowsStays → LevelsStay → TrueGoesOn → (old new : Stacked) (kept : Decider) (proving : Proving)
+    → table.Extends old.table new.table → IsLonger old.assertions new.assertions → new.words ≡ old.words
+    → length old.scope.sorts ≤ length new.scope.sorts
+    → (more : List (Option Term × ℕ)) × ((asked_in (state_of new)).live ≡ (asked_in (state_of old)).live ++ more)
+    → IsFit (state_of new) × Continues (asked_in (state_of old)) (asked_in (state_of new)) → Holds old kept proving
+    → Holds new kept proving
+held_on knows levels on old new kept proving terms longer words sorts grows fits h = record {
+  knows = knows kept old new terms longer words sorts h.knows;
+  regexes = h.regexes;
+  levels = subst (λ (live : List (Option Term × ℕ)). HaveLevels live proving.evidence) (sym grows.1)
+      (levels (asked_in (state_of old)).live grows.0 proving.evidence h.levels);
+  fit = fits.0;
+  sound = on (asked_in (state_of old)) (asked_in (state_of new)) kept.arena kept.graph.memo proving.evidence fits.1
+      h.sound;
+}
 
 -- so many assertions are live
 pub count_live : (s : Stacked) → length s.assertions ≡ length (live (state_of s))
@@ -83,13 +87,11 @@ regexes_left level count rs more before after same along h =
 -- the proof has come so far as is known of it
 pub tracked_left : (level : Option ℕ) (count : ℕ) (session after : SessionState) (proved : Bool) (before left : Proving)
     → session.proof ≡ proof_of proved before → after.proof ≡ proof_of proved left
-    → (asked_in (state_of after.stack)).live
-    ≡ take (length (live (state_of after.stack))) (asked_in (state_of session.stack)).live
-    → IfSome level (λ n. AreLow n (asked_in (state_of after.stack)).live)
+    → (asked_in (state_of after.stack)).live ≡ take (length (live (state_of after.stack)))
+    (asked_in (state_of session.stack)).live → IfSome level (λ n. AreLow n (asked_in (state_of after.stack)).live)
     → count ≡ length (live (state_of after.stack)) → after.arena ≡ session.arena → after.memo ≡ session.memo
-    → LeavesProof level count before left → HasLevels (state_of session.stack) before
-    → (p : Progress) → IsTracked session p
-    → IsTracked after (progress_by (is_proved session) (leaving level ∷ []) p)
+    → LeavesProof level count before left → HasLevels (state_of session.stack) before → (p : Progress)
+    → IsTracked session p → IsTracked after (progress_by (is_proved session) (leaving level ∷ []) p)
 tracked_left level count session after false before left is now front low here regexes memos along h p tracked =
     subst (λ (o : Option Proving). IsTracked (record after { proof = o })
     (progress_by (is_proved session) (leaving level ∷ []) p)) (sym now) tt

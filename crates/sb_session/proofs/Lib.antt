@@ -1,3 +1,4 @@
+mod Words
 pub mod WritingLemmas
 pub mod CheckLemmas
 pub mod CommandLemmas

@@ -1,19 +1,7 @@
 -- Reading on and answering on: what each step makes of what was read and answered.
 use Rattle.std.proofs.Common.{◌≡◌, ◌⊎◌, ℕ, Bool, true, false, if◌then◌else◌, List, [], ◌∷◌, ◌++◌, length, append_assoc, refl, sym, ap, ◌∙◌, inl, inr, subst}
-use Rattle.std.proofs.lemmas.List.{append-nil}
-use Rattle.sb_world.specs.Outside.{Outside}
-use Rattle.sb_reader.specs.Tokens.{is_open_gap}
-use Rattle.sb_reader.specs.Entries.{Entry, HoldsNoEntry, Begins}
+use Rattle.sb_session.proofs.Words.{Along, Answered, Answers, AnswersEntry, Begins, Cut, CutBetween, CutOrNot, CutReply, Entry, GoesOn, HoldsNoEntry, IsTracked, NoneLeft, Outside, SessionState, Sofar, Takes, UpToExit, Waits, append-nil, beginning_grows, beginnings, end_writes, is_exit, is_open_gap, is_proved, same_entry, shortens_to_itself, shortens_twice, state_of}
 use Rattle.sb_reader.specs.Feeding as feed
-use Rattle.sb_reader.specs.Feeding.{Takes, Waits}
-use Rattle.sb_reader.proofs.CallerLemmas.{shortens_to_itself, shortens_twice, same_entry, beginning_grows}
-use Rattle.sb_script.specs.Replies.{is_exit}
-use Rattle.sb_script.specs.Scripts.{Along}
-use Rattle.sb_stack.specs.Stacked.{state_of}
-use Rattle.sb_session.specs.Commanding.{SessionState, is_proved, IsTracked, Answers, AnswersEntry, CutReply, CutOrNot}
-use Rattle.sb_session.specs.Progress.{Sofar}
-use Rattle.sb_session.specs.Reading.{GoesOn, beginnings, Answered, UpToExit, CutBetween, Cut, end_writes}
-use Rattle.sb_session.specs.Pausing.{NoneLeft}
 use Rattle.sb_session.proofs.WritingLemmas.{writes_on, front-longer}
 
 -- one step more
@@ -39,8 +27,7 @@ along_grows {S = S} {W = W} R s (first ∷ entries) writes t entry own after h s
 
 -- the entries with the next one
 begins_on : (opened : Outside) (bytes : List ℕ) (entry : Entry) (old new : feed.Unanswered) (s : SessionState)
-    (before : Outside)
-    (sofar : Sofar opened bytes old s before) → Takes entry old new
+    (before : Outside) (sofar : Sofar opened bytes old s before) → Takes entry old new
     → Begins old.1 bytes (sofar.entries ++ entry ∷ []) new.0
 begins_on opened bytes entry old new s before sofar takes =
     let whole = same_entry old.1 entry sofar.left old.0 takes.0 new.0 sofar.shorter takes.1 takes.3 in
@@ -48,9 +35,8 @@ begins_on opened bytes entry old new s before sofar takes =
     (subst (λ (left : List ℕ). Begins old.1 bytes sofar.entries left) whole.1 sofar.answered.begins) whole.2
 
 -- one more entry is answered
-pub answer_on : (opened : Outside) (bytes : List ℕ) (entry : Entry) (old new : feed.Unanswered)
-    (s after : SessionState) (before now : Outside) → is_exit entry ≡ false → is_proved after ≡ is_proved s
-    → Takes entry old new
+pub answer_on : (opened : Outside) (bytes : List ℕ) (entry : Entry) (old new : feed.Unanswered) (s after : SessionState)
+    (before now : Outside) → is_exit entry ≡ false → is_proved after ≡ is_proved s → Takes entry old new
     → AnswersEntry entry s after before now → Sofar opened bytes old s before → Sofar opened bytes new after now
 answer_on opened bytes entry old new s after before now goes kind takes answering sofar =
     let answers = answering sofar.progress sofar.tracked in
@@ -76,8 +62,7 @@ answer_on opened bytes entry old new s after before now goes kind takes answerin
 -- (exit) is answered
 pub answer_exit : (opened : Outside) (bytes : List ℕ) (entry : Entry) (old new : feed.Unanswered)
     (s after : SessionState) (before now : Outside) → is_exit entry ≡ true → is_proved after ≡ is_proved s
-    → Takes entry old new
-    → AnswersEntry entry s after before now → Sofar opened bytes old s before
+    → Takes entry old new → AnswersEntry entry s after before now → Sofar opened bytes old s before
     → (up : UpToExit (is_proved after) opened bytes new.1 now) × IsTracked after up.after.1
 answer_exit opened bytes entry old new s after before now exits kind takes answering sofar =
     let answers = answering sofar.progress sofar.tracked in (
@@ -149,9 +134,8 @@ cut_answer opened bytes entry old new s before now takes cut sofar =
 
 -- no entry is whole, and white space and comments are taken
 pub wait_on : (opened : Outside) (bytes : List ℕ) (old new : feed.Unanswered) (session : SessionState) (now : Outside)
-    → Waits old new
-    → session.ended ≡ false
-    → Sofar opened bytes old session now → (new.1 ≡ false) × NoneLeft opened bytes new session now
+    → Waits old new → session.ended ≡ false → Sofar opened bytes old session now
+    → (new.1 ≡ false) × NoneLeft opened bytes new session now
 wait_on opened bytes old new session now waits going sofar = (
   waits.still,
   record {
@@ -176,14 +160,3 @@ wait_on opened bytes old new session now waits going sofar = (
 pub open_gap_is_none : (ended : Bool) (bytes : List ℕ) → is_open_gap bytes ≡ true → HoldsNoEntry ended bytes
 open_gap_is_none ended bytes h =
     record { tokens = []; front = []; rest = bytes; split = refl; spelled = refl; open_entry = refl; no_token = inl h }
-
-none_left : (opened : Outside) (bytes : List ℕ) (old new : feed.Unanswered) (session : SessionState) (now : Outside)
-    → old.1 ≡ true
-    → new ≡ old → HoldsNoEntry true old.0 → session.ended ≡ false
-    → Sofar opened bytes old session now → NoneLeft opened bytes new session now
-none_left opened bytes old new session now ended same none going sofar = record {
-  sofar = subst (λ (k : feed.Unanswered). Sofar opened bytes k session now) (sym same) sofar;
-  none = subst (λ (k : feed.Unanswered). HoldsNoEntry k.1 k.0) (sym same)
-      (subst (λ (e : Bool). HoldsNoEntry e old.0) (sym ended) none);
-  goes_on = going;
-}

@@ -1,29 +1,11 @@
 -- A script is read piece by piece, and answered.
-use Rattle.std.proofs.Common.{◌≡◌, ◌+◌, ◌^◌, ◌<◌, ◌≤◌, ℕ, Bool, false, List, [], ◌++◌, length, take, drop, Option, Some, None, option_map, IfSome, Result, Ok, Err, IfOk, OnErr, append_assoc, length-append, refl, sym, ap, ◌∙◌, subst, inl, inr}
-use Rattle.std.proofs.lemmas.Bool.{false≢true}
-use Rattle.std.proofs.lemmas.List.{append-nil, drop-drop, take-append-drop, take-append-le, length-take-le}
-use Rattle.sb_world.specs.Outside.{Outside, read_at, ReadsFront}
-use Rattle.sb_world.proofs.CallerLemmas.{read_at-moves, reading-zero, moved_by-nothing}
-use Rattle.sb_world.specs.Moved.{Moved, moved_by}
+use Rattle.std.proofs.Common.{◌≡◌, ◌+◌, ◌<◌, ◌≤◌, ℕ, Bool, false, List, [], ◌++◌, length, take, drop, Option, Some, None, option_map, IfSome, append_assoc, length-append, refl, sym, ap, ◌∙◌, subst, inl, inr}
+use Rattle.sb_session.proofs.Words.{AllAnswered, AllRead, Asked, Cut, CutInScript, CutShort, HoldsNoEntry, IsFront, IsTracked, Moved, Outside, PastLimit, Pause, Pauses, ReadsFront, Run, SessionState, Sofar, State, StaysOpen, Underway, append-nil, asks_proof, beginning, beginnings, drop-drop, false≢true, is_proved, length-take-le, moved_by, moved_by-nothing, opened, read_at, read_at-moves, reading-zero, shortens_to_itself, state_of, take-append-drop, take-append-le}
 use Rattle.sb_world.specs.declared.InPort.TheVariants as in_port
-use Rattle.sb_reader.specs.Entries.{HoldsNoEntry}
 use Rattle.sb_reader.specs.Feeding as feed
-use Rattle.sb_reader.proofs.CallerLemmas.{shortens_to_itself}
-use Rattle.sb_script.specs.State.{State}
 use Rattle.sb_script.specs.State as meaning
-use Rattle.sb_rulebook.specs.Judging.{beginning}
-use Rattle.sb_stack.specs.Stacked.{state_of}
-use Rattle.sb_session.specs.declared.command.SessionFault.{SessionFault}
-use Rattle.sb_session.specs.declared.solve.Pause.{Pause}
 use Rattle.sb_session.specs.declared.solve.Pause.TheVariants.{Exited, Waiting, Ended}
-use Rattle.sb_session.specs.declared.solve.SolveStatus.{SolveStatus}
 use Rattle.sb_session.specs.declared.solve.SolveStatus.TheVariants as status
-use Rattle.sb_session.specs.Commanding.{SessionState, is_proved, IsTracked}
-use Rattle.sb_session.specs.Progress.{Sofar}
-use Rattle.sb_session.specs.Reading.{IsFront, beginnings, AllAnswered, Cut}
-use Rattle.sb_session.specs.Pausing.{Pauses}
-use Rattle.sb_session.specs.Solve.{Asked, opened, asks_proof, Run, PastLimit, CutInScript, CutShort}
-use Rattle.sb_session.specs.Underway.{Underway, AllRead, StaysOpen}
 use Rattle.sb_session.proofs.ReadingLemmas.{cut_between, open_gap_is_none}
 use Rattle.sb_session.proofs.WritingLemmas.{nothing_yet, work_reads}
 use Rattle.sb_session.proofs.EndLemmas.{all_answered, EndsProof, exit_ended}
@@ -34,11 +16,8 @@ told_nothing (Some l) = refl
 
 -- nothing is read yet
 pub underway_start : (asked : Asked) (old now : Outside) (kept : feed.Unanswered) (session : SessionState)
-    → now ≡ opened asked old
-    → kept ≡ ([], false)
-    → state_of session.stack ≡ meaning.start → session.ended ≡ false → IsTracked session beginning
-    → is_proved session ≡ asks_proof asked
-    → Underway asked old [] kept session now
+    → now ≡ opened asked old → kept ≡ ([], false) → state_of session.stack ≡ meaning.start → session.ended ≡ false
+    → IsTracked session beginning → is_proved session ≡ asks_proof asked → Underway asked old [] kept session now
 underway_start asked old now kept session e same state going tracked kind = record {
   kind = kind;
   front = told_nothing (opened asked old).script_in.left;
@@ -82,8 +61,7 @@ opened_cut asked old now e = cut_in_script asked old now (record {
 
 -- no further byte is read
 pub underway_cut : (asked : Asked) (old : Outside) (bytes : List ℕ) (kept : feed.Unanswered) (session : SessionState)
-    (before now : Outside)
-    → Underway asked old bytes kept session before → now ≡ before → CutShort asked old now
+    (before now : Outside) → Underway asked old bytes kept session before → now ≡ before → CutShort asked old now
 underway_cut asked old bytes kept session before now way same = cut_in_script asked old now (record {
   bytes = bytes;
   ended = false;
@@ -98,8 +76,7 @@ underway_cut asked old bytes kept session before now way same = cut_in_script as
 
 -- what is left of the script
 left_of : (asked : Asked) (old : Outside) (bytes : List ℕ) (kept : feed.Unanswered) (session : SessionState)
-    (before : Outside)
-    → Underway asked old bytes kept session before
+    (before : Outside) → Underway asked old bytes kept session before
     → before.script_in.left ≡ option_map (drop (length bytes)) (opened asked old).script_in.left
 left_of asked old bytes kept session before way =
     ap (λ (o : Outside). o.script_in.left) way.left.sofar.outside
@@ -124,8 +101,7 @@ told_piece (Some l) bytes buffer count h front reads =
 
 -- the piece that is read comes next in the script
 pub front_on : (asked : Asked) (old : Outside) (bytes buffer piece : List ℕ) (count : ℕ) (kept : feed.Unanswered)
-    (session : SessionState)
-    (before : Outside) → count ≤ length buffer → piece ≡ take count buffer
+    (session : SessionState) (before : Outside) → count ≤ length buffer → piece ≡ take count buffer
     → Underway asked old bytes kept session before → IfSome before.script_in.left (λ left. ReadsFront left buffer count)
     → IsFront (bytes ++ piece) (opened asked old)
 front_on asked old bytes buffer piece count kept session before h e way reads =
@@ -147,8 +123,7 @@ nothing_read o = read_at-moves in_port.Script 0 o
 
 -- a read of nothing shows the end
 pub all_read : (asked : Asked) (old : Outside) (bytes buffer : List ℕ) (count : ℕ) (kept : feed.Unanswered)
-    (session : SessionState)
-    (before now : Outside) → count ≡ 0 → length bytes < asked.limit
+    (session : SessionState) (before now : Outside) → count ≡ 0 → length bytes < asked.limit
     → Underway asked old bytes kept session before → now ≡ read_at in_port.Script count before
     → IfSome before.script_in.left (λ left. ReadsFront left buffer count) → AllRead asked old bytes kept session now
 all_read asked old bytes buffer count kept session before now h below way moved reads = record {
@@ -180,19 +155,17 @@ piece_cut asked old bytes proved now kind front cut =
 
 -- (exit) is answered, and the proof is ended
 pub piece_exit : (asked : Asked) (old : Outside) (bytes : List ℕ) (kept : feed.Unanswered) (session : SessionState)
-    (before now : Outside) → kept.1 ≡ false → is_proved session ≡ asks_proof asked
-    → IsFront bytes (opened asked old) → length bytes ≤ asked.limit
-    → Pauses Exited (opened asked old) bytes kept session before → EndsProof session before now
-    → Run asked status.Done old now
+    (before now : Outside) → kept.1 ≡ false → is_proved session ≡ asks_proof asked → IsFront bytes (opened asked old)
+    → length bytes ≤ asked.limit → Pauses Exited (opened asked old) bytes kept session before
+    → EndsProof session before now → Run asked status.Done old now
 piece_exit asked old bytes kept session before now goes_on kind front within exit ends =
     inr (exit_ended asked old bytes kept.1 session before now kind front
     (λ e. absurd (false≢true (sym goes_on ∙ e))) within exit ends)
 
 -- the piece is answered
 pub piece_on : (pause : Pause) (asked : Asked) (old : Outside) (bytes : List ℕ) (kept : feed.Unanswered)
-    (session : SessionState)
-    (now : Outside)
-    → (pause ≡ Exited → ⊥) → kept.1 ≡ false → is_proved session ≡ asks_proof asked → IsFront bytes (opened asked old)
+    (session : SessionState) (now : Outside) → (pause ≡ Exited → ⊥) → kept.1 ≡ false
+    → is_proved session ≡ asks_proof asked → IsFront bytes (opened asked old)
     → Pauses pause (opened asked old) bytes kept session now → Underway asked old bytes kept session now
 piece_on Exited asked old bytes kept session now ne going kind front h = absurd (ne refl)
 piece_on Waiting asked old bytes kept session now ne going kind front h =
@@ -208,8 +181,7 @@ stays_open (Ended _) session ne h = h
 
 -- so many bytes as the limit are read
 pub past_limit : (asked : Asked) (old : Outside) (bytes : List ℕ) (kept : feed.Unanswered) (session : SessionState)
-    (now : Outside)
-    → length bytes ≡ asked.limit → Underway asked old bytes kept session now → PastLimit asked old now
+    (now : Outside) → length bytes ≡ asked.limit → Underway asked old bytes kept session now → PastLimit asked old now
 past_limit asked old bytes kept session now h way = record {
   bytes = bytes;
   left = way.left.sofar.left;
@@ -237,32 +209,3 @@ module _ (asked : Asked) (old : Outside) (bytes buffer rest : List ℕ) (count :
 
   pub longer : length (bytes ++ take count (buffer ++ rest)) ≡ length bytes + count
   longer = length-append bytes (take count (buffer ++ rest)) ∙ ap (λ (n : ℕ). length bytes + n) piece_length
-
--- all of the script was read from what was opened
-abbrev pub Reached : Bool → Outside → Outside → feed.Unanswered → SessionState → Type 0
-Reached proved from read kept session = (asked : Asked) (old : Outside) → asked.limit ≡ 2 ^ 32
-    → proved ≡ asks_proof asked → from ≡ opened asked old
-    → (bytes : List ℕ) × AllRead asked old bytes kept session read
-
--- what the end of the script gives
-pub end_ok : (r : Result SolveStatus SessionFault) (proved : Bool) (from read now : Outside) (kept : feed.Unanswered)
-    (session : SessionState)
-    → Reached proved from read kept session
-    → IfOk r (λ status. (asked : Asked) (old : Outside) (bytes : List ℕ) → AllRead asked old bytes kept session read
-    → Run asked status old now)
-    → IfOk r (λ status. (asked : Asked) (old : Outside) → asked.limit ≡ 2 ^ 32 → proved ≡ asks_proof asked
-    → from ≡ opened asked old → Run asked status old now)
-end_ok (Err _) proved from read now kept session all h = tt
-end_ok (Ok _) proved from read now kept session all h =
-    λ asked old l k e. h asked old (all asked old l k e).0 (all asked old l k e).1
-
-pub end_err : (r : Result SolveStatus SessionFault) (proved : Bool) (from read now : Outside) (kept : feed.Unanswered)
-    (session : SessionState)
-    → Reached proved from read kept session
-    → OnErr r ((asked : Asked) (old : Outside) (bytes : List ℕ) → AllRead asked old bytes kept session read
-    → CutShort asked old now)
-    → OnErr r ((asked : Asked) (old : Outside) → asked.limit ≡ 2 ^ 32 → proved ≡ asks_proof asked
-    → from ≡ opened asked old → CutShort asked old now)
-end_err (Ok _) proved from read now kept session all h = tt
-end_err (Err _) proved from read now kept session all h =
-    λ asked old l k e. h asked old (all asked old l k e).0 (all asked old l k e).1

@@ -1,23 +1,9 @@
 -- From the outcome of a run to its status.
 use Rattle.std.proofs.Common.{◌≡◌, ◌+◌, ◌<◌, ◌≤◌, ◌^◌, ◌⊎◌, ℕ, Bool, true, false, List, [], ◌∷◌, ◌++◌, length, take, drop, Option, Some, None, IfSome, Result, Ok, Err, IfOk, OnErr, append_assoc, length-append, refl, sym, ap, ◌∙◌, subst, inl, inr, arith}
-use Rattle.std.proofs.lemmas.Bool.{false≢true}
-use Rattle.std.proofs.lemmas.List.{take-append-drop, take-append-le}
-use Rattle.std.proofs.Math.Seq.{take-append_seam}
-use Rattle.sb_world.specs.Outside.{Outside, Rose, open_at, source_of}
-use Rattle.sb_world.specs.Moved.{Write}
+use Rattle.sb_session.proofs.Words.{Along, Asked, Begins, CountsFaults, CountsSessionFault, CutShort, Entry, GoesOn, IsBounded, Outside, PastLimit, Rose, Run, SessionFault, SolveStatus, Stage, Write, asks_proof, beginning_is_first, beginning_stays, beginnings, created, false≢true, is_exit, open_at, opened, source_of, status_by, take-append-drop, take-append-le, take-append_seam}
 use Rattle.sb_world.specs.declared.InPort.TheVariants as in_port
-use Rattle.sb_reader.specs.Entries.{Entry, Begins}
-use Rattle.sb_reader.proofs.CallerLemmas.{beginning_stays, beginning_is_first}
-use Rattle.sb_script.specs.Replies.{is_exit}
-use Rattle.sb_script.specs.Scripts.{Along}
-use Rattle.sb_session.specs.declared.command.SessionFault.{SessionFault}
 use Rattle.sb_session.specs.declared.command.SessionFault.TheVariants as fault
-use Rattle.sb_session.specs.declared.solve.SolveStatus.{SolveStatus}
 use Rattle.sb_session.specs.declared.solve.SolveStatus.TheVariants.{Done, Unfinished, Usage, Fault, NoMemory, InputLimit}
-use Rattle.sb_session.specs.Commanding.{Stage, CountsSessionFault}
-use Rattle.sb_session.specs.Solve.{Asked, created, opened, asks_proof, Run, CountsFaults, CutShort, PastLimit, IsBounded}
-use Rattle.sb_session.specs.Reading.{GoesOn, beginnings}
-use Rattle.sb_session.specs.Progress.{status_by}
 
 pub run_by : (asked : Asked) (r : Result SolveStatus SessionFault) (old new : Outside) (f g : ℕ)
     → IfOk r (λ s. Run asked s old new × CountsFaults s f g) → OnErr r (CutShort asked old new)
@@ -35,8 +21,8 @@ counts_by P (Err fault.NoMemory) f g ok faults = faults
 counts_by P (Err fault.Ended) f g ok faults = faults
 
 -- a run from the outside that is opened is one from before
-pub run_from : (asked : Asked) (proved : Bool) (r : Result SolveStatus SessionFault) (old from now : Outside) (f g h : ℕ)
-    → asked.limit ≡ 2 ^ 32 → proved ≡ asks_proof asked → from ≡ opened asked old → g ≡ f
+pub run_from : (asked : Asked) (proved : Bool) (r : Result SolveStatus SessionFault) (old from now : Outside)
+    (f g h : ℕ) → asked.limit ≡ 2 ^ 32 → proved ≡ asks_proof asked → from ≡ opened asked old → g ≡ f
     → IfOk r (λ s. (a : Asked) (o : Outside) → a.limit ≡ 2 ^ 32 → proved ≡ asks_proof a → from ≡ opened a o
     → Run a s o now)
     → IfOk r (λ s. CountsFaults s g h) → IfOk r (λ s. Run asked s old now × CountsFaults s f h)
@@ -44,19 +30,13 @@ run_from asked proved (Err _) old from now f g h l k e same run counts = tt
 run_from asked proved (Ok s) old from now f g h l k e same run counts =
     (run asked old l k e, subst (λ (n : ℕ). CountsFaults s n h) same counts)
 
-pub cut_from : (asked : Asked) (proved : Bool) (r : Result SolveStatus SessionFault) (old from now : Outside) → asked.limit ≡ 2 ^ 32
-    → proved ≡ asks_proof asked → from ≡ opened asked old
-    → OnErr r ((a : Asked) (o : Outside) → a.limit ≡ 2 ^ 32 → proved ≡ asks_proof a → from ≡ opened a o
-    → CutShort a o now)
-    → OnErr r (CutShort asked old now)
-cut_from asked proved (Ok _) old from now l k e cut = tt
-cut_from asked proved (Err _) old from now l k e cut = cut asked old l k e
-
 -- None of the entries that are answered is (exit).
 no_exit_among : (proved : Bool) (s : Stage) (before : List Entry) (entry : Entry) (behind : List Entry)
-    (writes : List Write) (after : Stage) → Along (GoesOn proved) s (before ++ entry ∷ behind) writes after → is_exit entry ≡ false
+    (writes : List Write) (after : Stage) → Along (GoesOn proved) s (before ++ entry ∷ behind) writes after
+    → is_exit entry ≡ false
 no_exit_among proved s [] entry behind writes after h = h.3.0
-no_exit_among proved s (first ∷ before) entry behind writes after h = no_exit_among proved h.2 before entry behind h.1 after h.5
+no_exit_among proved s (first ∷ before) entry behind writes after h =
+    no_exit_among proved h.2 before entry behind h.1 after h.5
 
 -- a list goes on behind each shorter beginning of what it begins
 goes_on_behind : (bytes left front behind : List ℕ) → bytes ++ left ≡ front ++ behind → length front ≤ length bytes
@@ -80,8 +60,7 @@ script_opened asked old = by_proof asked.proof
 
 -- a script that is shorter than the limit holds no so many bytes
 no_limit_below : (asked : Asked) (script : List ℕ) (old new : Outside) → source_of asked.script old ≡ Some script
-    → length script < asked.limit
-    → PastLimit asked old new → ⊥
+    → length script < asked.limit → PastLimit asked old new → ⊥
 no_limit_below asked script old new told below past =
     let front : IfSome (Some script) (λ left. left ≡ past.bytes ++ drop (length past.bytes) left) =
     subst (λ (o : Option (List ℕ)). IfSome o (λ left. left ≡ past.bytes ++ drop (length past.bytes) left))
@@ -93,8 +72,7 @@ no_limit_below asked script old new told below past =
 
 -- nor does one whose (exit) stands before the limit
 no_limit_exit : (asked : Asked) (script front behind : List ℕ) (entries : List Entry) (exit : Entry) (left : List ℕ)
-    (old new : Outside)
-    → source_of asked.script old ≡ Some script → script ≡ front ++ behind
+    (old new : Outside) → source_of asked.script old ≡ Some script → script ≡ front ++ behind
     → length front < asked.limit → Begins false front (entries ++ exit ∷ []) left → is_exit exit ≡ true
     → PastLimit asked old new → ⊥
 no_limit_exit asked script front behind entries exit left old new told split below begins exits past =
@@ -118,8 +96,7 @@ no_limit_exit asked script front behind entries exit left old new told split bel
 
 -- without a fault, a script that is bounded is answered, or memory is wanting
 pub complete_by : (asked : Asked) (status : SolveStatus) (old new : Outside) (f g : ℕ) → Run asked status old new
-    → CountsFaults status f g
-    → (Rose f g → ⊥) → ((script : List ℕ) × IsBounded asked script old)
+    → CountsFaults status f g → (Rose f g → ⊥) → ((script : List ℕ) × IsBounded asked script old)
     → (status ≡ Done) ⊎ ((status ≡ Unfinished) ⊎ (status ≡ NoMemory))
 complete_by asked Done old new f g run counts no_fault bounded = inl refl
 complete_by asked Unfinished old new f g run counts no_fault bounded = inr (inl refl)

@@ -1,21 +1,11 @@
 -- What becomes of what came next.
 use Rattle.std.proofs.Common.{◌≡◌, Bool, true, false, if◌then◌else◌, List, ℕ, sym, ◌∙◌, refl}
-use Rattle.std.proofs.lemmas.Bool.{false≢true}
-use Rattle.sb_world.specs.Outside.{Outside}
+use Rattle.sb_session.proofs.Words.{Cut, Fails, Goes, IsEntry, Outside, Pauses, SessionFault, SessionState, Sofar, Takes, Went, entry_of, false≢true, is_exit, is_proved}
 use Rattle.sb_reader.specs.declared.feed.Next.{Next}
 use Rattle.sb_reader.specs.declared.feed.Next.TheVariants as next
 use Rattle.sb_reader.specs.Feeding as feed
-use Rattle.sb_reader.specs.Feeding.{Takes}
-use Rattle.sb_script.specs.Replies.{is_exit}
-use Rattle.sb_stack.specs.Steps.{IsEntry, entry_of}
-use Rattle.sb_session.specs.declared.command.Went.{Went}
 use Rattle.sb_session.specs.declared.command.Went.TheVariants.{Go, Exited}
-use Rattle.sb_session.specs.declared.command.SessionFault.{SessionFault}
 use Rattle.sb_session.specs.declared.command.SessionFault.TheVariants as fault
-use Rattle.sb_session.specs.Commanding.{SessionState, is_proved, Goes, Fails}
-use Rattle.sb_session.specs.Progress.{Sofar}
-use Rattle.sb_session.specs.Reading.{Cut}
-use Rattle.sb_session.specs.Pausing.{Pauses}
 use Rattle.sb_session.specs.declared.solve.Pause.TheVariants as pause
 use Rattle.sb_session.proofs.ReadingLemmas.{answer_on, answer_exit, cut_answer, wait_on}
 
@@ -44,10 +34,9 @@ goes n went session session' before now is e h opened bytes old new answers sofa
 
 -- the entry was (exit)
 pub exits : (n : Next) (went : Went) (session session' : SessionState) (before now : Outside) → IsEntry n
-    → went ≡ Exited
-    → Goes went (entry_of n) session session' before now
-    → (opened : Outside) (bytes : List ℕ) (old new : feed.Unanswered) → feed.IsNext n old new
-    → Sofar opened bytes old session before → Pauses pause.Exited opened bytes new session' now
+    → went ≡ Exited → Goes went (entry_of n) session session' before now → (opened : Outside) (bytes : List ℕ)
+    (old new : feed.Unanswered) → feed.IsNext n old new → Sofar opened bytes old session before
+    → Pauses pause.Exited opened bytes new session' now
 exits n went session session' before now is e h opened bytes old new answers sofar =
     answer_exit opened bytes (entry_of n) old new session session' before now
     (an_exit (is_exit (entry_of n)) (sym e ∙ h.went_is)) h.same_kind (takes_entry n old new is answers) h.answers sofar

@@ -1,13 +1,9 @@
 -- What is written: one piece, or pieces one after another.
 use Rattle.std.proofs.Common.{◌≡◌, ℕ, ◌<◌, List, [], ◌∷◌, ◌++◌, length, ◌+◌, take, arith, refl, sym, ap, subst, ◌∙◌, inl, inr}
-use Rattle.sb_world.specs.Outside.{Outside, write_at, read_at}
-use Rattle.sb_world.specs.Moved.{Moved, Write, moved_by, both, reading, writing_all, IsProperFront}
+use Rattle.sb_session.proofs.Words.{CutOf, IsProperFront, Moved, Outside, Write, both, both-assoc, moved_by, moved_by-both, moved_by-nothing, read_at, read_at-moves, reading, reading-add, reading_first, with_lines, work, write_at, write_at-moves, writing_all, writing_all-append, writing_all-one}
 use Rattle.sb_world.specs.declared.InPort.TheVariants as in_port
 use Rattle.sb_world.specs.declared.OutPort.{OutPort}
 use Rattle.sb_world.specs.declared.OutPort.TheVariants as out_port
-use Rattle.sb_world.proofs.CallerLemmas.{moved_by-both, moved_by-nothing, read_at-moves, write_at-moves, both-assoc, reading-add, reading_first, writing_all-one, writing_all-append}
-use Rattle.sb_session.specs.Commanding.{CutOf, with_lines}
-use Rattle.sb_session.specs.Reading.{work}
 
 pub one_written : (port : OutPort) (bytes : List ℕ) (old new : Outside) → new ≡ write_at port bytes old
     → new ≡ moved_by (writing_all ((port, bytes) ∷ [])) old

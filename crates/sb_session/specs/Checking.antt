@@ -16,7 +16,9 @@ use Rattle.sb_prover.specs.Proving.{Proving, IsAbreast, HaveLevels, AreLow, leav
 use Rattle.sb_stack.specs.Stacked.{Stacked, state_of}
 use Rattle.sb_stack.specs.declared.verdict.Verdict as code
 use Rattle.sb_stack.specs.declared.verdict.Verdict.TheVariants as verdict
+use Rattle.sb_sound.specs.ScriptLaws.{IsFit}
 use Rattle.sb_decide.specs.declared.decide.Decider.{Decider}
+use Rattle.sb_decide.specs.Knowing.{Knows}
 use Rattle.sb_atoms.specs.Numbered.{HaveRegexesBelow}
 use Rattle.sb_solve.specs.Truth.{IsTrue}
 use Rattle.sb_session.specs.Commanding.{SessionState, is_proved, IsTracked, with_lines, CutOf}
@@ -37,6 +39,14 @@ HasLevels s proving = HaveLevels (asked_in s).live proving.evidence
 -- what the evidence knows is true of the live assertions
 abbrev pub HasTrue : State → Decider → Proving → Type 0
 HasTrue s decider proving = IsTrue (asked_in s) decider.arena decider.graph.memo proving.evidence
+
+-- What is known while a session goes on: of the live assertions, that they fit, and of the evidence.
+pub record Holds (stack : Stacked) (decider : Decider) (proving : Proving) : Type 0 where
+  pub knows : Knows decider stack
+  pub regexes : HasRegexes decider.arena proving
+  pub levels : HasLevels (state_of stack) proving
+  pub fit : IsFit (state_of stack)
+  pub sound : HasTrue (state_of stack) decider proving
 
 -- Where levels are left and so many assertions stay, what the prover knows goes along.
 pub record LeavesProof (level : Option ℕ) (count : ℕ) (old new : Proving) : Type 0 where

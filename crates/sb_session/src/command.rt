@@ -1,25 +1,20 @@
 //! The session, entry by entry.
 
-ghost use Rattle.std.specs.Prelude.{◌≡◌, ◌⊎◌, [], length, true, false, is_some, Some, IfSome, IfNone, IfOk, IfErr, OnOk, OnErr};
+ghost use Rattle.std.specs.Prelude.{◌≡◌, ◌⊎◌, [], length, true, false, is_some, Some, IfOk, IfErr, OnOk, OnErr};
 ghost use Rattle.sb_world.specs.Outside.{CountsFault};
 ghost use Rattle.sb_world.specs.Moved.{moved_by, writing_all};
 ghost use Rattle.sb_script.specs.State.{start};
-ghost use Rattle.sb_script.specs.Verdicts.{IsVerdict, FindsUnproved};
-ghost use Rattle.sb_atoms.specs.Numbered.{HaveRegexesBelow};
-ghost use Rattle.sb_prover.specs.Proving.{HaveLevels};
-ghost use Rattle.sb_rulebook.specs.Accepted.{asked_in};
+ghost use Rattle.sb_script.specs.Verdicts.{FindsUnproved};
 ghost use Rattle.sb_rulebook.specs.Judging.{Progress, beginning};
 ghost use Rattle.sb_stack.specs.Stacked.{state_of, live_constants, without_words};
 ghost use Rattle.sb_stack.specs.Steps.{IsEntry, entry_of, verdict_in, found};
-ghost use Rattle.sb_decide.specs.Knowing.{Knows, IsDecision};
-ghost use Rattle.sb_decide.specs.Ready.{IsLeftOpen};
+ghost use Rattle.sb_decide.specs.Ready.{IsDecided};
 ghost use Rattle.sb_decide.specs.Laws.{LeavesKnown};
 ghost use Rattle.sb_session.specs.Commanding.{SessionState, Goes, Fails, AnswersEntry, CutOrNot, CutOf, IsTracked, proof_of, is_proved, is_exited, went_of, CountsSessionFault};
-ghost use Rattle.sb_sound.specs.ScriptLaws.{IsFit};
-ghost use Rattle.sb_session.specs.Checking.{session_of, IsKnown, HasRegexes, HasLevels, HasTrue, LeavesProof, ProvesCheck, CutProof, AnswersCheck, CutCheck};
+ghost use Rattle.sb_session.specs.Checking.{session_of, Holds, IsKnown, LeavesProof, ProvesCheck, CutProof, AnswersCheck, CutCheck};
 ghost use Rattle.sb_session.specs.Reading.{end_writes};
 
-use sb_decide::{Decider, knows_stays};
+use sb_decide::{Decided, Decider, knows_stays};
 use sb_proof::MemTape;
 use sb_prover::{
     NoTape, Prover, abreast_stays, entries_move_live, entries_stay_fit, levels_stay,
@@ -92,11 +87,8 @@ pub struct Session {
 
 impl Model for Session {
     ghost use Rattle.std.specs.Prelude.{◌≡◌, false};
-    ghost use Rattle.sb_session.specs.Checking.{HasRegexes, HasLevels, HasTrue};
-    ghost use Rattle.sb_sound.specs.ScriptLaws.{IsFit};
-    ghost use Rattle.sb_stack.specs.Stacked.{state_of};
+    ghost use Rattle.sb_session.specs.Checking.{Holds};
     ghost use Rattle.sb_session.specs.Commanding.{SessionState, proof_of};
-    ghost use Rattle.sb_decide.specs.Knowing.{Knows};
     ghost use Rattle.sb_lang.proofs.CallerLemmas.{coded_regex};
     ghost use Rattle.sb_meaning.proofs.CallerLemmas.{coded_term};
     ghost use Rattle.std.specs.Coded.{codes};
@@ -113,9 +105,7 @@ impl Model for Session {
       ended = s.ended;
     } };
 
-    ghost invariant = { λ s. s.ended ≡ false → Knows s.decider s.stack × HasRegexes s.decider.arena s.prover
-        × HasLevels (state_of s.stack) s.prover × IsFit (state_of s.stack)
-        × HasTrue (state_of s.stack) s.decider s.prover };
+    ghost invariant = { λ s. s.ended ≡ false → Holds s.stack s.decider s.prover };
 }
 
 impl Session {
@@ -226,16 +216,8 @@ fn answer_entry<W: World>(
     world: &mut W,
 ) -> Result<Went, WorldError>
     requires entry { IsEntry entry.now }
-    requires knows { Knows decider.old stack.old }
-    requires regexes { HasRegexes decider.old.arena prover.old }
-    requires levels { HasLevels (state_of stack.old) prover.old }
-    requires fit { IsFit (state_of stack.old) }
-    requires sound { HasTrue (state_of stack.old) decider.old prover.old }
-    ensures knows { OnOk result (Knows decider.new stack.new) }
-    ensures regexes { OnOk result (HasRegexes decider.new.arena prover.new) }
-    ensures levels { OnOk result (HasLevels (state_of stack.new) prover.new) }
-    ensures fit { OnOk result (IsFit (state_of stack.new)) }
-    ensures sound { OnOk result (HasTrue (state_of stack.new) decider.new prover.new) }
+    requires held { Holds stack.old decider.old prover.old }
+    ensures held { OnOk result (Holds stack.new decider.new prover.new) }
     ensures ok { IfOk result (λ went. (went ≡ went_of (entry_of entry.now))
         × AnswersEntry (entry_of entry.now) (session_of stack.old decider.old (proof_of proved prover.old))
         (session_of stack.new decider.new (proof_of proved prover.new)) (W.outside world.old) (W.outside world.new)) }
@@ -307,16 +289,8 @@ fn answer_check<W: World>(
     proved: bool,
     world: &mut W,
 ) -> Result<(), WorldError>
-    requires knows { Knows decider.old stack.old }
-    requires regexes { HasRegexes decider.old.arena prover.old }
-    requires levels { HasLevels (state_of stack.old) prover.old }
-    requires fit { IsFit (state_of stack.old) }
-    requires sound { HasTrue (state_of stack.old) decider.old prover.old }
-    ensures knows { OnOk result (Knows decider.new stack.new) }
-    ensures regexes { OnOk result (HasRegexes decider.new.arena prover.new) }
-    ensures levels { OnOk result (HasLevels (state_of stack.new) prover.new) }
-    ensures fit { OnOk result (IsFit (state_of stack.new)) }
-    ensures sound { OnOk result (HasTrue (state_of stack.new) decider.new prover.new) }
+    requires held { Holds stack.old decider.old prover.old }
+    ensures held { OnOk result (Holds stack.new decider.new prover.new) }
     ensures ok { OnOk result
         ((p : Progress) → IsTracked (session_of stack.old decider.old (proof_of proved prover.old)) p
         → AnswersCheck p (session_of stack.old decider.old (proof_of proved prover.old))
@@ -336,31 +310,21 @@ fn answer_check<W: World>(
     write_all(world, OutPort::Answers, stack.settle(verdict))
 }
 
-/// The verdict of a check: the one that was decided, or where the check was left open what a search finds. Writes the
-/// lines that prove it, where a proof is written.
+/// The verdict of a check of which this is known. Writes the lines that prove it, where a proof is written; without one
+/// it is `NoMemory` where it would take more steps than a check may have.
 fn find_verdict<W: World>(
     alloc: Global,
     stack: &mut Stack,
     decider: &mut Decider,
     prover: &mut Prover,
     proved: bool,
-    decided: Option<Verdict>,
+    decided: Decided,
     world: &mut W,
 ) -> Result<Verdict, WorldError>
-    requires knows { IfSome decided (λ v. Knows decider.old (found v stack.old)) }
-    requires verdict { IfSome decided
-        (λ v. IsVerdict (state_of stack.old) [] (verdict_in (live_constants stack.old) v)) }
-    requires decided { IfSome decided (λ v. IsDecision v decider.old) }
-    requires open { IfNone decided (IsLeftOpen decider.old stack.old) }
-    requires regexes { HasRegexes decider.old.arena prover.old }
-    requires fit { IsFit (state_of stack.old) }
-    requires sound { HasTrue (state_of stack.old) decider.old prover.old }
-    ensures knows { IfOk result (λ v. Knows decider.new (found v stack.new)) }
+    requires held { Holds stack.old decider.old prover.old }
+    requires decided { IsDecided decider.old stack.old decided }
+    ensures held { IfOk result (λ v. Holds (found v stack.new) decider.new prover.new) }
     ensures rest { without_words stack.new ≡ without_words stack.old }
-    ensures regexes { OnOk result (HasRegexes decider.new.arena prover.new) }
-    ensures levels { OnOk result (HasLevels (state_of stack.old) prover.old
-        → HasLevels (state_of stack.old) prover.new) }
-    ensures sound { OnOk result (HasTrue (state_of stack.old) decider.new prover.new) }
     ensures ok { IfOk result
         (λ v. (p : Progress) → IsTracked (session_of stack.old decider.old (proof_of proved prover.old)) p
         → ProvesCheck (state_of stack.old) (verdict_in (live_constants stack.old) v) p
@@ -373,109 +337,33 @@ fn find_verdict<W: World>(
         (W.outside world.new)) }
     ensures faults { CountsFault result (W.faults world.old) (W.faults world.new) }
 {
-    match decided {
-        Some(verdict) => prove_check(alloc, stack, decider, prover, proved, verdict, world),
-        None => solve_check(alloc, stack, decider, prover, proved, world),
+    if !proved {
+        let verdict = find_unproved(stack, decider, prover, decided)?;
+        return Ok(verdict);
     }
-}
-
-/// Answers a check that was left open, and writes the lines that prove the verdict, where a proof is written. Without a
-/// proof it is `NoMemory` where it would take more steps than a check may have.
-fn solve_check<W: World>(
-    alloc: Global,
-    stack: &mut Stack,
-    decider: &mut Decider,
-    prover: &mut Prover,
-    proved: bool,
-    world: &mut W,
-) -> Result<Verdict, WorldError>
-    requires open { IsLeftOpen decider.old stack.old }
-    requires regexes { HasRegexes decider.old.arena prover.old }
-    requires fit { IsFit (state_of stack.old) }
-    requires sound { HasTrue (state_of stack.old) decider.old prover.old }
-    ensures knows { IfOk result (λ v. Knows decider.new (found v stack.new)) }
-    ensures rest { without_words stack.new ≡ without_words stack.old }
-    ensures regexes { OnOk result (HasRegexes decider.new.arena prover.new) }
-    ensures levels { OnOk result (HasLevels (state_of stack.old) prover.old
-        → HasLevels (state_of stack.old) prover.new) }
-    ensures sound { OnOk result (HasTrue (state_of stack.old) decider.new prover.new) }
-    ensures ok { IfOk result
-        (λ v. (p : Progress) → IsTracked (session_of stack.old decider.old (proof_of proved prover.old)) p
-        → ProvesCheck (state_of stack.old) (verdict_in (live_constants stack.old) v) p
-        (is_some (proof_of proved prover.old)) (session_of stack.old decider.new (proof_of proved prover.new))
-        (W.outside world.old) (W.outside world.new)) }
-    ensures err { OnErr result
-        ((p : Progress) → IsTracked (session_of stack.old decider.old (proof_of proved prover.old)) p
-        → (W.outside world.new ≡ W.outside world.old)
-        ⊎ CutProof (state_of stack.old) p (is_some (proof_of proved prover.old)) (W.outside world.old)
-        (W.outside world.new)) }
-    ensures faults { CountsFault result (W.faults world.old) (W.faults world.new) }
-{
-    if proved {
-        return solve(alloc, stack, decider, prover, world);
-    }
-    let verdict = solve_unproved(stack, decider, prover)?;
-    Ok(verdict)
-}
-
-/// Answers a check that was left open, and writes the lines that prove the verdict.
-fn solve<W: World>(
-    alloc: Global,
-    stack: &mut Stack,
-    decider: &mut Decider,
-    prover: &mut Prover,
-    world: &mut W,
-) -> Result<Verdict, WorldError>
-    requires open { IsLeftOpen decider.old stack.old }
-    requires regexes { HasRegexes decider.old.arena prover.old }
-    requires fit { IsFit (state_of stack.old) }
-    requires sound { HasTrue (state_of stack.old) decider.old prover.old }
-    ensures knows { IfOk result (λ v. Knows decider.new (found v stack.new)) }
-    ensures rest { without_words stack.new ≡ without_words stack.old }
-    ensures regexes { OnOk result (HasRegexes decider.new.arena prover.new) }
-    ensures levels { OnOk result (HasLevels (state_of stack.old) prover.old
-        → HasLevels (state_of stack.old) prover.new) }
-    ensures sound { OnOk result (HasTrue (state_of stack.old) decider.new prover.new) }
-    ensures ok { IfOk result
-        (λ v. (p : Progress) → IsTracked (session_of stack.old decider.old (Some prover.old)) p
-        → ProvesCheck (state_of stack.old) (verdict_in (live_constants stack.old) v) p
-        true (session_of stack.old decider.new (Some prover.new))
-        (W.outside world.old) (W.outside world.new)) }
-    ensures err { OnErr result
-        ((p : Progress) → IsTracked (session_of stack.old decider.old (Some prover.old)) p
-        → (W.outside world.new ≡ W.outside world.old)
-        ⊎ CutProof (state_of stack.old) p true (W.outside world.old)
-        (W.outside world.new)) }
-    ensures faults { CountsFault result (W.faults world.old) (W.faults world.new) }
-{
     let mut lines = MemTape::new(alloc);
-    let Ok(verdict) = prover.solve(decider, stack, true, &mut lines) else {
+    let Ok(verdict) = prover.check(decider, stack, decided, true, &mut lines) else {
         return Err(WorldError::NoMemory);
     };
     write_all(world, OutPort::Proof, lines.bytes())?;
     Ok(verdict)
 }
 
-/// Answers a check that was left open, without a proof; it is never `Unknown`.
-fn solve_unproved(
+/// The verdict of a check, without a proof; it is never `Unknown`.
+fn find_unproved(
     stack: &mut Stack,
     decider: &mut Decider,
     prover: &mut Prover,
+    decided: Decided,
 ) -> Result<Verdict, AllocError>
-    requires open { IsLeftOpen decider.old stack.old }
-    requires regexes { HasRegexes decider.old.arena prover.old }
-    requires fit { IsFit (state_of stack.old) }
-    requires sound { HasTrue (state_of stack.old) decider.old prover.old }
+    requires held { Holds stack.old decider.old prover.old }
+    requires decided { IsDecided decider.old stack.old decided }
     ensures finds { IfOk result
         (λ v. FindsUnproved (state_of stack.old) [] [] (verdict_in (live_constants stack.old) v)) }
-    ensures knows { IfOk result (λ v. Knows decider.new (found v stack.new)) }
+    ensures held { IfOk result (λ v. Holds (found v stack.new) decider.new prover.new) }
     ensures rest { without_words stack.new ≡ without_words stack.old }
-    ensures regexes { OnOk result (HasRegexes decider.new.arena prover.new) }
-    ensures levels { OnOk result (HasLevels (state_of stack.old) prover.old
-        → HasLevels (state_of stack.old) prover.new) }
-    ensures sound { OnOk result (HasTrue (state_of stack.old) decider.new prover.new) }
 {
-    let Ok(verdict) = prover.solve(decider, stack, false, &mut NoTape) else {
+    let Ok(verdict) = prover.check(decider, stack, decided, false, &mut NoTape) else {
         return Err(AllocError);
     };
     let known = if_known(verdict)?;
@@ -492,80 +380,4 @@ fn if_known(verdict: Verdict) -> Result<Verdict, AllocError>
         Verdict::Unknown => Err(AllocError),
         Verdict::Outside => Ok(Verdict::Outside),
     }
-}
-
-/// Writes the lines that prove the verdict of a check, where a proof is written, and answers the verdict.
-fn prove_check<W: World>(
-    alloc: Global,
-    stack: &Stack,
-    decider: &mut Decider,
-    prover: &mut Prover,
-    proved: bool,
-    verdict: Verdict,
-    world: &mut W,
-) -> Result<Verdict, WorldError>
-    requires knows { Knows decider.old (found verdict stack.now) }
-    requires verdict { IsVerdict (state_of stack.now) [] (verdict_in (live_constants stack.now) verdict) }
-    requires decided { IsDecision verdict decider.old }
-    requires regexes { HasRegexes decider.old.arena prover.old }
-    requires fit { IsFit (state_of stack.now) }
-    requires sound { HasTrue (state_of stack.now) decider.old prover.old }
-    ensures knows { IfOk result (λ v. Knows decider.new (found v stack.now)) }
-    ensures regexes { OnOk result (HasRegexes decider.new.arena prover.new) }
-    ensures levels { OnOk result (HasLevels (state_of stack.now) prover.old
-        → HasLevels (state_of stack.now) prover.new) }
-    ensures sound { OnOk result (HasTrue (state_of stack.now) decider.new prover.new) }
-    ensures ok { IfOk result
-        (λ v. (p : Progress) → IsTracked (session_of stack.now decider.old (proof_of proved prover.old)) p
-        → ProvesCheck (state_of stack.now) (verdict_in (live_constants stack.now) v) p
-        (is_some (proof_of proved prover.old)) (session_of stack.now decider.new (proof_of proved prover.new))
-        (W.outside world.old) (W.outside world.new)) }
-    ensures err { OnErr result
-        ((p : Progress) → IsTracked (session_of stack.now decider.old (proof_of proved prover.old)) p
-        → (W.outside world.new ≡ W.outside world.old)
-        ⊎ CutProof (state_of stack.now) p (is_some (proof_of proved prover.old)) (W.outside world.old)
-        (W.outside world.new)) }
-    ensures faults { CountsFault result (W.faults world.old) (W.faults world.new) }
-{
-    if proved {
-        prove(alloc, stack, decider, prover, verdict, world)
-    } else {
-        Ok(verdict)
-    }
-}
-
-/// Writes the lines that prove the verdict of a check, and answers the verdict.
-fn prove<W: World>(
-    alloc: Global,
-    stack: &Stack,
-    decider: &mut Decider,
-    prover: &mut Prover,
-    verdict: Verdict,
-    world: &mut W,
-) -> Result<Verdict, WorldError>
-    requires knows { Knows decider.old (found verdict stack.now) }
-    requires verdict { IsVerdict (state_of stack.now) [] (verdict_in (live_constants stack.now) verdict) }
-    requires decided { IsDecision verdict decider.old }
-    requires regexes { HaveRegexesBelow (length decider.old.arena) prover.old.evidence.atoms }
-    requires fit { IsFit (state_of stack.now) }
-    requires sound { HasTrue (state_of stack.now) decider.old prover.old }
-    ensures knows { IfOk result (λ v. Knows decider.new (found v stack.now)) }
-    ensures regexes { OnOk result (HaveRegexesBelow (length decider.new.arena) prover.new.evidence.atoms) }
-    ensures levels { OnOk result (HaveLevels (asked_in (state_of stack.now)).live prover.old.evidence
-        → HaveLevels (asked_in (state_of stack.now)).live prover.new.evidence) }
-    ensures sound { OnOk result (HasTrue (state_of stack.now) decider.new prover.new) }
-    ensures ok { IfOk result (λ v. (p : Progress) → IsTracked (session_of stack.now decider.old (Some prover.old)) p
-        → ProvesCheck (state_of stack.now) (verdict_in (live_constants stack.now) v) p true
-        (session_of stack.now decider.new (Some prover.new)) (W.outside world.old) (W.outside world.new)) }
-    ensures err { OnErr result ((p : Progress) → IsTracked (session_of stack.now decider.old (Some prover.old)) p
-        → (W.outside world.new ≡ W.outside world.old)
-        ⊎ CutProof (state_of stack.now) p true (W.outside world.old) (W.outside world.new)) }
-    ensures faults { CountsFault result (W.faults world.old) (W.faults world.new) }
-{
-    let mut tape = MemTape::new(alloc);
-    let Ok(verdict) = prover.prove(decider, stack, verdict, &mut tape) else {
-        return Err(WorldError::NoMemory);
-    };
-    write_all(world, OutPort::Proof, tape.bytes())?;
-    Ok(verdict)
 }

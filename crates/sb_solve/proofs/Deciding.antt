@@ -1,45 +1,6 @@
 -- Where each atom that is wanted has a value, and no kept clause is false, the values are truths.
-use Rattle.std.proofs.Common.{◌≡◌, ℕ, zero, suc, ◌+◌, ◌<◌, ◌⊎◌, Bool, true, false, not, ◌&&◌, ◌||◌, ◌==◌, nat_eq, nat_lt, cond, if◌then◌else◌, List, [], ◌∷◌, ◌++◌, map, length, get_or, slice_get, Option, Some, None, option_map, option_and_then, unwrap_or, refl, sym, ap, ap₂, subst, ◌∙◌, arith, inl, inr}
-use Rattle.std.specs.List.{list_all, list_any}
-use Rattle.std.specs.Prelude.{is_none}
-use Rattle.std.specs.declared.cmp.Ordering.{Ordering}
-use Rattle.std.specs.declared.cmp.Ordering.TheVariants.{Less, Equal, Greater}
-use Rattle.std.proofs.lemmas.Bool.{false≢true, and_parts, and_from, or_cases, or_left, or_right, eqb-true, eq-eqb, ltb-true}
-use Rattle.std.proofs.lemmas.List.{append-nil}
-use Rattle.std.proofs.lemmas.List.Folds.{list_all-append}
-use Rattle.std.proofs.lemmas.Map.Views.{any-filter_same}
-use Rattle.std.proofs.lemmas.Option.{slice_get-map, get_or_from_slice_get, unwrap_or-slice_get}
-use Rattle.sb_lit.specs.declared.clause.Lit.{Lit}
-use Rattle.sb_lit.specs.Clauses.{negation, is_among, is_same_literal, is_false_under, is_false_clause, is_true_under, literal_order}
-use Rattle.sb_lit.specs.Kept.{Kept}
-use Rattle.sb_lit.proofs.CallerLemmas.{is_same_literal-of, is_same_literal-true, literal_of_parts, all_among}
-use Rattle.sb_lang.specs.Regex.{Regex}
-use Rattle.sb_lang.specs.Language.{language}
-use Rattle.sb_regex.specs.Numbered.{regex_at}
-use Rattle.sb_trail.specs.declared.assigned.Assigned.{Assigned}
-use Rattle.sb_trail.specs.Assignments.{held, value_of, entry_of, IsConsistent}
-use Rattle.sb_clauses.specs.Propagation.{HasNoneFalse}
-use Rattle.sb_meaning.specs.Terms.{Sort, Term}
-use Rattle.sb_meaning.specs.Values.{Valuation}
-use Rattle.sb_meaning.specs.Truth.{holds}
-use Rattle.sb_script.specs.Pieces.{Piece, constant_piece, word_piece}
-use Rattle.sb_rulebook.specs.Atoms.{Atom, AtomOver, bool_atom, in_atom, le_atom, sum_atom, and_atom, iff_atom, atom_holds, literal_holds, truths_of, truth_at}
+use Rattle.sb_solve.proofs.Words.{◌≡◌, ℕ, zero, suc, ◌+◌, ◌<◌, ◌⊎◌, Bool, true, false, not, ◌&&◌, ◌==◌, nat_eq, nat_lt, cond, if◌then◌else◌, List, [], ◌∷◌, length, get_or, slice_get, Option, Some, None, option_map, option_and_then, unwrap_or, refl, sym, ap, ap₂, subst, ◌∙◌, arith, inl, inr, list_all, list_any, is_none, false≢true, and_parts, and_from, or_cases, or_left, or_right, eqb-true, eq-eqb, ltb-true, append-nil, slice_get-map, get_or_from_slice_get, unwrap_or-slice_get, Lit, is_among, is_same_literal, is_false_under, is_false_clause, is_true_under, Kept, is_same_literal-of, is_same_literal-true, literal_of_parts, all_among, Regex, regex_at, Assigned, held, value_of, entry_of, IsConsistent, HasNoneFalse, Sort, Term, Valuation, holds, Piece, constant_piece, word_piece, Atom, AtomOver, bool_atom, in_atom, le_atom, sum_atom, and_atom, iff_atom, literal_holds, truths_of, translation, HasSorts, fits_sorts, TranslationHolds, IsTruthAt, truth_at_place, all_in_front, literal_holds-take, over, atoms_in, are_alike, clauses_of, gate, is_as_it_says, all_say, each-part, of-gate, has_value, word_at, is_true_by, is_true_of, fits_subject, constant_of, subject_of, is_atom, is_of_wanted, wanted_of, wanted_on, is_in, atoms_of, parts_of, is_simple, is_closed, is_true, is_constant, makes_true, truth_by, IsKept, AreKept, IsDecided, IsGiven, all_weaker, list_all-map, slice_get-get_or, some-none, any-filter_same, language, all_hold, number_in, list_any_none}
 use Rattle.sb_rulebook.specs.Atoms as rulebook
-use Rattle.sb_rulebook.specs.Translation.{in_order, with_literal, translation}
-use Rattle.sb_sound.specs.TermLaws.{HasSorts, fits_sorts}
-use Rattle.sb_sound.specs.TranslationLaws.{TranslationHolds}
-use Rattle.sb_sound.proofs.CallerLemmas.{IsTruthAt, truth_at_place, all_in_front, literal_holds-take}
-use Rattle.sb_atoms.specs.Numbered.{over, atoms_in}
-use Rattle.sb_atoms.specs.GateClauses.{atom_at, are_alike, all_hold, clause_of, clauses_of, gate, is_as_it_says, is_trivial}
-use Rattle.sb_clash.specs.Literals.{number_in}
-use Rattle.sb_atoms.specs.GateClauses as gates
-use Rattle.sb_atoms.proofs.CallerLemmas.{all_say}
-use Rattle.sb_search.specs.Found.{has_value}
-use Rattle.sb_theory.specs.Memberships.{word_at, is_true_by, is_true_of, fits_subject, constant_of, subject_of, is_atom}
-use Rattle.sb_theory.specs.Wanted.{is_of_wanted, wanted_of, wanted_on}
-use Rattle.sb_solve.specs.Wanted.{is_in, atoms_of, parts_of, parts_at, is_simple, is_simple_at, is_closed}
-use Rattle.sb_solve.specs.Values.{is_true, is_constant, makes_true, truth_by}
-use Rattle.sb_solve.specs.Decided.{IsKept, AreKept, IsDecided, IsGiven}
 use Rattle.sb_solve.proofs.Gathered.{names_before}
 
 -- A literal of a wanted atom is one of those of wanted atoms.
@@ -66,10 +27,6 @@ any_in test (x ∷ xs) n there h = elim (or_cases (nat_eq n x) (is_in xs n) ther
   | inl here ↦ or_left (test x) (list_any test xs) (ap test (sym (eqb-true n x here)) ∙ h)
   | inr later ↦ or_right (test x) (list_any test xs) (any_in test xs n later h)
 ]
-
-none_of : (test : ℕ → Bool) (xs : List ℕ) → ((n : ℕ) → test n ≡ false) → list_any test xs ≡ false
-none_of test [] h = refl
-none_of test (x ∷ xs) h = ap₂ (λ a b. a || b) (h x) (none_of test xs h)
 
 -- What stands on a trail.
 
@@ -144,85 +101,16 @@ holds_on es n l below =
     ap (λ b. if l.positive then b else not b)
     (unwrap_or-slice_get (truths_on es 0 n) l.atom false ∙ truth_on es 0 n l.atom below ∙ ap (is_true es) (omega arith))
 
--- The literals of a gate's clauses are of its atom or of its parts.
-
-module _ (p : Lit → Bool) where
-  all_placed : (l : Lit) (ls : List Lit) → p l ≡ true → list_all p ls ≡ true → list_all p (with_literal l ls) ≡ true
-  all_placed l [] h t = and_from (p l) true h refl
-  all_placed l (m ∷ ms) h t = step (literal_order l m) (and_parts (p m) (list_all p ms) t) (all_placed l ms h)
-    where
-      step : (o : Ordering) → (p m ≡ true) × (list_all p ms ≡ true)
-          → (list_all p ms ≡ true → list_all p (with_literal l ms) ≡ true)
-          → list_all p (elim o as (λ _. List Lit)
-          [ Less ↦ l ∷ m ∷ ms | Equal ↦ m ∷ ms | Greater ↦ m ∷ with_literal l ms ])
-          ≡ true
-      step Less q rest = and_from (p l) (list_all p (m ∷ ms)) h t
-      step Equal q rest = t
-      step Greater q rest = and_from (p m) (list_all p (with_literal l ms)) q.0 (rest q.1)
-
-  pub all_ordered : (ls : List Lit) → list_all p ls ≡ true → list_all p (in_order ls) ≡ true
-  all_ordered [] h = refl
-  all_ordered (l ∷ ls) h =
-      let q = and_parts (p l) (list_all p ls) h in
-      all_placed l (in_order ls) q.0 (all_ordered ls q.1)
-
-  all_of_clause : (ls : List Lit) → list_all p ls ≡ true → list_all (list_all p) (clause_of ls) ≡ true
-  all_of_clause ls h = step (is_trivial (in_order ls))
-    where
-      step : (b : Bool) → list_all (list_all p) (if b then [] else in_order ls ∷ []) ≡ true
-      step true = refl
-      step false = and_from (list_all p (in_order ls)) true (all_ordered ls h) refl
-
-  both : (xs ys : List (List Lit)) → list_all (list_all p) xs ≡ true → list_all (list_all p) ys ≡ true
-      → list_all (list_all p) (xs ++ ys) ≡ true
-  both xs ys h t =
-      list_all-append (list_all p) xs ys ∙ and_from (list_all (list_all p) xs) (list_all (list_all p) ys) h t
-
-  three : (k l m : Lit) → p k ≡ true → p l ≡ true → p m ≡ true → list_all p (k ∷ l ∷ m ∷ []) ≡ true
-  three k l m a b c =
-      and_from (p k) (p l && (p m && true)) a (and_from (p l) (p m && true) b (and_from (p m) true c refl))
-
-of_gate : (test : ℕ → Bool) (g : ℕ) (a : AtomOver ℕ) → test g ≡ true → list_all test (parts_of a) ≡ true
-    → list_all (list_all (λ (l : Lit). test l.atom)) (clauses_of g a) ≡ true
-of_gate test g (bool_atom serial) h t = refl
-of_gate test g (in_atom ps r) h t = refl
-of_gate test g (le_atom x k) h t = refl
-of_gate test g (sum_atom k ss) h t = refl
-of_gate test g (and_atom ls) h t =
-    both p (gates.parts_of g ls) (clause_of (gate g true ∷ map negation ls)) (parts ls t)
-    (all_of_clause p (gate g true ∷ map negation ls)
-    (and_from (test g) (list_all p (map negation ls)) h (negations ls t)))
-  where
-    p : Lit → Bool
-    p = λ l. test l.atom
-
-    negations : (ls : List Lit) → list_all test (atoms_of ls) ≡ true → list_all p (map negation ls) ≡ true
-    negations [] t = refl
-    negations (l ∷ ls) t =
-        let q = and_parts (test l.atom) (list_all test (atoms_of ls)) t in
-        and_from (test l.atom) (list_all p (map negation ls)) q.0 (negations ls q.1)
-
-    parts : (ls : List Lit) → list_all test (atoms_of ls) ≡ true → list_all (list_all p) (gates.parts_of g ls) ≡ true
-    parts [] t = refl
-    parts (l ∷ ls) t =
-        let q = and_parts (test l.atom) (list_all test (atoms_of ls)) t in
-        both p (clause_of (gate g false ∷ l ∷ [])) (gates.parts_of g ls)
-        (all_of_clause p (gate g false ∷ l ∷ [])
-        (and_from (test g) (test l.atom && true) h (and_from (test l.atom) true q.0 refl))) (parts ls q.1)
-of_gate test g (iff_atom l m) h t =
-    let q = and_parts (test l.atom) (test m.atom && true) t in
-    let r = and_parts (test m.atom) true q.1 in
-    both p (clause_of (gate g true ∷ l ∷ m ∷ [])) _
-    (all_of_clause p (gate g true ∷ l ∷ m ∷ []) (three p (gate g true) l m h q.0 r.0))
-    (both p (clause_of (gate g true ∷ negation l ∷ negation m ∷ [])) _
-    (all_of_clause p (gate g true ∷ negation l ∷ negation m ∷ [])
-    (three p (gate g true) (negation l) (negation m) h q.0 r.0))
-    (both p (clause_of (gate g false ∷ negation l ∷ m ∷ [])) _
-    (all_of_clause p (gate g false ∷ negation l ∷ m ∷ []) (three p (gate g false) (negation l) m h q.0 r.0))
-    (all_of_clause p (gate g false ∷ l ∷ negation m ∷ []) (three p (gate g false) l (negation m) h q.0 r.0))))
-  where
-    p : Lit → Bool
-    p = λ l. test l.atom
+-- each atom of which this one speaks passes
+part_each : (test : ℕ → Bool) (a : AtomOver ℕ) → list_all test (parts_of a) ≡ true → each-part test a ≡ true
+part_each test (bool_atom serial) h = refl
+part_each test (in_atom ps r) h = refl
+part_each test (le_atom x k) h = refl
+part_each test (sum_atom k ss) h = refl
+part_each test (and_atom ls) h = sym (list_all-map test (λ (l : Lit). l.atom) ls) ∙ h
+part_each test (iff_atom l m) h =
+    let q = and_parts (test l.atom) (test m.atom && true) h in
+    and_from (test l.atom) (test m.atom) q.0 (and_parts (test m.atom) true q.1).0
 
 -- Kept clauses are true on the trail.
 
@@ -231,22 +119,16 @@ kept_true : (es : List Assigned) (n : ℕ) (kept : Kept) (clauses : List (List L
     → list_all (list_all (λ (l : Lit). has_value es l.atom && nat_lt l.atom n)) clauses ≡ true
     → all_hold (truths_on es 0 n) clauses ≡ true
 kept_true es n kept [] none_false k full = refl
-kept_true es n kept (clause ∷ clauses) none_false k full =
-    let q = and_parts (list_all (λ (l : Lit). has_value es l.atom && nat_lt l.atom n) clause) _ full in
+kept_true es n kept (clause ∷ clauses) none_false k h =
+    let q = and_parts (list_all (λ (l : Lit). has_value es l.atom && nat_lt l.atom n) clause) _ h in
+    let full = all_weaker (λ (l : Lit). has_value es l.atom && nat_lt l.atom n) (λ (l : Lit). has_value es l.atom)
+    (λ l both. (and_parts (has_value es l.atom) (nat_lt l.atom n) both).0) clause q.0 in
     let one = k.0 in
     let now : is_false_clause (held es) clause ≡ false =
     ap (is_false_clause (held es)) (sym one.3) ∙ none_false one.0 one.1 one.2 in
     and_from (list_any (literal_holds (truths_on es 0 n)) clause) (all_hold (truths_on es 0 n) clauses)
-    (moved clause q.0 (some_true es clause (full_of clause q.0) now)) (kept_true es n kept clauses none_false k.1 q.1)
+    (moved clause q.0 (some_true es clause full now)) (kept_true es n kept clauses none_false k.1 q.1)
   where
-    full_of : (ls : List Lit) → list_all (λ (l : Lit). has_value es l.atom && nat_lt l.atom n) ls ≡ true
-        → list_all (λ (l : Lit). has_value es l.atom) ls ≡ true
-    full_of [] h = refl
-    full_of (l ∷ ls) h =
-        let q = and_parts (has_value es l.atom && nat_lt l.atom n) _ h in
-        and_from (has_value es l.atom) (list_all (λ (m : Lit). has_value es m.atom) ls)
-        (and_parts (has_value es l.atom) (nat_lt l.atom n) q.0).0 (full_of ls q.1)
-
     moved : (ls : List Lit) → list_all (λ (l : Lit). has_value es l.atom && nat_lt l.atom n) ls ≡ true
         → list_any (on_trail es) ls ≡ true → list_any (literal_holds (truths_on es 0 n)) ls ≡ true
     moved [] h some = absurd (false≢true some)
@@ -266,24 +148,6 @@ same_truths true true h = refl
 same_truths true false h = absurd (false≢true h)
 same_truths false true h = absurd (false≢true h)
 same_truths false false h = refl
-
-sign_of : (s b : Bool) → (if s then b else not b) ≡ true → s ≡ b
-sign_of true true h = refl
-sign_of true false h = absurd (false≢true h)
-sign_of false true h = absurd (false≢true h)
-sign_of false false h = refl
-
-all_tested : (first test : ℕ → Bool) (xs : List ℕ) → ((j : ℕ) → first j ≡ true → test j ≡ true)
-    → list_all first xs ≡ true → list_all test xs ≡ true
-all_tested first test [] h t = refl
-all_tested first test (x ∷ xs) h t =
-    let q = and_parts (first x) (list_all first xs) t in
-    and_from (test x) (list_all test xs) (h x q.0) (all_tested first test xs h q.1)
-
-none_past : {X : Type 0} → (xs : List X) (i : ℕ) → slice_get xs i ≡ None → i < length xs → ⊥
-none_past [] i h below = omega (arith, below)
-none_past (x ∷ xs) zero h below = Prim.cc (h)
-none_past (x ∷ xs) (suc i) h below = none_past xs i h (omega (arith, below))
 
 module _ (rs : List Regex) (atoms : List (AtomOver ℕ)) (wanted : List ℕ) (kept : Kept) (es : List Assigned)
     (words : List (Option (List ℕ))) (v : Valuation) (d : IsDecided rs atoms wanted kept es)
@@ -312,7 +176,8 @@ module _ (rs : List Regex) (atoms : List (AtomOver ℕ)) (wanted : List ℕ) (ke
 
     of_false : (i serial : ℕ) → slice_get atoms i ≡ Some (bool_atom serial) → is_true es i ≡ false
         → truth_by atoms es wanted serial ≡ false
-    of_false i serial at h = none_of (makes_true atoms es serial) wanted (λ j. other j (slice_get atoms j) refl)
+    of_false i serial at h = list_any_none (makes_true atoms es serial) wanted
+        (λ k d low. other (get_or wanted k d) (slice_get atoms (get_or wanted k d)) refl)
       where
         other : (j : ℕ) (o : Option (AtomOver ℕ)) → slice_get atoms j ≡ o
             → (is_constant serial o && is_true es j) ≡ false
@@ -356,22 +221,17 @@ module _ (rs : List Regex) (atoms : List (AtomOver ℕ)) (wanted : List ℕ) (ke
         ap (fits_subject rs atoms words l) (sym subject) ∙ fits in
         let number : number_in (get_or atoms i (bool_atom 0)) ≡ r =
         ap number_in (get_or_from_slice_get atoms i (in_atom (constant_piece serial ∷ []) r) (bool_atom 0) at) in
-        sign_of (is_true es i) (language (regex_at rs r) (word_at words serial))
+        same_truths (is_true es i) (language (regex_at rs r) (word_at words serial))
         (ap (λ n. if is_true es i then language (regex_at rs n) (word_at words serial)
         else not (language (regex_at rs n) (word_at words serial))) (sym number) ∙ now)
 
-    parts_wanted : (i : ℕ) (a : AtomOver ℕ) → is_in wanted i ≡ true → slice_get atoms i ≡ Some a
-        → list_all (is_in wanted) (parts_of a) ≡ true
-    parts_wanted i a there at =
-        ap (λ o. list_all (is_in wanted) (elim o as (λ _. List ℕ) [ None ↦ [] | Some b ↦ parts_of b ])) (sym at)
-        ∙ (and_parts (is_simple_at atoms i) (list_all (is_in wanted) (parts_at atoms i))
-        (all_in (is_closed atoms wanted) wanted i d.closed there)).1
-
-    simple_there : (i : ℕ) (a : AtomOver ℕ) → is_in wanted i ≡ true → slice_get atoms i ≡ Some a → is_simple a ≡ true
-    simple_there i a there at =
-        ap (λ o. elim o as (λ _. Bool) [ None ↦ true | Some b ↦ is_simple b ]) (sym at)
-        ∙ (and_parts (is_simple_at atoms i) (list_all (is_in wanted) (parts_at atoms i))
-        (all_in (is_closed atoms wanted) wanted i d.closed there)).0
+    closed_there : (i : ℕ) (a : AtomOver ℕ) → is_in wanted i ≡ true → slice_get atoms i ≡ Some a
+        → (is_simple a ≡ true) × (list_all (is_in wanted) (parts_of a) ≡ true)
+    closed_there i a there is =
+        and_parts (is_simple a) (list_all (is_in wanted) (parts_of a))
+        (subst (λ o. (elim o as (λ _. Bool) [ None ↦ true | Some b ↦ is_simple b ]
+        && list_all (is_in wanted) (elim o as (λ _. List ℕ) [ None ↦ [] | Some b ↦ parts_of b ])) ≡ true) is
+        (all_in (is_closed atoms wanted) wanted i d.closed there))
 
     within : (i : ℕ) → is_in wanted i ≡ true → i < length atoms
     within i there = ltb-true i (length atoms) (all_in (is_atom atoms) wanted i d.known there)
@@ -386,13 +246,13 @@ module _ (rs : List Regex) (atoms : List (AtomOver ℕ)) (wanted : List ℕ) (ke
         let tested : (j : ℕ) → is_in wanted j ≡ true → test j ≡ true = λ j h.
         and_from (has_value es j) (nat_lt j n) (all_in (has_value es) wanted j d.full h)
         (all_in (is_atom atoms) wanted j d.known h) in
-        let parts = all_tested (is_in wanted) test (parts_of a) tested (parts_wanted i a there at) in
+        let parts = all_weaker (is_in wanted) test tested (parts_of a) (closed_there i a there at).1 in
         let clauses = clauses_of i a in
         let are : AreKept kept clauses =
         subst (λ (b : AtomOver ℕ). AreKept kept (clauses_of i b)) (get_or_from_slice_get atoms i a (bool_atom 0) at)
         (d.gates i there) in
         sym (all_say (truths_on es 0 n) i a)
-        ∙ kept_true es n kept clauses d.none_false are (of_gate test i a (tested i there) parts)
+        ∙ kept_true es n kept clauses d.none_false are (of-gate test i a (tested i there) (part_each test a parts))
 
     abbrev on : List Bool
     on = truths_on es 0 (length atoms)
@@ -419,18 +279,15 @@ module _ (rs : List Regex) (atoms : List (AtomOver ℕ)) (wanted : List ℕ) (ke
         ap₂ (λ a b. a && b) (holds_both l (omega (arith, less, low)) (rest l.atom less q.0))
         (each_holds i ls low p.1 q.1 rest)
 
-    gate_on : (i : ℕ) → i < length atoms → literal_holds on (gate i true) ≡ is_true es i
-    gate_on i low = holds_on es (length atoms) (gate i true) low
-
     of_conjunction : (i : ℕ) (ls : List Lit) → is_in wanted i ≡ true → slice_get atoms i ≡ Some (and_atom ls)
         → ((j : ℕ) → j < i → is_in wanted j ≡ true → Right j) → Right i
     of_conjunction i ls there at rest =
         let at_place = truth_is i (and_atom ls) at in
         let low = within i there in
         let below = names_before rs atoms i (and_atom ls) d.table at in
-        sym (gate_on i low)
+        sym (holds_on es (length atoms) (gate i true) low)
         ∙ same_truths (literal_holds on (gate i true)) (list_all (literal_holds on) ls) (says i (and_atom ls) there at)
-        ∙ each_holds i ls low below (parts_wanted i (and_atom ls) there at) rest
+        ∙ each_holds i ls low below (closed_there i (and_atom ls) there at).1 rest
         ∙ sym (all_in_front (truths_of v table) i ls below (omega (arith, at_place.0)))
         ∙ sym at_place.1
 
@@ -441,12 +298,12 @@ module _ (rs : List Regex) (atoms : List (AtomOver ℕ)) (wanted : List ℕ) (ke
         let low = within i there in
         let T = truths_of v table in
         let p = and_parts (nat_lt l.atom i) (nat_lt m.atom i) (names_before rs atoms i (iff_atom l m) d.table at) in
-        let parts = parts_wanted i (iff_atom l m) there at in
+        let parts = (closed_there i (iff_atom l m) there at).1 in
         let q = and_parts (is_in wanted l.atom) (is_in wanted m.atom && true) parts in
         let r = and_parts (is_in wanted m.atom) true q.1 in
         let first : l.atom < i = ltb-true l.atom i p.0 in
         let second : m.atom < i = ltb-true m.atom i p.1 in
-        sym (gate_on i low)
+        sym (holds_on es (length atoms) (gate i true) low)
         ∙ same_truths (literal_holds on (gate i true)) (are_alike (literal_holds on l) (literal_holds on m))
         (says i (iff_atom l m) there at)
         ∙ ap₂ are_alike
@@ -469,14 +326,15 @@ module _ (rs : List Regex) (atoms : List (AtomOver ℕ)) (wanted : List ℕ) (ke
 
     of_atom : (i : ℕ) (o : Option (AtomOver ℕ)) → slice_get atoms i ≡ o → is_in wanted i ≡ true
         → ((j : ℕ) → j < i → is_in wanted j ≡ true → Right j) → Right i
-    of_atom i None at there rest = absurd (none_past atoms i at (within i there))
+    of_atom i None at there rest =
+        absurd (some-none _ (sym (slice_get-get_or atoms i (bool_atom 0) (within i there)) ∙ at))
     of_atom i (Some (bool_atom serial)) at there rest =
         sym (of_constant i serial there at) ∙ sym (g.gives_truths i serial there at)
         ∙ sym (truth_is i (bool_atom serial) at).1
     of_atom i (Some (in_atom ps r)) at there rest =
-        of_pieces i ps r there at (simple_there i (in_atom ps r) there at)
-    of_atom i (Some (le_atom x k)) at there rest = absurd (false≢true (simple_there i (le_atom x k) there at))
-    of_atom i (Some (sum_atom k ss)) at there rest = absurd (false≢true (simple_there i (sum_atom k ss) there at))
+        of_pieces i ps r there at (closed_there i (in_atom ps r) there at).0
+    of_atom i (Some (le_atom x k)) at there rest = absurd (false≢true (closed_there i (le_atom x k) there at).0)
+    of_atom i (Some (sum_atom k ss)) at there rest = absurd (false≢true (closed_there i (sum_atom k ss) there at).0)
     of_atom i (Some (and_atom ls)) at there rest = of_conjunction i ls there at rest
     of_atom i (Some (iff_atom l m)) at there rest = of_equivalence i l m there at rest
 
@@ -493,17 +351,13 @@ module _ (rs : List Regex) (atoms : List (AtomOver ℕ)) (wanted : List ℕ) (ke
 
     -- and a literal is true that the trail has
 
-    by_value : (l : Lit) (b : Bool) → get_or (truths_of v (atoms_in rs atoms)) l.atom false ≡ b
-        → (if l.positive then b else not b) ≡ true → literal_holds (truths_of v (atoms_in rs atoms)) l ≡ true
-    by_value l b is h =
-        ap (λ t. if l.positive then t else not t)
-        (unwrap_or-slice_get (truths_of v (atoms_in rs atoms)) l.atom false ∙ is)
-        ∙ h
-
     by_trail : (l : Lit) → is_in wanted l.atom ≡ true → on_trail es l ≡ true
         → literal_holds (truths_of v (atoms_in rs atoms)) l ≡ true
     by_trail l there h =
-        by_value l (is_true es l.atom) (sym (right_below (suc l.atom) l.atom (omega arith) there)) h
+        let low = within l.atom there in
+        sym (holds_both l low (right_below (suc l.atom) l.atom (omega arith) there))
+        ∙ holds_on es (length atoms) l low
+        ∙ h
 
     pub literal_right : (l : Lit) → is_in wanted l.atom ≡ true → IsConsistent (held es)
         → is_true_under (held es) l ≡ true → literal_holds (truths_of v (atoms_in rs atoms)) l ≡ true

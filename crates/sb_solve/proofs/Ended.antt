@@ -1,36 +1,7 @@
 -- What a search leaves, and what comes of it.
-use Rattle.std.proofs.Common.{◌≡◌, ℕ, zero, suc, Bool, true, List, [], ◌∷◌, ◌++◌, length, Option, Some, None, Err, refl, sym, ap, subst, ◌∙◌}
-use Rattle.std.specs.List.{list_all}
-use Rattle.std.proofs.lemmas.Bool.{and_parts, and_from, false≢true}
-use Rattle.sb_lit.specs.declared.clause.Lit.{Lit}
-use Rattle.sb_lit.specs.Budgets.{Spending}
-use Rattle.sb_lit.specs.Kept.{Kept, KeptClause, kept_at}
-use Rattle.sb_lang.specs.Regex.{Regex}
-use Rattle.sb_clauses.specs.Propagation.{State, has_room_for, is_reserved}
-use Rattle.sb_graph.specs.Findings.{Findings}
-use Rattle.sb_proof.specs.declared.tape.TapeFault.{TapeFault}
-use Rattle.sb_proof.specs.declared.tape.TapeFault.TheVariants as fault
-use Rattle.sb_rulebook.specs.Atoms.{AtomOver}
-use Rattle.sb_sound.specs.Tables.{is_table}
-use Rattle.sb_atoms.specs.Numbered.{AreDistinct, atoms_in}
-use Rattle.sb_trace.specs.Putting.{CountsTapeFault}
-use Rattle.sb_refute.specs.declared.evidence.Asserted.{Asserted}
-use Rattle.sb_refute.specs.declared.evidence.Parts.{Parts}
-use Rattle.sb_refute.specs.Backing.{asserted_at, unit_at}
-use Rattle.sb_search.specs.Following.{FollowsByLevel}
-use Rattle.sb_search.specs.Found.{GrowsTo, IsFound}
-use Rattle.sb_search.specs.Asking.{AreKnown}
-use Rattle.sb_search.specs.Writing.{written}
-use Rattle.sb_search.specs.declared.found.Found.{Found}
-use Rattle.sb_search.specs.declared.found.Found.TheVariants as found
+use Rattle.sb_solve.proofs.Words.{◌≡◌, ℕ, zero, suc, Bool, true, List, [], ◌∷◌, ◌++◌, length, take, Option, Some, None, refl, sym, ap, subst, ◌∙◌, take-append_seam, Asserted, false≢true, Global, Vec, Lit, Spending, Kept, KeptClause, kept_at, Regex, has_room_for, Findings, AtomOver, Stacked, AreDistinct, Backing, IsLowestEmpty, unit_at, Stand, each-reserved, room-for-each, stand-traced, FollowsByLevel, GrowsTo, HaveAtoms, IsValid, IsTaught, AreWanted, AreAmong, AreTaken, Answers, HasCore, IsDone, IsNumbered, IsSearched, Runs, backing_in, Solved, State, IsKeptCore, are_negated, Traced, EmptyClause, written, Strings, Tables}
 use Rattle.sb_theory.specs.Strings as theory
-use Rattle.sb_theory.specs.Memberships.{HaveAtoms, IsValid, are_atoms, is_atom}
-use Rattle.sb_solve.specs.Wanted.{AreWanted}
-use Rattle.sb_solve.specs.Searched.{IsSearched}
-use Rattle.sb_solve.specs.Begun.{AreAmong, HasRun, IsOver, Runs, parts_of, searched_of}
-use Rattle.sb_solve.specs.declared.searching.Begun.{Begun}
-use Rattle.sb_solve.specs.Concluding.{HasCore}
-use Rattle.sb_solve.specs.declared.searching.Searched.{Searched}
+use Rattle.sb_solve.specs.declared.check.Solved.TheVariants as solved
 
 -- Kept clauses.
 
@@ -48,48 +19,30 @@ kept_grown old new id clause g h =
 
 -- The search.
 
-pub none_known : (passes : ℕ → Type 0) → AreKnown passes []
-none_known passes = λ l h. absurd (false≢true h)
-
--- where more is taught, the same follows
-pub follows_with : (fewer more : List Lit → Type 0) (old new : Kept)
-    → ((clause : List Lit) → fewer clause → more clause) → FollowsByLevel fewer old new → FollowsByLevel more old new
-follows_with fewer more old new taught h = λ level values obeys.
-    h level values (λ clause t. obeys clause (taught clause t))
-
-pub searched_over : (b c : Begun) (literals : List Lit) (proves : Bool) (before after : Spending)
-    (old new : Option (List ℕ)) (f : Found) → b.strings.proves ≡ proves → Runs b c before after old new f
-    → AreDistinct b.strings.atoms
-    → AreWanted b.strings.atoms literals b.strings.wanted
-    → ((rs : List Regex) → is_table (atoms_in rs b.strings.atoms) ≡ true
-    → are_atoms b.strings.atoms literals ≡ true
-    → list_all (is_atom b.strings.atoms) b.strings.wanted ≡ true)
-    → IsSearched b.strings.arena b.strings.graph.memo (parts_of b) literals proves before after old new
-    (searched_of c f)
-searched_over b c literals proves before after old new f same r distinct are among = record {
-  graph = r.stands.holds.graph;
-  plain = r.stands.holds.plain;
-  extends = r.writes.extends;
-  derivatives = r.writes.derivatives;
-  regexes = r.stands.holds.regexes;
-  atoms = r.writes.atoms;
-  asserted = r.asserted;
-  refuted = r.refuted;
-  gates = r.gates;
-  kept = r.kept;
-  known = λ h. subst (λ (ts : List (AtomOver ℕ)). HaveAtoms ts c.engine.kept) r.writes.atoms (r.writes.known h);
-  follows = subst (λ (ts : List (AtomOver ℕ)). FollowsByLevel (IsValid c.strings.arena ts) b.engine.kept c.engine.kept)
-      r.writes.atoms r.follows;
-  silent = λ off. r.writes.silent (same ∙ off);
-  puts = λ on known asked kept e counted.
-      let start : theory.Backs asked b.strings kept (written b.engine.kept before old) = record {
-        tracks = e.tracks;
-        atoms = e.atoms;
-        clauses = e.clauses;
-        known = known;
-        counted = counted;
-      } in
-      let lines = r.writes.lines (same ∙ on) asked kept start in
+searched_over : (b : Tables) (y : Strings) (z : State) (before after : Spending) (old new : Option (List ℕ))
+    (refuted : Option EmptyClause) → has_room_for (length b.strings.atoms) b.engine.kept ≡ true
+    → theory.Stands y z.trail.literals → GrowsTo b.engine.kept z.kept
+    → FollowsByLevel (IsValid y.arena y.atoms) b.engine.kept z.kept
+    → theory.Writes b.strings y (written b.engine.kept before old) (written z.kept after new)
+    → IsSearched b.strings.proves b.strings.arena b.strings.graph.memo (backing_in b) before old y.arena y.graph y.plain
+    (record (backing_in b) { trace = y.trace; atoms = y.atoms; kept = z.kept; refuted = refuted }) after new
+searched_over b y z before after old new refuted room stands grows follows writes = record {
+  graph = stands.holds.graph;
+  plain = stands.holds.plain;
+  extends = writes.extends;
+  derivatives = writes.derivatives;
+  regexes = stands.holds.regexes;
+  atoms = writes.atoms;
+  asserted = refl;
+  kept = grows;
+  known = subst (λ (ts : List (AtomOver ℕ)). HaveAtoms ts z.kept) writes.atoms (writes.known have);
+  follows = subst (λ (ts : List (AtomOver ℕ)). FollowsByLevel (IsValid y.arena ts) b.engine.kept z.kept) writes.atoms
+      follows;
+  silent = writes.silent;
+  puts = λ on asked kept e counted.
+      let start : theory.Backs asked b.strings kept (written b.engine.kept before old) =
+      record { tracks = e.tracks; atoms = e.atoms; clauses = e.clauses; known = have; counted = counted } in
+      let lines = writes.lines on asked kept start in
       record {
         after = lines.0;
         puts = lines.1;
@@ -98,103 +51,114 @@ searched_over b c literals proves before after old new f same r distinct are amo
           atoms = lines.2.atoms;
           clauses = lines.2.clauses;
           asserted = λ place a there.
-              kept_grown b.engine.kept c.engine.kept a.clause.0 (unit_at a) r.kept (e.asserted place a
-              (subst (λ (xs : List (Option Asserted)). asserted_at xs place ≡ Some a) r.asserted there));
+              kept_grown b.engine.kept z.kept a.clause.0 (unit_at a) grows (e.asserted place a there);
         };
         counts = lines.2.counted;
       };
-  distinct = distinct;
-  wanted = subst (AreWanted b.strings.atoms literals) (sym r.wanted) are;
-  among = λ rs table atoms. subst (λ (ns : List ℕ). list_all (is_atom b.strings.atoms) ns ≡ true) (sym r.wanted)
-      (among rs table atoms);
-  found = r.found;
-  agrees = r.agrees;
 }
-
--- over the tables that it was given
-pub searched_from : (b : Begun) (arena : List Regex) (graph : Findings) (parts : Parts) (literals : List Lit)
-    (proves : Bool) (before after : Spending) (old new : Option (List ℕ)) (s : Searched) → b.strings.arena ≡ arena
-    → b.strings.graph ≡ graph → parts_of b ≡ parts
-    → IsSearched b.strings.arena b.strings.graph.memo (parts_of b) literals proves before after old new s
-    → IsSearched arena graph.memo parts literals proves before after old new s
-searched_from b arena graph parts literals proves before after old new s is_arena is_graph is_parts h =
-    subst (λ (ps : Parts). IsSearched arena graph.memo ps literals proves before after old new s) is_parts
-    (subst (λ (g : Findings). IsSearched arena g.memo (parts_of b) literals proves before after old new s) is_graph
-    (subst
-    (λ (rs : List Regex). IsSearched rs b.strings.graph.memo (parts_of b) literals proves before after old new s)
-    is_arena h))
-
-pub over_atoms : (arena : List Regex) (graph : Findings) (parts : Parts) (wanted : List ℕ) (proves : Bool) (b : Begun)
-    → IsOver arena graph parts wanted proves b → b.strings.atoms ≡ parts.atoms
-over_atoms arena graph parts wanted proves b o = ap (λ (p : Parts). p.atoms) o.parts
-
-pub over_trail : (arena : List Regex) (graph : Findings) (parts : Parts) (wanted : List ℕ) (proves : Bool) (b : Begun)
-    → IsOver arena graph parts wanted proves b → parts.engine.trail.literals ≡ [] → b.engine.trail.literals ≡ []
-over_trail arena graph parts wanted proves b o none = ap (λ (p : Parts). p.engine.trail.literals) o.parts ∙ none
-
-pub over_known : (arena : List Regex) (graph : Findings) (parts : Parts) (wanted : List ℕ) (proves : Bool) (b : Begun)
-    → IsOver arena graph parts wanted proves b → has_room_for (length parts.atoms) parts.engine.kept ≡ true
-    → has_room_for (length b.strings.atoms) b.engine.kept ≡ true
-over_known arena graph parts wanted proves b o h =
-    ap (λ (p : Parts). has_room_for (length p.atoms) p.engine.kept) o.parts ∙ h
-
-pub searched_by : (arena : List Regex) (graph : Findings) (parts : Parts) (literals : List Lit) (wanted : List ℕ)
-    (proves : Bool) (b : Begun) (s : Searched) (before after : Spending) (old new : Option (List ℕ))
-    → IsOver arena graph parts wanted proves b → HasRun b before after old new s → AreDistinct parts.atoms
-    → AreWanted parts.atoms literals wanted → AreAmong parts.atoms literals wanted
-    → IsSearched arena graph.memo parts literals proves before after old new s
-searched_by arena graph parts literals wanted proves b s before after old new o r distinct are among =
-    subst (λ (t : Searched). IsSearched arena graph.memo parts literals proves before after old new t) (sym r.3)
-    (searched_from b arena graph parts literals proves before after old new (searched_of r.0 r.1) o.arena o.graph
-    o.parts (searched_over b r.0 literals proves before after old new r.1 o.proves r.2 (subst AreDistinct atoms distinct)
-    is_wanted is_among))
   where
-    atoms : parts.atoms ≡ b.strings.atoms
-    atoms = sym (over_atoms arena graph parts wanted proves b o)
+    have : HaveAtoms b.strings.atoms b.engine.kept
+    have = each-reserved (length b.strings.atoms) b.engine.kept room
 
-    is_wanted : AreWanted b.strings.atoms literals b.strings.wanted
-    is_wanted = subst (AreWanted b.strings.atoms literals) (sym o.wanted)
-        (subst (λ (ts : List (AtomOver ℕ)). AreWanted ts literals wanted) atoms are)
+-- the theory's words may be taken then
+pub runs_to : (s : Stacked) (b c : Tables) (y : Strings) (z : State) (words : Vec (Option (List ℕ)) Global)
+    (before after : Spending) (old new : Option (List ℕ)) (answer : Solved)
+    → c ≡ record b { strings = record y { words = words }; engine = z } → y.wanted ≡ b.strings.wanted
+    → has_room_for (length b.strings.atoms) b.engine.kept ≡ true → theory.Stands y z.trail.literals
+    → GrowsTo b.engine.kept z.kept → FollowsByLevel (IsTaught y.arena y.atoms y.wanted) b.engine.kept z.kept
+    → theory.Writes b.strings y (written b.engine.kept before old) (written z.kept after new)
+    → Answers s y.arena y.atoms z.kept y.wanted after answer → Runs s b before old c after new answer
+runs_to s b c y z words before after old new answer is same room stands grows follows writes answers =
+    subst (λ (t : Tables). Runs s b before old t after new answer) (sym is) (record {
+      searched = λ refuted.
+          searched_over b y z before after old new refuted room stands grows
+          (λ level values obeys. follows level values (λ clause taught. obeys clause taught.1)) writes;
+      answers = subst (λ (ns : List ℕ). Answers s y.arena y.atoms z.kept ns after answer) same answers;
+      refuted_stays = refl;
+      gates_stay = refl;
+      first_stays = refl;
+    })
 
-    is_among : AreAmong b.strings.atoms literals b.strings.wanted
-    is_among = subst (AreAmong b.strings.atoms literals) (sym o.wanted)
-        (subst (λ (ts : List (AtomOver ℕ)). AreAmong ts literals wanted) atoms among)
+same_backing : (t : Traced) (ts us : List (AtomOver ℕ)) (ks js : Kept) (xs ys : List (Option Asserted))
+    (q r : Option EmptyClause) (n m : ℕ) → ts ≡ us → ks ≡ js → xs ≡ ys → q ≡ r → n ≡ m
+    → ◌≡◌ {A = Backing}
+    (record { trace = t; atoms = ts; kept = ks; asserted = xs; refuted = q; gates = n })
+    (record { trace = t; atoms = us; kept = js; asserted = ys; refuted = r; gates = m })
+same_backing t ts us ks js xs ys q r n m atoms kept asserted refuted gates = cc
 
--- a fault that is handed on
-pub counts_on : (A B : Type 0) (f : TapeFault) (old new : ℕ) → CountsTapeFault {A = A} (Err f) old new
-    → CountsTapeFault {A = B} (Err f) old new
-counts_on A B fault.Fault old new h = h
-counts_on A B fault.NoMemory old new h = h
+-- What comes of it, over tables that were taken.
 
--- What is known where it ended.
+module _ (s : Stacked) (rs : List Regex) (g : Findings) (e : Backing) (wanted : List ℕ) (proves : Bool) (b c : Tables)
+    (before after : Spending) (old new : Option (List ℕ)) (found : Solved) (taken : AreTaken rs g e wanted proves b)
+    (runs : Runs s b before old c after new found) where
+  searched : (refuted : Option EmptyClause) → IsSearched proves rs g.memo e before old c.strings.arena c.strings.graph
+      c.strings.plain (record (backing_in c) { refuted = refuted }) after new
+  searched refuted =
+      let f = record (backing_in c) { refuted = refuted } in
+      subst (λ (on : Bool). IsSearched on rs g.memo e before old c.strings.arena c.strings.graph c.strings.plain f after
+      new)
+      taken.proves
+      (subst (λ (xs : List Regex). IsSearched b.strings.proves xs g.memo e before old c.strings.arena c.strings.graph
+      c.strings.plain f after new) taken.arena
+      (subst (λ (h : Findings). IsSearched b.strings.proves b.strings.arena h.memo e before old c.strings.arena
+      c.strings.graph c.strings.plain f after new) taken.graph
+      (subst (λ (d : Backing). IsSearched b.strings.proves b.strings.arena b.strings.graph.memo d before old
+      c.strings.arena c.strings.graph c.strings.plain f after new) taken.backing (runs.searched refuted))))
 
-pub core_of : (wanted : List ℕ) (state : State) (budget : Spending) (f : Found)
-    → IsFound wanted [] state budget f → HasCore state.kept f
-core_of wanted state budget found.Sat h = tt
-core_of wanted state budget (found.Unsat id) h = h
-core_of wanted state budget found.Spent h = tt
+  pub room_left : has_room_for (length c.strings.atoms) c.engine.kept ≡ true
+  room_left =
+      let after = searched None in
+      room-for-each (length c.strings.atoms) c.engine.kept
+      (subst (λ (ts : List (AtomOver ℕ)). HaveAtoms ts c.engine.kept) (sym after.atoms) after.known)
 
--- atoms of kept clauses are those of the table
-pub have_atoms : (atoms : List (AtomOver ℕ)) (kept : Kept) → has_room_for (length atoms) kept ≡ true
-    → HaveAtoms atoms kept
-have_atoms atoms [] h zero clause there = absurd (Prim.cc (there))
-have_atoms atoms [] h (suc id) clause there = absurd (Prim.cc (there))
-have_atoms atoms (o ∷ kept) h zero clause there =
-    subst (λ (p : Option KeptClause). is_reserved (length atoms) p ≡ true) there
-    (and_parts (is_reserved (length atoms) o) (has_room_for (length atoms) kept) h).0
-have_atoms atoms (o ∷ kept) h (suc id) clause there =
-    have_atoms atoms kept (and_parts (is_reserved (length atoms) o) (has_room_for (length atoms) kept) h).1 id clause
-    there
+  pub stand_left : Stand (record (backing_in c) { kept = take c.before c.engine.kept })
+  stand_left =
+      let after = searched None in
+      let refuted = runs.refuted_stays ∙ ap (λ (d : Backing). d.refuted) taken.backing in
+      let gates = runs.gates_stay ∙ ap (λ (d : Backing). d.gates) taken.backing in
+      let front : take c.before c.engine.kept ≡ e.kept =
+      ap (λ n. take n c.engine.kept) (runs.first_stays ∙ taken.first) ∙ ap (take (length e.kept)) after.kept.1
+      ∙ take-append_seam e.kept after.kept.0 in
+      subst Stand
+      (sym (same_backing c.strings.trace c.strings.atoms e.atoms (take c.before c.engine.kept) e.kept c.asserted.items
+      e.asserted c.refuted e.refuted c.gates e.gates after.atoms front after.asserted refuted gates))
+      (stand-traced e c.strings.trace taken.stand)
 
-pub has_room : (atoms : List (AtomOver ℕ)) (kept : Kept) → HaveAtoms atoms kept
-    → has_room_for (length atoms) kept ≡ true
-has_room atoms [] h = refl
-has_room atoms (o ∷ kept) h =
-    and_from (is_reserved (length atoms) o) (has_room_for (length atoms) kept) (first o (λ clause there. h 0 clause there))
-    (has_room atoms kept (λ id clause there. h (suc id) clause there))
-  where
-    first : (o : Option KeptClause)
-        → ((clause : KeptClause) → kept_at (o ∷ kept) 0 ≡ Some clause → are_atoms atoms clause.literals ≡ true)
-        → is_reserved (length atoms) o ≡ true
-    first None h = refl
-    first (Some clause) h = h clause refl
+  pub done : (literals : List Lit) (f : Backing) (solution : Solved) → AreDistinct e.atoms
+      → AreWanted e.atoms literals wanted → AreAmong e.atoms literals wanted
+      → f ≡ record (backing_in c) { refuted = f.refuted } → IsNumbered f.refuted found solution
+      → IsDone s literals proves rs g.memo e before old c.strings.arena c.strings.graph c.strings.plain f after new
+      solution
+  done literals f solution distinct closed among is number = record {
+    stand = taken.stand;
+    searched = subst (λ (d : Backing). IsSearched proves rs g.memo e before old c.strings.arena c.strings.graph
+        c.strings.plain d after new) (sym is) (searched f.refuted);
+    wanted = wanted;
+    distinct = distinct;
+    closed = closed;
+    among = among;
+    found = found;
+    answers = subst (λ (d : Backing). Answers s c.strings.arena d.atoms d.kept wanted after found) (sym is)
+        (subst (λ (ns : List ℕ). Answers s c.strings.arena c.strings.atoms c.engine.kept ns after found) taken.wanted
+        runs.answers);
+    is_numbered = number;
+  }
+
+-- Where there are no values.
+
+pub core_of : (s : Stacked) (rs : List Regex) (atoms : List (AtomOver ℕ)) (kept : Kept) (wanted : List ℕ)
+    (budget : Spending) (answer : Solved) → Answers s rs atoms kept wanted budget answer → HasCore kept answer
+core_of s rs atoms kept wanted budget (solved.Sat words truths) h = tt
+core_of s rs atoms kept wanted budget (solved.Unsat id) h = h
+core_of s rs atoms kept wanted budget solved.Spent h = tt
+
+-- a clause that has negated assumptions alone, where there are none, has no literals
+no_literals : (ls : List Lit) → are_negated [] ls ≡ true → ls ≡ []
+no_literals [] h = refl
+no_literals (l ∷ ls) h = absurd (false≢true h)
+
+pub never_none : (kept : Kept) (id : ℕ) (o : Option EmptyClause) → IsKeptCore kept [] id → IsLowestEmpty kept o
+    → o ≡ None → ⊥
+never_none kept id (Some empty) core lowest is = Prim.cc (is)
+never_none kept id None core lowest is = lowest id core.clause core.there
+    (no_literals core.clause.literals core.negated)

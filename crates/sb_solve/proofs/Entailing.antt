@@ -1,43 +1,12 @@
 -- What kept clauses follow from, step by step.
-use Rattle.std.proofs.Common.{◌≡◌, ℕ, zero, suc, ◌<◌, ◌≤◌, ◌⊎◌, Bool, true, false, nat_lt, if◌then◌else◌, List, [], ◌∷◌, ◌++◌, length, get_or, slice_get, Option, Some, None, unwrap_or, refl, sym, ap, subst, ◌∙◌, arith, inl, inr}
-use Rattle.std.specs.Prelude.{Contains}
-use Rattle.std.specs.List.{list_all, list_any}
-use Rattle.std.proofs.lemmas.Bool.{false≢true, and_parts, and_from, or_left, ltb-false, le-ltb}
-use Rattle.std.proofs.lemmas.Option.{same_Some}
-use Rattle.sb_lit.specs.declared.clause.Lit.{Lit}
-use Rattle.sb_lit.specs.Kept.{Kept, KeptClause, kept_at, kept_up_to, stays_up_to}
-use Rattle.sb_lang.specs.Regex.{Regex}
-use Rattle.sb_meaning.specs.Terms.{Term}
-use Rattle.sb_meaning.specs.Values.{Valuation}
-use Rattle.sb_rulebook.specs.Atoms.{Atom, AtomOver, clause_holds, literal_holds, truths_of}
-use Rattle.sb_rulebook.specs.AtomRules.{are_known}
-use Rattle.sb_rulebook.specs.Gates.{is_gate}
-use Rattle.sb_rulebook.specs.Kept.{Asked}
-use Rattle.sb_rulebook.specs.Translation.{translation}
-use Rattle.sb_sound.specs.Tables.{is_table, HasWords}
-use Rattle.sb_sound.specs.TermLaws.{HasSorts, fits_sorts}
-use Rattle.sb_sound.specs.TranslationLaws.{TranslationHolds}
-use Rattle.sb_sound.specs.GateLaws.{GatesHold}
-use Rattle.sb_sound.specs.SoundLaws.{LevelsHold, Continues, GoesOn}
-use Rattle.sb_sound.proofs.CallerLemmas.{truths_from-front, truths_from-append, length-truths_of, any_holds-front, kept_at-up_to, Contains-slice_get}
-use Rattle.sb_atoms.specs.Numbered.{atoms_in}
-use Rattle.sb_atoms.proofs.CallerLemmas.{atoms_kept}
-use Rattle.sb_search.specs.Following.{place_holds, all_hold, Follows, FollowsByLevel, AreRefuted, Obeys}
+use Rattle.sb_solve.proofs.Words.{◌≡◌, ℕ, zero, suc, ◌<◌, ◌≤◌, Bool, true, false, nat_lt, if◌then◌else◌, List, [], ◌∷◌, ◌++◌, length, get_or, slice_get, Option, Some, None, unwrap_or, refl, sym, ap, subst, ◌∙◌, arith, inl, inr, list_all, list_any, false≢true, and_parts, and_from, or_left, ltb-false, le-ltb, same_Some, slice_get-get_or, Lit, Kept, KeptClause, kept_at, kept_up_to, stays_up_to, Term, Valuation, Atom, clause_holds, literal_holds, truths_of, are_known, Asked, HasWords, HasSorts, TranslationHolds, LevelsHold, truths_from-front, truths_from-append, length-truths_of, any_holds-front, kept_at-up_to, Contains-slice_get, atoms_in, atoms_kept, kept-cases, place_holds, AreEntailed, with_clause, EntailedInLarger, GatesHold, NoneAreEntailed, AssertedIsEntailed, GateIsEntailed, SearchedAreEntailed, ContinuedAreEntailed, DroppedAreEntailed, EntailedOverMore, RefutedAreFalse, RefutedAreContradicted}
+use Rattle.sb_search.specs.Following.{all_hold}
 use Rattle.sb_search.specs.Following as search
-use Rattle.sb_theory.specs.Memberships.{IsValid}
-use Rattle.sb_solve.specs.Entailed.{AreEntailed, with_clause, EntailedInLarger}
 
-pub none_entailed : (asked : Asked) (atoms : List Atom) → AreEntailed asked atoms []
+pub none_entailed : NoneAreEntailed
 none_entailed asked atoms id clause there = absurd (Prim.cc (there))
 
 -- One more clause.
-
-there_before : (kept : Kept) (k clause : KeptClause) (id : ℕ) → kept_at (kept ++ Some k ∷ []) id ≡ Some clause
-    → (kept_at kept id ≡ Some clause) ⊎ (k ≡ clause)
-there_before [] k clause zero h = inr (same_Some k clause h)
-there_before [] k clause (suc id) h = absurd (Prim.cc (h))
-there_before (x ∷ xs) k clause zero h = inl h
-there_before (x ∷ xs) k clause (suc id) h = there_before xs k clause id h
 
 with_entailed : (asked : Asked) (atoms : List Atom) (kept : Kept) (literals : List Lit) (level : ℕ)
     → AreEntailed asked atoms kept
@@ -45,25 +14,21 @@ with_entailed : (asked : Asked) (atoms : List Atom) (kept : Kept) (literals : Li
     → clause_holds v atoms literals ≡ true)
     → AreEntailed asked atoms (with_clause kept literals level)
 with_entailed asked atoms kept literals level h new = λ id clause there v words sorts levels.
-    elim (there_before kept (record { literals = literals; level = level }) clause id there) [
+    elim (kept-cases kept (Some (record { literals = literals; level = level })) id clause there) [
       | inl old ↦ h id clause old v words sorts levels
       | inr is ↦
-          subst (λ (k : KeptClause). LevelsHold v asked.live k.level → clause_holds v atoms k.literals ≡ true) is
+          subst (λ (k : KeptClause). LevelsHold v asked.live k.level → clause_holds v atoms k.literals ≡ true)
+          (same_Some (record { literals = literals; level = level }) clause is.1)
           (λ now. new v words sorts now) levels
     ]
 
-pub asserted_entailed : TranslationHolds → (asked : Asked) (atoms : List Atom) (kept : Kept) (t : Term) (level : ℕ)
-    (l : Lit) → AreEntailed asked atoms kept → Contains asked.live (Some t, level) → fits_sorts asked.sorts t ≡ true
-    → is_table atoms ≡ true → translation atoms t ≡ Some l
-    → AreEntailed asked atoms (with_clause kept (l ∷ []) level)
+pub asserted_entailed : TranslationHolds → AssertedIsEntailed
 asserted_entailed law asked atoms kept t level l h live fit table is =
     with_entailed asked atoms kept (l ∷ []) level h (λ v words sorts levels.
     or_left (literal_holds (truths_of v atoms) l) false
     (law v asked.sorts atoms t l table sorts fit is ∙ levels (Some t, level) t live refl (omega arith)))
 
-pub gate_entailed : GatesHold → (asked : Asked) (atoms : List Atom) (kept : Kept) (clause : List Lit) (level : ℕ)
-    → AreEntailed asked atoms kept → is_table atoms ≡ true → is_gate atoms clause ≡ true
-    → AreEntailed asked atoms (with_clause kept clause level)
+pub gate_entailed : GatesHold → GateIsEntailed
 gate_entailed law asked atoms kept clause level h table is =
     with_entailed asked atoms kept clause level h (λ v words sorts levels. law v atoms clause table words is)
 
@@ -115,9 +80,7 @@ lower_hold : (v : Valuation) (live : List (Option Term × ℕ)) (m n : ℕ) → 
     → LevelsHold v live m
 lower_hold v live m n le h = λ a t among is low. h a t among is (omega (arith, le, low))
 
-pub searched_entailed : (asked : Asked) (rs : List Regex) (atoms : List (AtomOver ℕ)) (old new : Kept)
-    → AreEntailed asked (atoms_in rs atoms) old → FollowsByLevel (IsValid rs atoms) old new
-    → AreEntailed asked (atoms_in rs atoms) new
+pub searched_entailed : SearchedAreEntailed
 searched_entailed asked rs atoms old new h follows = λ id clause there v words sorts levels.
     let values = values_under v (atoms_in rs atoms) in
     let n = clause.level in
@@ -129,19 +92,15 @@ searched_entailed asked rs atoms old new h follows = λ id clause there v words 
 
 pub slice_there : {X : Type 0} → (xs : List X) (k : ℕ) (x : X) → k < length xs → get_or xs k x ≡ x
     → slice_get xs k ≡ Some x
-slice_there [] k x below h = absurd (omega (arith, below))
-slice_there (y ∷ ys) zero x below h = ap Some h
-slice_there (y ∷ ys) (suc k) x below h = slice_there ys k x (omega (arith, below)) h
+slice_there xs k x below h = slice_get-get_or xs k x below ∙ ap Some h
 
-pub continued_entailed : (before now : Asked) (atoms : List Atom) (kept : Kept) → Continues before now
-    → AreEntailed before atoms kept → AreEntailed now atoms kept
+pub continued_entailed : ContinuedAreEntailed
 continued_entailed before now atoms kept on h = λ id clause there v words sorts levels.
     h id clause there v words (on.sorts v sorts) (λ a t among is low.
     levels a t (Contains-slice_get now.live among.0 a
     (on.live among.0 a (slice_there before.live among.0 a among.1 among.2))) is low)
 
-pub dropped_entailed : (level : ℕ) (before now : Asked) (atoms : List Atom) (kept : Kept) → GoesOn level before now
-    → AreEntailed before atoms kept → AreEntailed now atoms (kept_up_to level kept)
+pub dropped_entailed : DroppedAreEntailed
 dropped_entailed level before now atoms kept on h = λ id clause there v words sorts levels.
     let was = kept_at-up_to level kept id clause there in
     h id clause was.0 v words (on.sorts v sorts) (λ a t among is low.
@@ -158,9 +117,7 @@ clause_holds-more v atoms more clause known =
     ∙ any_holds-front (truths_of v atoms) front.0 clause
     (ap (λ (n : ℕ). list_all (λ (l : Lit). nat_lt l.atom n) clause) (length-truths_of v atoms) ∙ known)
 
-pub entailed_more : (asked : Asked) (atoms more : List Atom) (kept : Kept)
-    → ((id : ℕ) (clause : KeptClause) → kept_at kept id ≡ Some clause → are_known atoms clause.literals ≡ true)
-    → AreEntailed asked atoms kept → AreEntailed asked (atoms ++ more) kept
+pub entailed_more : EntailedOverMore
 entailed_more asked atoms more kept known h = λ id clause there v words sorts levels.
     clause_holds-more v atoms more clause.literals (known id clause there) ∙ h id clause there v words sorts levels
 
@@ -170,18 +127,12 @@ entailed_larger asked old new atoms kept e below h =
 
 -- A refutation.
 
-pub refuted_false : (asked : Asked) (rs : List Regex) (atoms : List (AtomOver ℕ)) (kept : Kept)
-    (assumptions : List Lit) → AreEntailed asked (atoms_in rs atoms) kept
-    → AreRefuted (IsValid rs atoms) kept assumptions → (v : Valuation) → HasWords v → HasSorts v asked.sorts
-    → ((level : ℕ) → LevelsHold v asked.live level)
-    → list_all (literal_holds (truths_of v (atoms_in rs atoms))) assumptions ≡ false
+pub refuted_false : RefutedAreFalse
 refuted_false asked rs atoms kept assumptions h refuted v words sorts levels =
     refuted (values_under v (atoms_in rs atoms)) (λ c valid. valid v words)
     (each_place (values_under v (atoms_in rs atoms)) kept
     (λ id clause there. h id clause there v words sorts (levels clause.level)))
 
-pub refuted_contradicted : (asked : Asked) (rs : List Regex) (atoms : List (AtomOver ℕ)) (kept : Kept)
-    → AreEntailed asked (atoms_in rs atoms) kept → AreRefuted (IsValid rs atoms) kept [] → (v : Valuation) → HasWords v
-    → HasSorts v asked.sorts → ((level : ℕ) → LevelsHold v asked.live level) → ⊥
+pub refuted_contradicted : RefutedAreContradicted
 refuted_contradicted asked rs atoms kept h refuted v words sorts levels =
     false≢true (sym (refuted_false asked rs atoms kept [] h refuted v words sorts levels))

@@ -1,21 +1,5 @@
 -- Atoms that are gathered with their parts.
-use Rattle.std.proofs.Common.{◌≡◌, ℕ, zero, suc, ◌+◌, ◌<◌, ◌≤◌, Bool, true, false, ◌&&◌, nat_eq, nat_lt, if◌then◌else◌, List, [], ◌∷◌, ◌++◌, length, take, get_or, slice_get, Option, Some, None, option_map, refl, sym, ap, subst, ◌∙◌, arith, append_assoc}
-use Rattle.std.specs.List.{list_all, list_any, IsDistinct}
-use Rattle.std.proofs.lemmas.Bool.{and_parts, and_from, or_left, or_right, lt-ltb, ltb-true}
-use Rattle.std.proofs.lemmas.List.{append-nil, take_more, take-append-le}
-use Rattle.std.proofs.lemmas.List.Folds.{list_all-append, list_any-append}
-use Rattle.std.proofs.lemmas.Option.{slice_get-map}
-use Rattle.sb_facts.proofs.CallerLemmas.{equal_itself}
-use Rattle.indexmap.specs.IndexSet.{insert_key, insert_all}
-use Rattle.sb_lit.specs.declared.clause.Lit.{Lit}
-use Rattle.sb_lang.specs.Regex.{Regex}
-use Rattle.sb_rulebook.specs.Atoms.{AtomOver, bool_atom, in_atom, le_atom, sum_atom, and_atom, iff_atom}
-use Rattle.sb_sound.specs.Tables.{is_table, names_below}
-use Rattle.sb_sound.proofs.CallerLemmas.{names_from}
-use Rattle.sb_atoms.specs.Numbered.{over, atoms_in}
-use Rattle.sb_theory.specs.Memberships.{is_atom, are_atoms}
-use Rattle.sb_solve.specs.Wanted.{is_in, atoms_of, parts_of, parts_at, is_simple_at, is_closed, AreLeast, AreWanted}
-use Rattle.sb_solve.specs.Gathering.{Follow, Closes}
+use Rattle.sb_solve.proofs.Words.{◌≡◌, ℕ, zero, suc, ◌+◌, ◌<◌, ◌≤◌, Bool, true, false, ◌&&◌, nat_eq, nat_lt, if◌then◌else◌, List, [], ◌∷◌, ◌++◌, length, take, get_or, slice_get, Option, Some, None, option_map, refl, sym, ap, subst, ◌∙◌, arith, append_assoc, list_all, list_any, IsDistinct, and_parts, and_from, or_left, or_right, lt-ltb, ltb-true, append-nil, take_more, take-append-le, list_any-append, slice_get-map, equal_itself, insert_key, insert_all, Lit, Regex, AtomOver, bool_atom, in_atom, le_atom, sum_atom, and_atom, iff_atom, is_table, names_below, names_from, over, atoms_in, is_atom, are_atoms, is_in, atoms_of, parts_of, parts_at, is_simple_at, is_closed, AreLeast, AreWanted, all_push, all_weaker, list_all-map, slice_get_within, same_Some, slice_get-get_or, Follow, Closes}
 
 -- Numbers that are added where they are not there.
 
@@ -28,9 +12,7 @@ all_with test ks x h t = step (list_any (nat_eq x) ks)
   where
     step : (b : Bool) → list_all test (added b ks x) ≡ true
     step true = h
-    step false =
-        list_all-append test ks (x ∷ [])
-        ∙ and_from (list_all test ks) (test x && true) h (and_from (test x) true t refl)
+    step false = all_push test ks x h t
 
 pub all_with_all : (test : ℕ → Bool) (ks xs : List ℕ) → list_all test ks ≡ true → list_all test xs ≡ true
     → list_all test (insert_all nat_eq ks xs) ≡ true
@@ -65,10 +47,7 @@ in_front old new n p h =
 
 all_in_front_of : (old new xs : List ℕ) → IsFront old new → list_all (is_in old) xs ≡ true
     → list_all (is_in new) xs ≡ true
-all_in_front_of old new [] p h = refl
-all_in_front_of old new (x ∷ xs) p h =
-    let q = and_parts (is_in old x) (list_all (is_in old) xs) h in
-    and_from (is_in new x) (list_all (is_in new) xs) (in_front old new x p q.0) (all_in_front_of old new xs p q.1)
+all_in_front_of old new xs p h = all_weaker (is_in old) (is_in new) (λ n there. in_front old new n p there) xs h
 
 in_with : (ks : List ℕ) (x : ℕ) → is_in (insert_key nat_eq ks x) x ≡ true
 in_with ks x = step (list_any (nat_eq x) ks) refl
@@ -98,20 +77,18 @@ pub record Closing (atoms : List (AtomOver ℕ)) (old : List ℕ) (place : ℕ) 
 
 still_closed : (atoms : List (AtomOver ℕ)) (old new xs : List ℕ) → IsFront old new
     → list_all (is_closed atoms old) xs ≡ true → list_all (is_closed atoms new) xs ≡ true
-still_closed atoms old new [] p h = refl
-still_closed atoms old new (x ∷ xs) p h =
-    let q = and_parts (is_closed atoms old x) (list_all (is_closed atoms old) xs) h in
-    let r = and_parts (is_simple_at atoms x) (list_all (is_in old) (parts_at atoms x)) q.0 in
-    and_from (is_closed atoms new x) (list_all (is_closed atoms new) xs)
-    (and_from (is_simple_at atoms x) (list_all (is_in new) (parts_at atoms x)) r.0
-    (all_in_front_of old new (parts_at atoms x) p r.1)) (still_closed atoms old new xs p q.1)
+still_closed atoms old new xs p h =
+    all_weaker (is_closed atoms old) (is_closed atoms new)
+    (λ x closed.
+    let r = and_parts (is_simple_at atoms x) (list_all (is_in old) (parts_at atoms x)) closed in
+    and_from (is_simple_at atoms x) (list_all (is_in new) (parts_at atoms x)) r.0
+    (all_in_front_of old new (parts_at atoms x) p r.1)) xs h
 
-all_at : (test : ℕ → Bool) (xs : List ℕ) (i d : ℕ) → i < length xs → list_all test xs ≡ true
-    → test (get_or xs i d) ≡ true
-all_at test [] i d below h = absurd (omega (arith, below))
-all_at test (x ∷ xs) zero d below h = (and_parts (test x) (list_all test xs) h).0
-all_at test (x ∷ xs) (suc i) d below h =
-    all_at test xs i d (omega (arith, below)) (and_parts (test x) (list_all test xs) h).1
+pub all_at : {X : Type 0} (p : X → Bool) (xs : List X) (i : ℕ) (x : X) → list_all p xs ≡ true
+    → slice_get xs i ≡ Some x → p x ≡ true
+all_at p [] i x h there = absurd (omega (arith, slice_get_within [] i x there))
+all_at p (y ∷ ys) zero x h there = ap p (sym (same_Some y x there)) ∙ (and_parts (p y) (list_all p ys) h).0
+all_at p (y ∷ ys) (suc i) x h there = all_at p ys i x (and_parts (p y) (list_all p ys) h).1 there
 
 pub closing_step : (atoms : List (AtomOver ℕ)) (old keys new : List ℕ) (place x d : ℕ) → place < length keys
     → x ≡ get_or keys place d → new ≡ insert_all nat_eq keys (parts_at atoms x) → is_simple_at atoms x ≡ true
@@ -121,16 +98,15 @@ closing_step atoms old keys new place x d below is made simple h =
       more = h.more ++ front.0;
       is = front.1 ∙ ap (λ xs. xs ++ front.0) h.is ∙ append_assoc old h.more front.0;
       closed = ap (list_all (is_closed atoms now)) taken
-          ∙ list_all-append (is_closed atoms now) (take place keys) (x ∷ [])
-          ∙ and_from (list_all (is_closed atoms now) (take place keys)) (is_closed atoms now x && true)
+          ∙ all_push (is_closed atoms now) (take place keys) x
           (still_closed atoms keys now (take place keys) front h.closed)
-          (and_from (is_closed atoms now x) true
           (and_from (is_simple_at atoms x) (list_all (is_in now) (parts_at atoms x)) simple
-          (in_with_all keys (parts_at atoms x))) refl);
+          (in_with_all keys (parts_at atoms x)));
       follow = λ test first step.
           let all = h.follow test first step in
           all_with_all test keys (parts_at atoms x) all
-          (step x (ap test is ∙ all_at test keys place d below all));
+          (step x (ap test is
+          ∙ all_at test keys place (get_or keys place d) all (slice_get-get_or keys place d below)));
     })
   where
     now : List ℕ
@@ -168,15 +144,10 @@ parts_known n k rs (bool_atom serial) le h = refl
 parts_known n k rs (in_atom ps r) le h = refl
 parts_known n k rs (le_atom x b) le h = refl
 parts_known n k rs (sum_atom b ss) le h = refl
-parts_known n k rs (and_atom ls) le h = each ls h
-  where
-    each : (ls : List Lit) → list_all (λ (l : Lit). nat_lt l.atom k) ls ≡ true
-        → list_all (λ i. nat_lt i n) (atoms_of ls) ≡ true
-    each [] h = refl
-    each (l ∷ ls) h =
-        let p = and_parts (nat_lt l.atom k) (list_all (λ (m : Lit). nat_lt m.atom k) ls) h in
-        and_from (nat_lt l.atom n) (list_all (λ i. nat_lt i n) (atoms_of ls))
-        (lt-ltb l.atom n (omega (arith, le, ltb-true l.atom k p.0))) (each ls p.1)
+parts_known n k rs (and_atom ls) le h =
+    list_all-map (λ i. nat_lt i n) (λ (l : Lit). l.atom) ls
+    ∙ all_weaker (λ (l : Lit). nat_lt l.atom k) (λ (l : Lit). nat_lt l.atom n)
+    (λ l less. lt-ltb l.atom n (omega (arith, le, ltb-true l.atom k less))) ls h
 parts_known n k rs (iff_atom l m) le h =
     let p = and_parts (nat_lt l.atom k) (nat_lt m.atom k) h in
     and_from (nat_lt l.atom n) (nat_lt m.atom n && true)
@@ -195,20 +166,12 @@ pub are_known_atoms : (rs : List Regex) (atoms : List (AtomOver ℕ)) (literals 
     → AreLeast atoms literals new → is_table (atoms_in rs atoms) ≡ true → are_atoms atoms literals ≡ true
     → list_all (is_atom atoms) new ≡ true
 are_known_atoms rs atoms literals new least table h =
-    least (is_atom atoms) (first literals h) (λ i known. parts i known)
+    least (is_atom atoms) (list_all-map (is_atom atoms) (λ (l : Lit). l.atom) literals ∙ h)
+    (λ i known. parts_in i (slice_get atoms i) refl known)
   where
-    first : (ls : List Lit) → are_atoms atoms ls ≡ true → list_all (is_atom atoms) (atoms_of ls) ≡ true
-    first [] h = refl
-    first (l ∷ ls) h =
-        let p = and_parts (is_atom atoms l.atom) (are_atoms atoms ls) h in
-        and_from (is_atom atoms l.atom) (list_all (is_atom atoms) (atoms_of ls)) p.0 (first ls p.1)
-
     parts_in : (i : ℕ) (o : Option (AtomOver ℕ)) → slice_get atoms i ≡ o → is_atom atoms i ≡ true
         → list_all (is_atom atoms) (elim o as (λ _. List ℕ) [ None ↦ [] | Some atom ↦ parts_of atom ]) ≡ true
     parts_in i None there known = refl
     parts_in i (Some a) there known =
         parts_known (length atoms) i rs a (omega (arith, ltb-true i (length atoms) known))
         (names_before rs atoms i a table there)
-
-    parts : (i : ℕ) → is_atom atoms i ≡ true → list_all (is_atom atoms) (parts_at atoms i) ≡ true
-    parts i known = parts_in i (slice_get atoms i) refl known

@@ -1,8 +1,7 @@
+mod Words
 pub mod Gathered
 pub mod Deciding
 pub mod Entailing
-pub mod Spoken
-pub mod PickedWords
 pub mod LiveRows
 pub mod Modelling
 pub mod Stated

@@ -1,27 +1,9 @@
 -- The live assertions with their levels, by the assertions that are kept.
-use Rattle.std.proofs.Common.{◌≡◌, ℕ, zero, suc, ◌+◌, Bool, true, false, ◌==◌, if◌then◌else◌, List, [], ◌∷◌, ◌++◌, map, length, take, drop, get_or, slice_get, Option, Some, None, option_map, refl, sym, ap, ap₂, subst, ◌∙◌, arith}
-use Rattle.std.specs.Prelude.{IfSome, ◌<◌, nat_eq}
-use Rattle.std.specs.List.{All, list_all}
-use Rattle.std.proofs.lemmas.Bool.{and_parts, and_from, false≢true}
-use Rattle.std.proofs.lemmas.List.{map-append, take-map, drop-map, take-append-drop}
-use Rattle.std.proofs.lemmas.Option.{slice_get-get_or, slice_get-map, slice_get_within, same_Some}
-use Rattle.sb_facts.proofs.CallerLemmas.{same_number}
-use Rattle.sb_meaning.specs.Terms.{Sort, Term, Terms, constant, word, numeral, apply, parameter, no_terms, with_term}
-use Rattle.sb_meaning.specs.Sorts.{is_same_sort}
-use Rattle.sb_term.specs.Numbered.{term_at}
+use Rattle.sb_solve.proofs.Words.{◌≡◌, ℕ, zero, suc, ◌+◌, Bool, true, false, ◌==◌, if◌then◌else◌, List, [], ◌∷◌, ◌++◌, map, length, take, drop, get_or, slice_get, Option, Some, None, option_map, refl, sym, ap, ap₂, subst, ◌∙◌, arith, AreTerms, fits_sorts, live_laid, IfSome, ◌<◌, nat_eq, All, list_all, and_parts, and_from, false≢true, map-append, take-map, drop-map, take-append-drop, slice_get-get_or, slice_get-map, slice_get_within, same_Some, same_number, Sort, Term, Terms, constant, word, numeral, apply, parameter, no_terms, with_term, is_same_sort, Assertion, asserted, a_mark, live, live_terms, terms_in, term_of, at_level, live_by_level, asked_in, is_declared, names_in, has_sort, are_sorted, is_one_of, speaks_of, speak_of, Stacked, state_of, live_constants, assertion_of, assertion_in, front_names, first_level, levels_above, have_levels, HasNumberBelow, same_sort, IsAssertionAt, term_at, Naming, is_decided, has_declared, have_declared}
+use Rattle.std.specs.List.{Contains}
 use Rattle.sb_term.specs.declared.assertion.Assertion as code
-use Rattle.sb_script.specs.Scopes.{Naming}
-use Rattle.sb_script.specs.State.{Assertion, asserted, a_mark, live, live_terms, terms_in}
-use Rattle.sb_rulebook.specs.Accepted.{term_of, at_level, live_by_level, asked_in}
-use Rattle.sb_rulebook.specs.AtomRules.{is_declared}
-use Rattle.sb_sorts.specs.Scopes.{names_in, has_sort, are_sorted}
-use Rattle.sb_stack.specs.Speaking.{is_one_of, speaks_of, speak_of}
 use Rattle.sb_stack.specs.declared.level.Level as levels
-use Rattle.sb_stack.specs.Stacked.{Stacked, state_of, live_constants, assertion_of, assertion_in, front_names, first_level, levels_above, have_levels, HasNumberBelow}
-use Rattle.sb_stack.proofs.CallerLemmas.{same_sort}
-use Rattle.sb_fragment.specs.Rules.{is_decided}
-use Rattle.sb_atoms.specs.Translated.{has_declared, have_declared}
-use Rattle.sb_solve.specs.Stating.{IsAssertionAt}
+use Rattle.sb_solve.proofs.Gathered.{all_at}
 
 abbrev Row : Type 0
 Row = Option Term × ℕ
@@ -76,9 +58,29 @@ live_rows : (s : Stacked) → have_levels s.levels s.assertions ≡ true
     → (asked_in (state_of s)).live ≡ map (row_of s.table) s.assertions
 live_rows s h = rows_by_level s.scope.global s.table s.levels (names_in s.table s.scope) s.assertions h
 
+-- Where those by their levels fit the sorts of the constants, so does the one at a place.
+
+rows_fit : (sorts : List Sort) (ts : List Term) (xs : List code.Assertion) (place : ℕ) (t : Term)
+    → ((a : Row) (u : Term) → Contains (map (row_of ts) xs) a → a.0 ≡ Some u → fits_sorts sorts u ≡ true)
+    → slice_get (map (assertion_in ts) xs) place ≡ Some (asserted t) → fits_sorts sorts t ≡ true
+rows_fit sorts ts [] place t f there = absurd (Prim.cc (there))
+rows_fit sorts ts (x ∷ xs) zero t f there =
+    f (row_of ts x) t (0, omega arith, refl)
+    (sym (term_as ts x.term) ∙ ap term_of (same_Some (assertion_in ts x) (asserted t) there))
+rows_fit sorts ts (x ∷ xs) (suc place) t f there =
+    rows_fit sorts ts xs place t (λ a u c is. f a u (suc c.0, omega (arith, c.1), c.2) is) there
+
+pub live_fits : (s : Stacked) → have_levels s.levels s.assertions ≡ true → AreTerms (asked_in (state_of s))
+    → (place : ℕ) (t : Term) → slice_get (live (state_of s)) place ≡ Some (asserted t)
+    → fits_sorts (state_of s).sorts t ≡ true
+live_fits s levelled terms place t there =
+    rows_fit (state_of s).sorts s.table s.assertions place t
+    (λ a u c. terms a u (subst (λ (rows : List Row). Contains rows a) (sym (live_rows s levelled)) c))
+    (ap (λ xs. slice_get xs place) (sym (live_laid s)) ∙ there)
+
 -- A term that speaks of constants whose sorts these are has each of them declared.
 
-sorted_there : (sorts : List Sort) (cs : List (ℕ × Sort)) (serial : ℕ) (sort : Sort) → are_sorted sorts cs ≡ true
+pub sorted_there : (sorts : List Sort) (cs : List (ℕ × Sort)) (serial : ℕ) (sort : Sort) → are_sorted sorts cs ≡ true
     → is_one_of cs serial sort ≡ true → is_declared sorts sort serial ≡ true
 sorted_there sorts [] serial sort h one = absurd (false≢true one)
 sorted_there sorts (c ∷ cs) serial sort h one =
@@ -127,67 +129,46 @@ term_passes p (a_mark ∷ rest) (suc place) t h there = term_passes p rest place
 
 -- What stands at a place.
 
-abbrev At : List code.Assertion → ℕ → code.Assertion → Type 0
-At rows place a = slice_get rows place ≡ Some a
-
-all_at : (p : Assertion → Bool) (xs : List Assertion) (place : ℕ) (a : Assertion) → list_all p xs ≡ true
-    → slice_get xs place ≡ Some a → p a ≡ true
-all_at p [] place a h there = absurd (omega (arith, slice_get_within [] place a there))
-all_at p (x ∷ xs) zero a h there = ap p (sym (same_Some x a there)) ∙ (and_parts (p x) (list_all p xs) h).0
-all_at p (x ∷ xs) (suc place) a h there = all_at p xs place a (and_parts (p x) (list_all p xs) h).1 there
-
-pub no_mark : (s : Stacked) (rows : List code.Assertion) (place : ℕ) (a : code.Assertion)
-    → rows ≡ s.assertions → map (assertion_in s.table) rows ≡ live (state_of s)
-    → list_all is_decided (live (state_of s)) ≡ true → place < length s.assertions
-    → a ≡ get_or rows place a → a.term ≡ None → ⊥
-no_mark s rows place a value same decided within is none =
-    false≢true (ap (λ o. is_decided (assertion_of s.table o)) (sym none) ∙ there)
+module _ (s : Stacked) (rows : List code.Assertion) (place : ℕ) (a : code.Assertion) (value : rows ≡ s.assertions)
+    (same : map (assertion_in s.table) rows ≡ live (state_of s)) (within : place < length s.assertions)
+    (is : a ≡ get_or rows place a)
   where
     inside : place < length rows
     inside = subst (λ (xs : List code.Assertion). place < length xs) (sym value) within
 
-    there : is_decided (assertion_in s.table a) ≡ true
-    there = all_at is_decided (live (state_of s)) place (assertion_in s.table a) decided
-        (ap (λ xs. slice_get xs place) (sym same) ∙ slice_get-map (assertion_in s.table) rows place
+    there : slice_get (live (state_of s)) place ≡ Some (assertion_in s.table a)
+    there = ap (λ xs. slice_get xs place) (sym same) ∙ slice_get-map (assertion_in s.table) rows place
         ∙ ap (option_map (assertion_in s.table)) (slice_get-get_or rows place a inside)
-        ∙ ap (λ b. Some (assertion_in s.table b)) (sym is))
+        ∙ ap (λ b. Some (assertion_in s.table b)) (sym is)
 
-pub assertion_there : (s : Stacked) (rows : List code.Assertion) (sorts : List Sort) (place id : ℕ) (a : code.Assertion)
-    → rows ≡ s.assertions → map (assertion_in s.table) rows ≡ live (state_of s)
-    → All (HasNumberBelow (length s.table)) s.assertions
-    → list_all (speaks_of (live_constants s)) (live_terms (state_of s)) ≡ true
-    → sorts ≡ (state_of s).sorts → are_sorted sorts (live_constants s) ≡ true
-    → have_levels s.levels s.assertions ≡ true → place < length s.assertions
-    → a ≡ get_or rows place a → a.term ≡ Some id → IsAssertionAt s place id a.level
-assertion_there s rows sorts place id a value same numbers named its_sorts sorted levelled within is some =
-    record {
-      known = known;
+    pub no_mark : list_all is_decided (live (state_of s)) ≡ true → a.term ≡ None → ⊥
+    no_mark decided none =
+        false≢true (ap (λ o. is_decided (assertion_of s.table o)) (sym none)
+        ∙ all_at is_decided (live (state_of s)) place (assertion_in s.table a) decided there)
+
+    pub assertion_there : (sorts : List Sort) (id : ℕ) → All (HasNumberBelow (length s.table)) s.assertions
+        → list_all (speaks_of (live_constants s)) (live_terms (state_of s)) ≡ true
+        → sorts ≡ (state_of s).sorts → are_sorted sorts (live_constants s) ≡ true
+        → have_levels s.levels s.assertions ≡ true → a.term ≡ Some id → IsAssertionAt s place id a.level
+    assertion_there sorts id numbers named its_sorts sorted levelled some = record {
+      known = subst (λ o. IfSome o (λ i. i < length s.table)) (ap (λ (b : code.Assertion). b.term) (sym it) ∙ some)
+          (numbers place a within);
       stands = stands;
       statement = record {
         live = ap (λ xs. slice_get xs place) (live_rows s levelled)
             ∙ slice_get-map (row_of s.table) s.assertions place
             ∙ ap (option_map (row_of s.table)) (slice_get-get_or s.assertions place a within)
-            ∙ ap₂ (λ o n. Some (option_map (term_at s.table) o, n)) (ap (λ (b : code.Assertion). b.term) (sym it) ∙ some)
+            ∙ ap₂ (λ o n. Some (option_map (term_at s.table) o, n))
+            (ap (λ (b : code.Assertion). b.term) (sym it) ∙ some)
             (ap (λ (b : code.Assertion). b.level) (sym it));
         declared = declared_of (state_of s).sorts (live_constants s)
             (subst (λ (xs : List Sort). are_sorted xs (live_constants s) ≡ true) its_sorts sorted) (term_at s.table id)
-            (term_passes (speaks_of (live_constants s)) (live (state_of s)) place (term_at s.table id) named
-            stands);
+            (term_passes (speaks_of (live_constants s)) (live (state_of s)) place (term_at s.table id) named stands);
       };
     }
-  where
-    inside : place < length rows
-    inside = subst (λ (xs : List code.Assertion). place < length xs) (sym value) within
+      where
+        it : a ≡ get_or s.assertions place a
+        it = subst (λ (xs : List code.Assertion). a ≡ get_or xs place a) value is
 
-    it : a ≡ get_or s.assertions place a
-    it = subst (λ (xs : List code.Assertion). a ≡ get_or xs place a) value is
-
-    known : id < length s.table
-    known = subst (λ o. IfSome o (λ i. i < length s.table)) (ap (λ (b : code.Assertion). b.term) (sym it) ∙ some)
-        (numbers place a within)
-
-    stands : slice_get (live (state_of s)) place ≡ Some (asserted (term_at s.table id))
-    stands = ap (λ xs. slice_get xs place) (sym same) ∙ slice_get-map (assertion_in s.table) rows place
-        ∙ ap (option_map (assertion_in s.table)) (slice_get-get_or rows place a inside)
-        ∙ ap (λ b. Some (assertion_in s.table b)) (sym is)
-        ∙ ap (λ o. Some (assertion_of s.table o)) some
+        stands : slice_get (live (state_of s)) place ≡ Some (asserted (term_at s.table id))
+        stands = there ∙ ap (λ o. Some (assertion_of s.table o)) some

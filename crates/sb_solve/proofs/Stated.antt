@@ -1,58 +1,14 @@
 -- The clauses of live assertions, one behind the other.
-use Rattle.std.proofs.Common.{◌≡◌, ◌≢◌, ◌⊎◌, inl, inr, ℕ, ◌<◌, Bool, true, false, nat_eq, List, [], ◌∷◌, ◌++◌, length, slice_get, Option, Some, refl, sym, ap, subst, ◌∙◌, arith}
-use Rattle.std.proofs.lemmas.Bool.{and_from, lt-ltb}
-use Rattle.std.proofs.lemmas.Bool.Decides.{nat_tests}
-use Rattle.std.proofs.lemmas.Option.{same_Some}
-use Rattle.sb_lit.specs.declared.clause.Lit.{Lit}
-use Rattle.sb_lit.specs.Kept.{Kept}
-use Rattle.sb_lang.specs.Regex.{Regex}
-use Rattle.sb_deriv.specs.Faithful.{Memo}
-use Rattle.sb_regex.specs.Numbered.{Extends}
-use Rattle.sb_regex.proofs.CallerLemmas.{extends_same, extends_more}
-use Rattle.sb_meaning.specs.Terms.{Term}
-use Rattle.sb_script.specs.State.{Assertion, asserted, live}
-use Rattle.sb_rulebook.specs.Accepted.{asked_in}
-use Rattle.sb_rulebook.specs.Atoms.{Atom, AtomOver}
-use Rattle.sb_rulebook.specs.Kept.{AllKept, Asked}
-use Rattle.sb_rulebook.specs.Translation.{translation}
-use Rattle.sb_rulebook.specs.TranslationLaws.{TranslationStays}
-use Rattle.sb_stack.specs.Stacked.{Stacked, state_of}
-use Rattle.sb_atoms.specs.Numbered.{HaveRegexesBelow, atoms_in}
+use Rattle.sb_solve.proofs.Words.{◌≡◌, ◌≢◌, ◌⊎◌, inl, inr, ℕ, ◌<◌, Bool, true, false, nat_eq, List, [], ◌∷◌, ◌++◌, length, slice_get, Option, Some, refl, sym, ap, subst, ◌∙◌, arith, and_from, lt-ltb, same_Some, Lit, Kept, Regex, Extends, extends_more, Term, Assertion, asserted, live, asked_in, Atom, AtomOver, translation, Stacked, state_of, HaveRegexesBelow, atoms_in, atoms_kept, atoms_more, is_atom, are_atoms, Asserted, Backing, asserted_at, leads-none, uncounted-both, IsLiteral, AreLiterals, term_onto, terms_at, AreOfLevels, level_at, IsStated, States, AllStated, AreStated, nat_tests, extends_same, TranslationStays}
 use Rattle.sb_atoms.specs.Numbered as table
-use Rattle.sb_atoms.proofs.CallerLemmas.{atoms_kept, atoms_more}
-use Rattle.sb_trace.proofs.CallerLemmas.{puts_none, puts_both}
-use Rattle.sb_theory.specs.Memberships.{is_atom, are_atoms}
-use Rattle.sb_refute.specs.declared.evidence.Asserted.{Asserted}
-use Rattle.sb_refute.specs.Backing.{Backing, Backs, EvidencesUncounted, asserted_at}
-use Rattle.sb_solve.specs.Answered.{IsLiteral, AreLiterals, term_onto, terms_at}
-use Rattle.sb_solve.specs.Solved.{AreOfLevels, level_at}
-use Rattle.sb_solve.specs.Stating.{IsStated, States, AllStated, AreStated}
 use Rattle.sb_solve.proofs.LiveRows.{same_term}
 
 -- One behind the other.
 
-uncounted_none : (asked : Asked) (before : AllKept) (rs : List Regex) (memo : Memo) (e : Backing)
-    (told : Option (List ℕ)) → Backs rs memo e before → EvidencesUncounted asked before rs memo e told told
-uncounted_none asked before rs memo e told b =
-    record { after = before; puts = puts_none asked before told; backs = b; counted = refl }
-
-uncounted_both : (asked : Asked) (before : AllKept) (mid more : List Regex) (memo : Memo) (f g : Backing)
-    (old told new : Option (List ℕ)) → EvidencesUncounted asked before mid memo f old told
-    → ((after : AllKept) → Backs mid memo f after → EvidencesUncounted asked after more memo g told new)
-    → EvidencesUncounted asked before more memo g old new
-uncounted_both asked before mid more memo f g old told new p rest =
-    let q = rest p.after p.backs in
-    record {
-      after = q.after;
-      puts = puts_both asked before p.after q.after old told new p.puts q.puts;
-      backs = q.backs;
-      counted = q.counted ∙ p.counted;
-    }
-
 pub stated_none : (s : Stacked) (rs : List Regex) (e : Backing) (told : Option (List ℕ))
     → HaveRegexesBelow (length rs) e.atoms → AreStated s [] rs rs e e told told []
 stated_none s rs e told below = record {
-  puts = λ memo before b. uncounted_none (asked_in (state_of s)) before rs memo e told b;
+  puts = λ memo before b. leads-none (asked_in (state_of s)) rs memo e told before b;
   extends = extends_same rs;
   regexes = below;
   levels = λ place a h. inl h;
@@ -64,7 +20,8 @@ translates_still : TranslationStays → (rs more : List Regex) (old new : List (
     → Extends rs more → HaveRegexesBelow (length rs) old → table.Extends old new
     → translation (atoms_in rs old) t ≡ Some l → translation (atoms_in more new) t ≡ Some l
 translates_still stays rs more old new t l grows below atoms h =
-    subst (λ (ts : List Atom). translation ts t ≡ Some l) (sym larger) (stays (atoms_in rs old) (atoms_in more atoms.more) t l h)
+    subst (λ (ts : List Atom). translation ts t ≡ Some l) (sym larger)
+    (stays (atoms_in rs old) (atoms_in more atoms.more) t l h)
   where
     larger : atoms_in more new ≡ atoms_in rs old ++ atoms_in more atoms.more
     larger = ap (atoms_in more) atoms.is ∙ atoms_more more old atoms.more
@@ -142,7 +99,7 @@ pub stated_more : TranslationStays → (s : Stacked) (places : List ℕ) (rs mid
     → AreStated s (places ++ place ∷ []) rs more e g old new (ls ++ l ∷ [])
 stated_more stays s places rs mid more e f g old told new ls place l h one = record {
   puts = λ memo before b.
-      uncounted_both (asked_in (state_of s)) before mid more memo f g old told new (h.puts memo before b)
+      uncounted-both (asked_in (state_of s)) before mid more memo f g old told new (h.puts memo before b)
       (λ after c. one.puts memo after c);
   extends = extends_more rs mid more h.extends one.extends;
   regexes = one.regexes;

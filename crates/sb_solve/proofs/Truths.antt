@@ -1,35 +1,5 @@
 -- What stays true of the evidence: where lines are put that follow, and where clauses that follow are kept by no lines.
-use Rattle.std.proofs.Common.{◌≡◌, ◌⊎◌, ℕ, zero, suc, ◌+◌, ◌<◌, ◌≤◌, Bool, true, false, nat_lt, if◌then◌else◌, List, [], ◌∷◌, map, length, get_or, slice_get, Option, Some, None, unwrap_or, Result, Ok, Err, refl, sym, ap, subst, ◌∙◌, inl, inr, arith}
-use Rattle.std.specs.Prelude.{Contains}
-use Rattle.std.proofs.lemmas.Bool.{ltb-false, le-ltb}
-use Rattle.std.proofs.lemmas.List.{length-map}
-use Rattle.std.proofs.lemmas.Option.{slice_get_within, same_Some}
-use Rattle.sb_lit.specs.Kept.{Kept, KeptClause, kept_at}
-use Rattle.sb_lang.specs.Regex.{Regex}
-use Rattle.sb_deriv.specs.Faithful.{Memo, KeepsEntries}
-use Rattle.sb_regex.specs.Numbered.{Extends}
-use Rattle.sb_meaning.specs.Terms.{Term}
-use Rattle.sb_meaning.specs.Values.{Valuation}
-use Rattle.sb_rulebook.specs.Atoms.{Atom}
-use Rattle.sb_rulebook.specs.AtomRules.{are_known}
-use Rattle.sb_rulebook.specs.Refusals.{Refusal}
-use Rattle.sb_rulebook.specs.Lines.{Line}
-use Rattle.sb_rulebook.specs.Kept.{AllKept, Asked, count_again}
-use Rattle.sb_rulebook.specs.Follows.{follows}
-use Rattle.sb_sound.specs.SoundLaws.{AreTerms, IsSound, LevelsHold, PlacesHold, StandsAt, FollowsByRule, LineStaysSound, CountedAgainStaysSound}
-use Rattle.sb_atoms.specs.Numbered.{HaveRegexesBelow, atoms_in}
-use Rattle.sb_atoms.proofs.CallerLemmas.{atoms_kept}
-use Rattle.sb_trace.specs.Putting.{Puts, follow_all}
-use Rattle.sb_trace.specs.Tracking.{Traced, Tracks}
-use Rattle.sb_trace.proofs.CallerLemmas.{tracks_grow}
-use Rattle.sb_refute.specs.declared.evidence.Asserted.{Asserted}
-use Rattle.sb_refute.specs.Backing.{Backing, Backs, asserted_at, unit_at}
-use Rattle.sb_search.specs.Following.{FollowsByLevel}
-use Rattle.sb_search.specs.Found.{GrowsTo}
-use Rattle.sb_theory.specs.Memberships.{HaveAtoms, IsValid}
-use Rattle.sb_theory.specs.Laws.{are_known_in, tracks_kept}
-use Rattle.sb_solve.specs.Entailed.{AreEntailed}
-use Rattle.sb_solve.specs.Truth.{IsTrue}
+use Rattle.sb_solve.proofs.Words.{◌≡◌, ℕ, zero, suc, ◌+◌, ◌≤◌, Bool, true, false, nat_lt, if◌then◌else◌, List, [], ◌∷◌, map, length, slice_get, Option, Some, None, unwrap_or, Result, Ok, Err, refl, sym, ap, subst, ◌∙◌, inl, inr, arith, ltb-false, le-ltb, length-map, slice_get_within, same_Some, Kept, KeptClause, kept_at, Regex, Memo, KeepsEntries, Extends, Term, Valuation, Atom, are_known, AllKept, Asked, count_again, AreTerms, IsSound, LevelsHold, PlacesHold, StandsAt, FollowsByRule, LineStaysSound, CountedAgainStaysSound, HaveRegexesBelow, atoms_in, atoms_kept, Puts, follow_all, tracks_grow, cons-cases, not-in-nil, Asserted, Backing, Backs, asserted_at, unit_at, FollowsByLevel, GrowsTo, HaveAtoms, IsValid, AreEntailed, IsTrue, Contains, Refusal, Line, follows, Traced, Tracks, are_known_in, tracks_kept}
 use Rattle.sb_solve.proofs.Ended.{kept_grown}
 use Rattle.sb_solve.proofs.Entailing.{searched_entailed, slice_there}
 
@@ -91,16 +61,6 @@ contains_first x xs = (0, omega arith, refl)
 pub contains_later : {X : Type 0} (y : X) (xs : List X) (x : X) → Contains xs x → Contains (y ∷ xs) x
 contains_later y xs x h = let less = h.1 in (suc h.0, omega (arith, less), h.2)
 
-contains_none : {X : Type 0} (x : X) → Contains [] x → ⊥
-contains_none x h = omega (arith, h.1)
-
-contains_cases : {X : Type 0} (x : X) (xs : List X) (y : X) → Contains (x ∷ xs) y → (x ≡ y) ⊎ Contains xs y
-contains_cases x xs y h = at h.0 h.1 h.2
-  where
-    at : (k : ℕ) → k < length (x ∷ xs) → get_or (x ∷ xs) k y ≡ y → (x ≡ y) ⊎ Contains xs y
-    at zero within is = inl is
-    at (suc k) within is = inr (k, omega (arith, within), is)
-
 -- such an assertion stands so far behind the first
 record StandsBehind (live : List (Option Term × ℕ)) (level first place : ℕ) : Type 0 where
   behind : ℕ
@@ -119,7 +79,7 @@ stands_later a live level first place h =
 
 stands_among : (level first : ℕ) (live : List (Option Term × ℕ)) (place : ℕ)
     → Contains (places_from level first live) place → StandsBehind live level first place
-stands_among level first [] place h = absurd (contains_none place h)
+stands_among level first [] place h = absurd (not-in-nil place h)
 stands_among level first (a ∷ live) place h =
     step (nat_lt level a.1) refl (stands_among level (suc first) live place) h
   where
@@ -128,7 +88,7 @@ stands_among level first (a ∷ live) place h =
         → Contains (if b then places_from level (suc first) live else first ∷ places_from level (suc first) live) place
         → StandsBehind (a ∷ live) level first place
     step true above rest h = stands_later a live level first place (rest h)
-    step false low rest h = elim (contains_cases first (places_from level (suc first) live) place h) [
+    step false low rest h = elim (cons-cases first (places_from level (suc first) live) place h) [
       | inl here ↦
           record {
             behind = 0;

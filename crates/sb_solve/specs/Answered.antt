@@ -1,20 +1,8 @@
--- What the end of a search with an answer `sat` gives: a literal that is kept for each assertion that is asked about, and
--- all atoms that these speak of decided as the words of the theory have it.
+-- What the end of a search with an answer `sat` gives: a literal that is kept for each assertion that is asked about,
+-- and all atoms that these speak of decided as the words of the theory have it.
 use Rattle.std.specs.Prelude.{◌≡◌, ℕ, true, List, [], ◌∷◌, slice_get, Option, Some, None}
-use Rattle.std.specs.List.{list_all}
-use Rattle.sb_lit.specs.declared.clause.Lit.{Lit}
-use Rattle.sb_lit.specs.Kept.{Kept}
-use Rattle.sb_lang.specs.Regex.{Regex}
-use Rattle.sb_trail.specs.declared.assigned.Assigned.{Assigned}
-use Rattle.sb_meaning.specs.Terms.{Term}
-use Rattle.sb_script.specs.State.{State, Assertion, asserted, a_mark, live}
-use Rattle.sb_rulebook.specs.Accepted.{asked_in}
-use Rattle.sb_rulebook.specs.Atoms.{Atom, AtomOver}
-use Rattle.sb_rulebook.specs.Translation.{translation}
-use Rattle.sb_sound.specs.SoundLaws.{AreTerms}
-use Rattle.sb_atoms.specs.Numbered.{atoms_in}
-use Rattle.sb_theory.specs.Memberships.{is_true_by}
-use Rattle.sb_theory.specs.Wanted.{wanted_on}
+use Rattle.sb_solve.specs.Words.{AreTerms, Assertion, Assigned, Atom, AtomOver, Kept, Lit, Regex, Term, a_mark, asked_in, asserted, atoms_in, is_true_by, list_all, live, translation, wanted_on}
+use Rattle.sb_script.specs.State.{State}
 use Rattle.sb_solve.specs.Wanted.{AreWanted}
 use Rattle.sb_solve.specs.Decided.{IsKept, IsDecided}
 

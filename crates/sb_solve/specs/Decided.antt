@@ -1,27 +1,11 @@
 -- What a search's trail says where all atoms that are wanted have values: each value is the atom's truth.
 use Rattle.std.specs.Prelude.{◌≡◌, ℕ, true, false, List, [], ◌∷◌, get_or, Option, Some}
-use Rattle.std.specs.List.{list_all}
-use Rattle.sb_lit.specs.declared.clause.Lit.{Lit}
+use Rattle.sb_solve.specs.Words.{AreDistinct, Assigned, AtomOver, HasSorts, IsConsistent, Kept, KeptClause, Lit, Names, Regex, Sort, Term, Valuation, atoms_in, bool_atom, constant_piece, fits_sorts, held, holds, in_atom, is_atom, is_table, is_true_by, kept_at, list_all, literal_holds, translation, truth_at, truths_of, value_of, wanted_on, word_at}
 use Rattle.sb_lit.specs.Clauses.{is_true_under}
-use Rattle.sb_lit.specs.Kept.{Kept, KeptClause, kept_at}
-use Rattle.sb_lang.specs.Regex.{Regex}
-use Rattle.sb_trail.specs.declared.assigned.Assigned.{Assigned}
-use Rattle.sb_trail.specs.Assignments.{held, value_of, IsConsistent}
 use Rattle.sb_clauses.specs.Propagation.{HasNoneFalse}
-use Rattle.sb_meaning.specs.Terms.{Sort, Term}
-use Rattle.sb_meaning.specs.Values.{Valuation}
-use Rattle.sb_meaning.specs.Truth.{holds}
-use Rattle.sb_script.specs.Pieces.{constant_piece}
-use Rattle.sb_rulebook.specs.Atoms.{AtomOver, bool_atom, in_atom, truth_at, truths_of, literal_holds}
 use Rattle.sb_rulebook.specs.Atoms as rulebook
-use Rattle.sb_rulebook.specs.Translation.{translation}
-use Rattle.sb_sound.specs.Tables.{is_table}
-use Rattle.sb_sound.specs.TermLaws.{HasSorts, fits_sorts}
-use Rattle.sb_atoms.specs.Numbered.{Names, AreDistinct, atoms_in}
 use Rattle.sb_atoms.specs.GateClauses.{atom_at, clauses_of}
 use Rattle.sb_search.specs.Found.{has_value}
-use Rattle.sb_theory.specs.Memberships.{word_at, is_true_by, is_atom}
-use Rattle.sb_theory.specs.Wanted.{wanted_on}
 use Rattle.sb_solve.specs.Wanted.{is_in, are_closed}
 use Rattle.sb_solve.specs.Values.{truth_by}
 

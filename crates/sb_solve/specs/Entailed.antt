@@ -1,23 +1,9 @@
 -- What kept clauses follow from: the live assertions of their levels.
 use Rattle.std.specs.Prelude.{◌≡◌, ℕ, true, false, List, [], ◌∷◌, ◌++◌, length, Some, Contains}
-use Rattle.std.specs.List.{list_all}
-use Rattle.sb_lit.specs.declared.clause.Lit.{Lit}
-use Rattle.sb_lit.specs.Kept.{Kept, KeptClause, kept_at, kept_up_to}
-use Rattle.sb_lang.specs.Regex.{Regex}
-use Rattle.sb_regex.specs.Numbered.{Extends}
-use Rattle.sb_meaning.specs.Terms.{Term}
-use Rattle.sb_meaning.specs.Values.{Valuation}
-use Rattle.sb_rulebook.specs.Atoms.{Atom, AtomOver, clause_holds, literal_holds, truths_of}
+use Rattle.sb_solve.specs.Words.{AreRefuted, Asked, Atom, AtomOver, Extends, FollowsByLevel, HasSorts, HasWords, HaveRegexesBelow, IsValid, Kept, KeptClause, Lit, Regex, Term, Valuation, atoms_in, clause_holds, fits_sorts, is_table, kept_at, kept_up_to, list_all, literal_holds, translation, truths_of}
 use Rattle.sb_rulebook.specs.AtomRules.{are_known}
 use Rattle.sb_rulebook.specs.Gates.{is_gate}
-use Rattle.sb_rulebook.specs.Kept.{Asked}
-use Rattle.sb_rulebook.specs.Translation.{translation}
-use Rattle.sb_sound.specs.Tables.{is_table, HasWords}
-use Rattle.sb_sound.specs.TermLaws.{HasSorts, fits_sorts}
 use Rattle.sb_sound.specs.SoundLaws.{LevelsHold, Continues, GoesOn}
-use Rattle.sb_atoms.specs.Numbered.{atoms_in, HaveRegexesBelow}
-use Rattle.sb_search.specs.Following.{FollowsByLevel, AreRefuted}
-use Rattle.sb_theory.specs.Memberships.{IsValid}
 
 -- Each kept clause is true under every valuation that makes the live assertions up to its level true.
 abbrev pub AreEntailed : Asked → List Atom → Kept → Type 0

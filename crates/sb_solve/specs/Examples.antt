@@ -5,7 +5,7 @@ use Rattle.sb_trail.specs.declared.assigned.Assigned.{Assigned}
 use Rattle.sb_script.specs.Pieces.{constant_piece}
 use Rattle.sb_rulebook.specs.Atoms.{AtomOver, bool_atom, in_atom, and_atom, iff_atom}
 use Rattle.sb_solve.specs.Wanted.{atoms_of, parts_at, is_simple_at, are_closed}
-use Rattle.sb_solve.specs.Values.{is_true, truth_by, truth_in, word_in, word_there, are_words_there, is_valued}
+use Rattle.sb_solve.specs.Values.{is_true, truth_by, truth_in, word_in, word_there, are_words_there}
 
 abbrev plus : ℕ → Lit
 plus atom = record { atom = atom; positive = true }
@@ -97,13 +97,3 @@ none_past_the_last = refl
 
 of_characters : are_words_there alone ≡ true
 of_characters = refl
-
--- 0 has no word and 2 is past the last one, and of these 2 is true
-by_its_word : is_valued alone (false ∷ false ∷ true ∷ []) 1 ≡ true
-by_its_word = refl
-
-by_its_truth : is_valued alone (false ∷ false ∷ true ∷ []) 2 ≡ true
-by_its_truth = refl
-
-by_neither : is_valued alone (false ∷ false ∷ true ∷ []) 0 ≡ false
-by_neither = refl

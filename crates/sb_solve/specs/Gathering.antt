@@ -1,7 +1,6 @@
 -- Private: how the atoms are gathered.
 use Rattle.std.specs.Prelude.{◌≡◌, ℕ, Bool, true, List, ◌++◌}
-use Rattle.std.specs.List.{list_all}
-use Rattle.sb_rulebook.specs.Atoms.{AtomOver}
+use Rattle.sb_solve.specs.Words.{AtomOver, list_all}
 use Rattle.sb_solve.specs.Wanted.{parts_at, are_closed}
 
 -- what holds of the old numbers, and of the parts of each atom of which it holds, holds of the new ones

@@ -1,3 +1,4 @@
+pub mod Words
 pub mod Wanted
 pub mod Gathering
 pub mod Values
@@ -9,6 +10,4 @@ pub mod Modelled
 pub mod Solved
 pub mod Stating
 pub mod Searched
-pub mod Begun
-pub mod Concluding
 pub mod Examples

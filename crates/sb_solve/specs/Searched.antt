@@ -1,54 +1,131 @@
--- Private: what a search leaves.
-use Rattle.std.specs.Prelude.{◌≡◌, ℕ, Bool, true, false, List, [], length, Option}
-use Rattle.std.specs.List.{list_all}
-use Rattle.sb_lit.specs.declared.clause.Lit.{Lit}
-use Rattle.sb_lit.specs.Budgets.{Spending}
-use Rattle.sb_lang.specs.Regex.{Regex}
-use Rattle.sb_deriv.specs.Faithful.{Memo, KeepsEntries}
-use Rattle.sb_regex.specs.Numbered.{Extends}
-use Rattle.sb_graph.specs.Findings.{IsGraph}
-use Rattle.sb_plain.specs.Memory.{IsRight}
-use Rattle.sb_rulebook.specs.Kept.{AllKept, Asked}
-use Rattle.sb_sound.specs.Tables.{is_table}
-use Rattle.sb_atoms.specs.Numbered.{HaveRegexesBelow, AreDistinct, atoms_in}
-use Rattle.sb_trace.specs.Putting.{IsCounted}
-use Rattle.sb_refute.specs.declared.evidence.Parts.{Parts}
-use Rattle.sb_refute.specs.Backing.{Backs, Evidences, backing_of}
-use Rattle.sb_search.specs.Following.{FollowsByLevel}
-use Rattle.sb_search.specs.Found.{GrowsTo, IsFound}
-use Rattle.sb_search.specs.declared.found.Found.TheVariants.{Sat}
-use Rattle.sb_theory.specs.Memberships.{HaveAtoms, IsValid, are_atoms, is_atom, is_true_by}
-use Rattle.sb_theory.specs.Wanted.{wanted_on}
+-- Private: a search over the evidence and the tables, from its beginning to its answer.
+use Rattle.std.specs.Prelude.{◌≡◌, ℕ, Bool, true, false, List, [], length, Option, Some}
+use Rattle.sb_solve.specs.Words.{AllKept, AreDistinct, Asked, AtomOver, Backing, Backs, EmptyClause, Evidences, Extends, Findings, FollowsByLevel, HaveAtoms, HaveRegexesBelow, IsCounted, IsGraph, IsRight, IsValid, KeepsEntries, Kept, Lit, Memo, Memory, Regex, Spending, Stacked, Stand, Stands, are_atoms, atoms_in, is_atom, is_table, is_true_by, list_all, state_of, wanted_on}
+use Rattle.sb_clauses.specs.Propagation.{State}
+use Rattle.sb_analyze.specs.Cores.{IsKeptCore}
+use Rattle.sb_search.specs.Found.{GrowsTo, IsFull}
+use Rattle.sb_solve.specs.Answered.{IsAnswered}
+use Rattle.sb_solve.specs.Solved.{AreTrueAt}
+use Rattle.sb_solve.specs.Values.{are_words_there}
 use Rattle.sb_solve.specs.Wanted.{AreWanted}
-use Rattle.sb_solve.specs.declared.searching.Searched.{Searched}
+use Rattle.sb_solve.specs.declared.check.Solved.{Solved}
+use Rattle.sb_solve.specs.declared.check.Solved.TheVariants as solved
+use Rattle.sb_solve.specs.declared.searching.Tables.{Tables}
+
+-- what the evidence knows whose tables these are
+abbrev pub backing_in : Tables → Backing
+backing_in t = record {
+  trace = t.strings.trace;
+  atoms = t.strings.atoms;
+  kept = t.engine.kept;
+  asserted = t.asserted.items;
+  refuted = t.refuted;
+  gates = t.gates;
+}
+
+-- They are taken from these, and the theory over them has taken in nothing.
+pub record AreTaken (rs : List Regex) (g : Findings) (e : Backing) (atoms : List ℕ) (on : Bool) (t : Tables) : Type 0
+  where
+    pub stands : Stands t.strings []
+    pub stand : Stand e
+    pub backing : backing_in t ≡ e
+    pub arena : t.strings.arena ≡ rs
+    pub graph : t.strings.graph ≡ g
+    pub wanted : t.strings.wanted ≡ atoms
+    pub proves : t.strings.proves ≡ on
+    pub trail : t.engine.trail.literals ≡ []
+    pub first : t.before ≡ length e.kept
+
+-- where the table is one, and the literals are of its atoms, so is what is wanted
+abbrev pub AreAmong : List (AtomOver ℕ) → List Lit → List ℕ → Type 0
+AreAmong atoms literals wanted = (rs : List Regex) → is_table (atoms_in rs atoms) ≡ true
+    → are_atoms atoms literals ≡ true → list_all (is_atom atoms) wanted ≡ true
 
 -- The tables stay right and grow, clauses stay, and new ones follow from these and from what is true of words, level by
 -- level; where lines are put, those for the new clauses follow, and where none are, what stands of regexes in the proof
--- stays. What was found holds.
-pub record IsSearched (arena : List Regex) (memo : Memo) (parts : Parts) (literals : List Lit) (proves : Bool)
-    (before after : Spending) (old new : Option (List ℕ)) (s : Searched) : Type 0
+-- stays.
+pub record IsSearched (proves : Bool) (rs : List Regex) (memo : Memo) (e : Backing) (before : Spending)
+    (old : Option (List ℕ)) (more : List Regex) (g : Findings) (m : Memory) (f : Backing) (after : Spending)
+    (new : Option (List ℕ)) : Type 0
   where
-    pub graph : IsGraph s.arena s.graph
-    pub plain : IsRight s.arena s.plain
-    pub extends : Extends arena s.arena
-    pub derivatives : KeepsEntries memo s.graph.memo
-    pub regexes : HaveRegexesBelow (length s.arena) s.parts.atoms
-    pub atoms : s.parts.atoms ≡ parts.atoms
-    pub asserted : s.parts.asserted.items ≡ parts.asserted.items
-    pub refuted : s.parts.refuted ≡ parts.refuted
-    pub gates : s.parts.gates ≡ parts.gates
-    pub kept : GrowsTo parts.engine.kept s.parts.engine.kept
-    pub known : HaveAtoms parts.atoms parts.engine.kept → HaveAtoms parts.atoms s.parts.engine.kept
-    pub follows : FollowsByLevel (IsValid s.arena parts.atoms) parts.engine.kept s.parts.engine.kept
-    pub silent : proves ≡ false → s.parts.trace ≡ parts.trace
-    pub puts : proves ≡ true → HaveAtoms parts.atoms parts.engine.kept → (asked : Asked) (kept : AllKept)
-        → Backs arena memo (backing_of parts) kept → IsCounted asked kept before
-        → Evidences asked kept s.arena s.graph.memo (backing_of s.parts) after old new
-    pub distinct : AreDistinct parts.atoms
-    pub wanted : AreWanted parts.atoms literals s.wanted
-    pub among : (rs : List Regex) → is_table (atoms_in rs parts.atoms) ≡ true → are_atoms parts.atoms literals ≡ true
-        → list_all (is_atom parts.atoms) s.wanted ≡ true
-    pub found : IsFound s.wanted [] s.parts.engine after s.found
-    pub agrees : s.found ≡ Sat
-        → list_all (is_true_by s.arena s.parts.atoms s.words.items) (wanted_on s.wanted s.parts.engine.trail.literals)
-        ≡ true
+    pub graph : IsGraph more g
+    pub plain : IsRight more m
+    pub extends : Extends rs more
+    pub derivatives : KeepsEntries memo g.memo
+    pub regexes : HaveRegexesBelow (length more) f.atoms
+    pub atoms : f.atoms ≡ e.atoms
+    pub asserted : f.asserted ≡ e.asserted
+    pub kept : GrowsTo e.kept f.kept
+    pub known : HaveAtoms e.atoms f.kept
+    pub follows : FollowsByLevel (IsValid more e.atoms) e.kept f.kept
+    pub silent : proves ≡ false → f.trace ≡ e.trace
+    pub puts : proves ≡ true → (asked : Asked) (kept : AllKept) → Backs rs memo e kept → IsCounted asked kept before
+        → Evidences asked kept more g.memo f after old new
+
+-- The words are words of characters, and where the end of the search is an answer about the assertions at some places,
+-- these are true of the words and the truth values.
+pub record IsModel (s : Stacked) (rs : List Regex) (atoms : List (AtomOver ℕ)) (wanted : List ℕ) (search : State)
+    (theory words : List (Option (List ℕ))) (truths : List Bool) : Type 0
+  where
+    pub characters : are_words_there words ≡ true
+    pub given : (places : List ℕ) (literals : List Lit) (kept : Kept)
+        → IsAnswered rs atoms wanted literals kept search.trail.literals theory places (state_of s)
+        → AreTrueAt s places words truths
+
+abbrev pub HasModel : Stacked → Tables → List (Option (List ℕ)) → List Bool → Type 0
+HasModel s t = IsModel s t.strings.arena t.strings.atoms t.strings.wanted t.engine t.strings.words.items
+
+-- The search ended with a value for each atom that is wanted, which the theory's words bear out.
+pub record IsValuedBy (s : Stacked) (rs : List Regex) (atoms : List (AtomOver ℕ)) (kept : Kept) (wanted : List ℕ)
+    (words : List (Option (List ℕ))) (truths : List Bool) : Type 0
+  where
+    pub search : State
+    pub theory : List (Option (List ℕ))
+    pub keeps : search.kept ≡ kept
+    pub full : IsFull wanted [] search
+    pub agrees : list_all (is_true_by rs atoms theory) (wanted_on wanted search.trail.literals) ≡ true
+    pub model : IsModel s rs atoms wanted search theory words truths
+
+-- What the answer says, with the number of some clause without literals,
+abbrev pub Answers : Stacked → List Regex → List (AtomOver ℕ) → Kept → List ℕ → Spending → Solved → Type 0
+Answers s rs atoms kept wanted budget (solved.Sat words truths) =
+    IsValuedBy s rs atoms kept wanted words.items truths.items
+Answers s rs atoms kept wanted budget (solved.Unsat id) = IsKeptCore kept [] id.0
+Answers s rs atoms kept wanted budget solved.Spent = budget.spent ≡ budget.limit
+
+abbrev pub HasCore : Kept → Solved → Type 0
+HasCore kept (solved.Unsat id) = IsKeptCore kept [] id.0
+HasCore kept _ = Unit {0}
+
+-- and with that of the empty clause
+abbrev pub IsNumbered : Option EmptyClause → Solved → Solved → Type 0
+IsNumbered refuted (solved.Unsat id) s = (empty : EmptyClause) × (refuted ≡ Some empty)
+    × (s ≡ solved.Unsat empty.clause)
+IsNumbered refuted t s = s ≡ t
+
+-- What a search makes of the tables, whatever empty clause the evidence has then.
+pub record Runs (s : Stacked) (b : Tables) (before : Spending) (old : Option (List ℕ)) (c : Tables) (after : Spending)
+    (new : Option (List ℕ)) (solved : Solved) : Type 0
+  where
+    pub searched : (refuted : Option EmptyClause) → IsSearched b.strings.proves b.strings.arena b.strings.graph.memo
+        (backing_in b) before old c.strings.arena c.strings.graph c.strings.plain
+        (record (backing_in c) { refuted = refuted }) after new
+    pub answers : Answers s c.strings.arena c.strings.atoms c.engine.kept b.strings.wanted after solved
+    pub refuted_stays : c.refuted ≡ b.refuted
+    pub gates_stay : c.gates ≡ b.gates
+    pub first_stays : c.before ≡ b.before
+
+-- What comes of it, over the evidence and the tables where they lie.
+pub record IsDone (s : Stacked) (literals : List Lit) (proves : Bool) (rs : List Regex) (memo : Memo) (e : Backing)
+    (before : Spending) (old : Option (List ℕ)) (more : List Regex) (g : Findings) (m : Memory) (f : Backing)
+    (after : Spending) (new : Option (List ℕ)) (solved : Solved) : Type 0
+  where
+    pub stand : Stand e
+    pub searched : IsSearched proves rs memo e before old more g m f after new
+    pub wanted : List ℕ
+    pub distinct : AreDistinct e.atoms
+    pub closed : AreWanted e.atoms literals wanted
+    pub among : AreAmong e.atoms literals wanted
+    pub found : Solved
+    pub answers : Answers s more f.atoms f.kept wanted after found
+    pub is_numbered : IsNumbered f.refuted found solved

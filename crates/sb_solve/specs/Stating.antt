@@ -1,20 +1,8 @@
 -- Private: the clauses of live assertions, as they are put in front of a search.
 use Rattle.std.specs.Prelude.{◌≡◌, ◌≢◌, ℕ, ◌<◌, List, [], ◌∷◌, length, slice_get, Option, Some}
-use Rattle.sb_lit.specs.declared.clause.Lit.{Lit}
-use Rattle.sb_lang.specs.Regex.{Regex}
-use Rattle.sb_deriv.specs.Faithful.{Memo}
-use Rattle.sb_regex.specs.Numbered.{Extends}
+use Rattle.sb_solve.specs.Words.{AllKept, Asserted, Backing, Backs, EvidencesUncounted, Extends, HasGates, HaveRegexesBelow, IsStatement, Lit, Memo, Regex, Stacked, Term, asked_in, asserted, asserted_at, atoms_in, live, state_of, translation}
 use Rattle.sb_term.specs.Numbered.{term_at}
-use Rattle.sb_meaning.specs.Terms.{Term}
-use Rattle.sb_script.specs.State.{asserted, live}
-use Rattle.sb_rulebook.specs.Accepted.{asked_in}
-use Rattle.sb_rulebook.specs.Kept.{AllKept}
-use Rattle.sb_rulebook.specs.Translation.{translation}
-use Rattle.sb_stack.specs.Stacked.{Stacked, state_of}
-use Rattle.sb_atoms.specs.Numbered.{HaveRegexesBelow, atoms_in}
 use Rattle.sb_atoms.specs.Numbered as table
-use Rattle.sb_refute.specs.declared.evidence.Asserted.{Asserted}
-use Rattle.sb_refute.specs.Backing.{Backing, Backs, EvidencesUncounted, HasGates, IsStatement, asserted_at}
 use Rattle.sb_solve.specs.Solved.{AreOfLevels, level_at}
 
 -- the number is of the term of the live assertion at the place, on this level

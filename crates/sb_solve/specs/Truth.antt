@@ -1,10 +1,7 @@
 -- When what the evidence knows is true of what is asked.
 use Rattle.std.specs.Prelude.{◌≡◌, List}
-use Rattle.sb_lang.specs.Regex.{Regex}
-use Rattle.sb_deriv.specs.Faithful.{Memo}
-use Rattle.sb_rulebook.specs.Kept.{AllKept, Asked}
+use Rattle.sb_solve.specs.Words.{AllKept, Asked, Backing, Backs, Memo, Regex}
 use Rattle.sb_sound.specs.SoundLaws.{IsSound}
-use Rattle.sb_refute.specs.Backing.{Backing, Backs}
 
 -- A reader that keeps what the evidence knows keeps nothing but what is true of what is asked, whether lines led there
 -- or not. No line is counted.

@@ -1,10 +1,7 @@
 -- The values that a trail gives constants, by serial.
-use Rattle.std.specs.Prelude.{ℕ, Bool, true, false, ◌&&◌, ◌||◌, ◌==◌, List, [], get_or, slice_get, Option, Some, None, is_some, unwrap_or}
-use Rattle.std.specs.List.{list_all, list_any}
+use Rattle.std.specs.Prelude.{ℕ, Bool, true, false, ◌&&◌, ◌==◌, List, [], get_or, slice_get, Option, Some, None, unwrap_or}
+use Rattle.sb_solve.specs.Words.{Assigned, AtomOver, bool_atom, list_all, list_any, value_of}
 use Rattle.sb_word.specs.Words.{are_characters}
-use Rattle.sb_trail.specs.declared.assigned.Assigned.{Assigned}
-use Rattle.sb_trail.specs.Assignments.{value_of}
-use Rattle.sb_rulebook.specs.Atoms.{AtomOver, bool_atom}
 
 -- the atom is true on the trail
 abbrev pub is_true : List Assigned → ℕ → Bool
@@ -52,7 +49,3 @@ is_word_there (Some word) = are_characters word
 
 abbrev pub are_words_there : List (Option (List ℕ)) → Bool
 are_words_there words = list_all is_word_there words
-
--- the constant has a word, or it is true
-abbrev pub is_valued : List (Option (List ℕ)) → List Bool → ℕ → Bool
-is_valued words truths serial = is_some (word_there words serial) || truth_in truths serial

@@ -1,9 +1,6 @@
 -- The atoms of literals, and the atoms that these speak of.
 use Rattle.std.specs.Prelude.{◌≡◌, ℕ, Bool, true, false, ◌&&◌, nat_eq, List, [], ◌∷◌, map, slice_get, Some, None}
-use Rattle.std.specs.List.{list_all, list_any, IsDistinct}
-use Rattle.sb_lit.specs.declared.clause.Lit.{Lit}
-use Rattle.sb_script.specs.Pieces.{constant_piece}
-use Rattle.sb_rulebook.specs.Atoms.{AtomOver, bool_atom, in_atom, and_atom, iff_atom}
+use Rattle.sb_solve.specs.Words.{AtomOver, IsDistinct, Lit, and_atom, bool_atom, constant_piece, iff_atom, in_atom, list_all, list_any}
 
 abbrev pub is_in : List ℕ → ℕ → Bool
 is_in numbers n = list_any (nat_eq n) numbers

@@ -1,12 +1,8 @@
 //! The atoms that a search is to decide.
 
 ghost use Rattle.std.specs.Prelude.{◌≡◌, ◌<◌, ℕ, true, nat_eq, List, length, IfOk, OnOk};
-ghost use Rattle.std.specs.List.{list_all};
+ghost use Rattle.sb_solve.specs.Words.{Regex, are_atoms, atom_in, atoms_in, is_atom, is_table, list_all};
 ghost use Rattle.indexmap.specs.IndexSet.{insert_all};
-ghost use Rattle.sb_lang.specs.Regex.{Regex};
-ghost use Rattle.sb_sound.specs.Tables.{is_table};
-ghost use Rattle.sb_atoms.specs.Numbered.{atom_in, atoms_in};
-ghost use Rattle.sb_theory.specs.Memberships.{are_atoms, is_atom};
 ghost use Rattle.sb_solve.specs.Wanted.{atoms_of, parts_of, parts_at, is_simple, is_simple_at, AreWanted};
 ghost use Rattle.sb_solve.specs.Gathering.{Closes};
 

@@ -1,7 +1,7 @@
 //! The check of live assertions of Boolean structure, by a search over the theory of strings.
 //!
 //! An assertion's literal is decided with the atoms that it speaks of, and with those that these speak of: [`wanted`].
-//! Where a search ends with a value for each of them [`model::model`] gives the constants their values, by the trail and the
+//! Where a search ends with a value for each of them [`model::model`] gives out the trail's truth values and the
 //! theory's words, and each of the atoms is as true as its value. The laws of [`laws`] say so, and that no values make
 //! the assertions true where a search refutes them.
 #![tactic(auto)]
@@ -16,4 +16,4 @@ mod stating;
 
 pub use check::{Solved, solve};
 pub use gather::wanted;
-pub use given::or_empty;
+pub use given::mark;

@@ -1,137 +1,102 @@
 //! The search over the clauses of a proof.
 
-ghost use Rattle.std.specs.Prelude.{◌≡◌, [], true, length, IfOk};
+ghost use Rattle.std.specs.Prelude.{◌≡◌, [], true, take, length, IfOk, OnOk};
 ghost use Rattle.sb_clauses.specs.Propagation.{has_room_for};
-ghost use Rattle.sb_graph.specs.Findings.{IsGraph};
-ghost use Rattle.sb_plain.specs.Memory.{IsRight};
-ghost use Rattle.sb_atoms.specs.Numbered.{AreDistinct, HaveRegexesBelow};
-ghost use Rattle.sb_trace.specs.Putting.{CountsTapeFault};
-ghost use Rattle.sb_theory.specs.Strings.{Stands};
-ghost use Rattle.sb_solve.specs.Begun.{AreAmong, HasRun, IsOver, Runs, searched_of};
-ghost use Rattle.sb_solve.specs.Searched.{IsSearched};
+ghost use Rattle.sb_solve.specs.Words.{AreDistinct, CountsTapeFault, HaveRegexesBelow, IsGraph, IsRight, Stand, Stands};
+ghost use Rattle.sb_refute.specs.Backing.{IsLowestEmpty};
+ghost use Rattle.sb_solve.specs.Searched.{AreAmong, AreTaken, HasCore, HasModel, IsDone, IsNumbered, Runs, backing_in};
 ghost use Rattle.sb_solve.specs.Wanted.{AreWanted};
 
+use crate::check::Solved;
 use crate::gather::wanted;
+use crate::model::{Values, model};
+use sb_atoms::Atoms;
 use sb_clauses::Engine;
 use sb_graph::Graph;
 use sb_lit::{Budget, Lit};
 use sb_plain::Plain;
 use sb_proof::{Tape, TapeFault};
-use sb_refute::{Asserted, EmptyClause, Parts};
+use sb_refute::{Asserted, EmptyClause, Evidence, Parts};
 use sb_regex::Arena;
 use sb_search::{Found, search};
+use sb_stack::Stack;
 use sb_theory::{Strings, WantedAtoms};
-use sb_word::Word;
 use std::alloc::{AllocError, Global};
-
-/// All that a search goes over.
-#[derive(Drop)]
-pub(crate) struct Tables {
-    pub parts: Parts,
-    pub arena: Arena,
-    pub graph: Graph,
-    pub plain: Plain,
-}
-
-/// What a search leaves: what it found, and all that it went over.
-#[derive(Drop)]
-pub(crate) struct Searched {
-    pub found: Found,
-    pub arena: Arena,
-    pub graph: Graph,
-    pub plain: Plain,
-    pub parts: Parts,
-    /// The atoms that were to have values.
-    pub wanted: WantedAtoms,
-    /// By serial the words that agree with the trail of a `Sat`.
-    pub words: Vec<Option<Word>>,
-}
+use std::mem;
 
 /// The theory and the clauses that a search goes over, and what it leaves as it is.
 #[derive(Drop)]
-pub(crate) struct Begun {
+pub(crate) struct Tables {
     pub strings: Strings,
     pub engine: Engine,
     pub asserted: Vec<Option<Asserted>>,
     pub refuted: Option<EmptyClause>,
     pub gates: usize,
+    /// So many clauses were kept before it.
+    pub before: usize,
 }
 
-/// Searches for values of the atoms that these literals speak of, over the clauses of a proof. Where `proves` is false no
-/// lines are put for lemmas and regexes.
-pub(crate) fn search_parts<L: Tape>(
+/// Searches for values of the atoms that these literals speak of, over the clauses of the evidence. Where `proves` is
+/// false no lines are put for lemmas and regexes. After an error the evidence and the tables may be empty.
+pub(crate) fn search_for<L: Tape>(
     alloc: Global,
-    tables: Tables,
+    evidence: &mut Evidence,
+    arena: &mut Arena,
+    graph: &mut Graph,
+    plain: &mut Plain,
+    stack: &Stack,
     literals: &[Lit],
     proves: bool,
     tape: &mut L,
     budget: &mut Budget,
-) -> Result<Searched, TapeFault>
-    requires graph { IsGraph tables.arena tables.graph }
-    requires plain { IsRight tables.arena tables.plain }
-    requires regexes { HaveRegexesBelow (length tables.arena) tables.parts.atoms }
-    requires trail { tables.parts.engine.trail.literals ≡ [] }
-    requires known { has_room_for (length tables.parts.atoms) tables.parts.engine.kept ≡ true }
-    ensures searched { IfOk result (IsSearched tables.arena tables.graph.memo tables.parts literals.now proves
-        budget.old budget.new (L.Tape.told tape.old) (L.Tape.told tape.new)) }
+) -> Result<Solved, TapeFault>
+    requires graph { IsGraph arena.old graph.old }
+    requires plain { IsRight arena.old plain.old }
+    requires regexes { HaveRegexesBelow (length arena.old) evidence.old.atoms }
+    ensures done { IfOk result (IsDone stack.now literals.now proves arena.old graph.old.memo evidence.old budget.old
+        (L.Tape.told tape.old) arena.new graph.new plain.new evidence.new budget.new (L.Tape.told tape.new)) }
     ensures counts { CountsTapeFault result (L.Tape.faults tape.old) (L.Tape.faults tape.new) }
 {
-    match wanted_of(alloc, &tables.parts, literals) {
-        Ok(wanted) => run_over(alloc, over(alloc, tables, wanted, proves), tape, budget),
-        Err(error) => {
-            drop(tables);
-            Err(TapeFault::from(error))
+    let wanted = wanted_of(alloc, evidence.atoms(), literals)?;
+    let mut tables = taken(alloc, evidence, arena, graph, plain, wanted, proves);
+    match run(alloc, &mut tables, stack, tape, budget) {
+        Ok(solved) => {
+            put_back(tables, evidence, arena, graph, plain);
+            Ok(numbered(solved, evidence))
         }
-    }
-}
-
-/// The atoms that these literals speak of.
-fn wanted_of(alloc: Global, parts: &Parts, literals: &[Lit]) -> Result<WantedAtoms, AllocError>
-    ensures distinct { AreDistinct parts.now.atoms }
-    ensures wanted { IfOk result (λ found. AreWanted parts.now.atoms literals.now found) }
-    ensures among { IfOk result (λ found. AreAmong parts.now.atoms literals.now found) }
-{
-    parts.atoms.atoms_each_once();
-    let atoms = wanted(alloc, &parts.atoms, literals)?;
-    WantedAtoms::of(alloc, atoms)
-}
-
-/// The search from its beginning to its end.
-fn run_over<L: Tape>(
-    alloc: Global,
-    begun: Begun,
-    tape: &mut L,
-    budget: &mut Budget,
-) -> Result<Searched, TapeFault>
-    requires stands { Stands begun.strings [] }
-    requires trail { begun.engine.trail.literals ≡ [] }
-    requires known { has_room_for (length begun.strings.atoms) begun.engine.kept ≡ true }
-    ensures runs { IfOk result (HasRun begun budget.old budget.new (L.Tape.told tape.old) (L.Tape.told tape.new)) }
-    ensures counts { CountsTapeFault result (L.Tape.faults tape.old) (L.Tape.faults tape.new) }
-{
-    let mut begun = begun;
-    match run(alloc, &mut begun, tape, budget) {
-        Ok(found) => Ok(together(begun, found)),
         Err(fault) => {
-            drop(begun);
+            drop(tables);
             Err(fault)
         }
     }
 }
 
-/// The theory over these tables, beside the clauses. `proves` says whether it puts lines.
-fn over(alloc: Global, tables: Tables, wanted: WantedAtoms, proves: bool) -> Begun
-    requires graph { IsGraph tables.arena tables.graph }
-    requires plain { IsRight tables.arena tables.plain }
-    requires regexes { HaveRegexesBelow (length tables.arena) tables.parts.atoms }
-    ensures { IsOver tables.arena tables.graph tables.parts wanted proves result }
+/// The atoms that these literals speak of.
+fn wanted_of(alloc: Global, atoms: &Atoms, literals: &[Lit]) -> Result<WantedAtoms, AllocError>
+    ensures distinct { AreDistinct atoms.now }
+    ensures wanted { IfOk result (λ found. AreWanted atoms.now literals.now found) }
+    ensures among { IfOk result (λ found. AreAmong atoms.now literals.now found) }
 {
-    let Tables {
-        parts,
-        arena,
-        graph,
-        plain,
-    } = tables;
+    atoms.atoms_each_once();
+    let found = wanted(alloc, atoms, literals)?;
+    WantedAtoms::of(alloc, found)
+}
+
+/// Takes the evidence and the tables out of their places, where empty ones are left.
+fn taken(
+    alloc: Global,
+    evidence: &mut Evidence,
+    arena: &mut Arena,
+    graph: &mut Graph,
+    plain: &mut Plain,
+    wanted: WantedAtoms,
+    proves: bool,
+) -> Tables
+    requires graph { IsGraph arena.old graph.old }
+    requires plain { IsRight arena.old plain.old }
+    requires regexes { HaveRegexesBelow (length arena.old) evidence.old.atoms }
+    ensures { AreTaken arena.old graph.old evidence.old wanted proves result }
+{
     let Parts {
         trace,
         atoms,
@@ -139,53 +104,102 @@ fn over(alloc: Global, tables: Tables, wanted: WantedAtoms, proves: bool) -> Beg
         asserted,
         refuted,
         gates,
-    } = parts;
+    } = mem::replace(evidence, Evidence::new(alloc)).into_parts();
+    let arena = mem::replace(arena, Arena::new(alloc));
+    let graph = mem::replace(graph, Graph::new(alloc));
+    let plain = mem::replace(plain, Plain::new(alloc));
+    let before = engine.clauses().len();
     let strings = Strings::new(alloc, arena, graph, plain, trace, atoms, proves, wanted);
-    Begun {
+    Tables {
         strings,
         engine,
         asserted,
         refuted,
         gates,
+        before,
     }
 }
 
-/// The search, which assumes nothing.
+/// The search, which assumes nothing, from its beginning to its end. The number in its answer is that of some clause
+/// without literals.
 fn run<L: Tape>(
     alloc: Global,
-    begun: &mut Begun,
+    tables: &mut Tables,
+    stack: &Stack,
     tape: &mut L,
     budget: &mut Budget,
-) -> Result<Found, TapeFault>
-    requires stands { Stands begun.old.strings [] }
-    requires trail { begun.old.engine.trail.literals ≡ [] }
-    requires known { has_room_for (length begun.old.strings.atoms) begun.old.engine.kept ≡ true }
-    ensures runs { IfOk result (Runs begun.old begun.new budget.old budget.new (L.Tape.told tape.old)
+) -> Result<Solved, TapeFault>
+    requires stands { Stands tables.old.strings [] }
+    requires trail { tables.old.engine.trail.literals ≡ [] }
+    requires known { has_room_for (length tables.old.strings.atoms) tables.old.engine.kept ≡ true }
+    ensures runs { IfOk result (Runs stack.now tables.old budget.old (L.Tape.told tape.old) tables.new budget.new
         (L.Tape.told tape.new)) }
     ensures counts { CountsTapeFault result (L.Tape.faults tape.old) (L.Tape.faults tape.new) }
 {
     let found = search(
         alloc,
-        &mut begun.strings,
-        &mut begun.engine,
+        &mut tables.strings,
+        &mut tables.engine,
         tape,
         &[],
         budget,
     )?;
-    Ok(found)
+    match found {
+        Found::Sat => {
+            let values = values_of(alloc, tables, stack)?;
+            Ok(Solved::Sat {
+                words: values.words,
+                truths: values.truths,
+            })
+        }
+        Found::Unsat(id) => Ok(Solved::Unsat(id)),
+        Found::Spent => Ok(Solved::Spent),
+    }
 }
 
-/// What was gone over, and what was found.
-fn together(begun: Begun, found: Found) -> Searched
-    ensures { result ≡ searched_of begun found }
+/// The values that the end of a search gives. The theory's words are taken.
+fn values_of(alloc: Global, tables: &mut Tables, stack: &Stack) -> Result<Values, AllocError>
+    ensures model { IfOk result
+        (λ values. HasModel stack.now tables.old values.words.items values.truths.items) }
+    ensures rest { OnOk result (tables.new
+        ≡ record tables.old { strings = record tables.old.strings { words = tables.new.strings.words } }) }
 {
-    let Begun {
+    let words = mem::replace(&mut tables.strings.words, Vec::new(alloc));
+    let values = model(
+        alloc,
+        &tables.strings.atoms,
+        tables.strings.wanted.atoms(),
+        tables.engine.trail(),
+        words,
+        stack,
+    )?;
+    Ok(values)
+}
+
+/// Puts the evidence and the tables back into their places.
+fn put_back(
+    tables: Tables,
+    evidence: &mut Evidence,
+    arena: &mut Arena,
+    graph: &mut Graph,
+    plain: &mut Plain,
+)
+    requires known { has_room_for (length tables.strings.atoms) tables.engine.kept ≡ true }
+    requires stands { Stand (record (backing_in tables) { kept = take tables.before tables.engine.kept }) }
+    ensures evidence { evidence.new ≡ record (backing_in tables) { refuted = evidence.new.refuted } }
+    ensures lowest { IsLowestEmpty tables.engine.kept evidence.new.refuted }
+    ensures arena { arena.new ≡ tables.strings.arena }
+    ensures graph { graph.new ≡ tables.strings.graph }
+    ensures plain { plain.new ≡ tables.strings.plain }
+{
+    let Tables {
         strings,
         engine,
         asserted,
         refuted,
         gates,
-    } = begun;
+        before,
+    } = tables;
     let parts = Parts {
         trace: strings.trace,
         atoms: strings.atoms,
@@ -194,13 +208,26 @@ fn together(begun: Begun, found: Found) -> Searched
         refuted,
         gates,
     };
-    Searched {
-        found,
-        arena: strings.arena,
-        graph: strings.graph,
-        plain: strings.plain,
-        parts,
-        wanted: strings.wanted,
-        words: strings.words,
+    drop(mem::replace(evidence, Evidence::from_parts(parts, before)));
+    drop(mem::replace(arena, strings.arena));
+    drop(mem::replace(graph, strings.graph));
+    drop(mem::replace(plain, strings.plain));
+}
+
+/// The answer, with the number of the evidence's empty clause.
+fn numbered(solved: Solved, evidence: &Evidence) -> Solved
+    requires core { HasCore evidence.now.kept solved }
+    requires lowest { IsLowestEmpty evidence.now.kept evidence.now.refuted }
+    ensures { IsNumbered evidence.now.refuted solved result }
+{
+    match solved {
+        Solved::Unsat(_) => {
+            let Some(empty) = evidence.refuted() else {
+                unreachable!();
+            };
+            Solved::Unsat(empty.clause)
+        }
+        Solved::Sat { words, truths } => Solved::Sat { words, truths },
+        Solved::Spent => Solved::Spent,
     }
 }

@@ -1,14 +1,7 @@
 //! The literals of live assertions.
 
 ghost use Rattle.std.specs.Prelude.{◌≡◌, ◌<◌, ◌∷◌, ◌++◌, [], true, length, IfOk, OnOk};
-ghost use Rattle.std.specs.List.{All, list_all};
-ghost use Rattle.sb_script.specs.State.{live};
-ghost use Rattle.sb_fragment.specs.Measures.{AreMeasures};
-ghost use Rattle.sb_fragment.specs.Rules.{is_decided};
-ghost use Rattle.sb_problem.specs.Known.{AreNormals};
-ghost use Rattle.sb_stack.specs.Stacked.{state_of};
-ghost use Rattle.sb_atoms.specs.Numbered.{HaveRegexesBelow};
-ghost use Rattle.sb_trace.specs.Putting.{CountsTapeFault};
+ghost use Rattle.sb_solve.specs.Words.{All, AreMeasures, AreNormals, CountsTapeFault, HaveRegexesBelow, is_decided, list_all, live, state_of};
 ghost use Rattle.sb_solve.specs.Stating.{IsAssertionAt, States, AreStated};
 
 use sb_fragment::Measures;

@@ -1,60 +1,13 @@
 -- A few literals of one constant that clash, and their clause: it is false on the trail, new, true whatever the values
 -- are, and its lines follow.
-use Rattle.std.proofs.Common.{◌≡◌, ℕ, zero, suc, ◌+◌, ◌<◌, ◌≤◌, Bool, true, false, cond, eqb, ◌||◌, ◌&&◌, if◌then◌else◌, List, [], ◌∷◌, ◌++◌, length, filter, map, take, get_or, Option, Some, None, refl, sym, ap, subst, ◌∙◌, inl, inr, arith}
-use Rattle.std.specs.List.{list_all, count_by}
-use Rattle.std.specs.List.Sorted.{IsPermutation}
-use Rattle.std.proofs.lemmas.Bool.{and_parts, and_from, false≢true, or_cases, eq-eqb}
-use Rattle.std.proofs.lemmas.Bool.Decides.{nat_tests}
-use Rattle.std.proofs.lemmas.List.Elements.{All-cons, All-nil}
-use Rattle.std.proofs.lemmas.List.Folds.{list_all-append}
-use Rattle.std.proofs.lemmas.List.Sums.{sum_by-cons, AllPass-from_list_all, list_all-from_AllPass}
-use Rattle.std.proofs.lemmas.Option.{slice_get_within, same_Some}
-use Rattle.sb_lit.specs.declared.clause.Lit.{Lit}
-use Rattle.sb_lit.specs.Budgets.{Spending}
-use Rattle.sb_lit.specs.Clauses.{negation, is_same_literal, is_among, is_false_under, is_false_clause}
-use Rattle.sb_lit.specs.Kept.{Kept}
-use Rattle.sb_lit.proofs.CallerLemmas.{is_same_literal-true, negation_twice, all_among, all_from_among}
-use Rattle.sb_lang.specs.Regex.{Regex}
-use Rattle.sb_lang.specs.Language.{language}
-use Rattle.sb_lang.specs.ConstructorLaws.{MkandKeepsLanguage}
-use Rattle.sb_trail.specs.declared.assigned.Assigned.{Assigned}
-use Rattle.sb_trail.specs.Assignments.{held, entry_of, AreDistinct}
-use Rattle.sb_trail.proofs.CallerLemmas.{cond_none}
-use Rattle.sb_clauses.specs.Propagation.{HasNoneFalse}
-use Rattle.sb_deriv.specs.Faithful.{KeepsEntries}
-use Rattle.sb_regex.specs.Numbered.{Extends}
-use Rattle.sb_rulebook.specs.Atoms.{Atom, AtomOver, clause_holds}
-use Rattle.sb_rulebook.specs.Kept.{AllKept, Asked, nothing_kept}
-use Rattle.sb_sound.specs.HintLaws.{Ascend, HasNoSubset}
-use Rattle.sb_sound.specs.MembershipLaws.{EmptyHolds, EmptyIsExact, AreEmpty, HasNone}
-use Rattle.sb_atoms.specs.Numbered.{atoms_in, HaveRegexesBelow}
-use Rattle.sb_atoms.proofs.CallerLemmas.{atoms_kept}
-use Rattle.sb_trace.specs.Putting.{IsCounted}
-use Rattle.sb_trace.specs.Tracking.{Tracks}
-use Rattle.sb_clash.specs.Literals.{IsAbout, AreAbout, asked_by, asked_by_all, AreClashing, AreFewer, AreSingle}
-use Rattle.sb_clash.specs.Denials.{Denies, with_denial}
-use Rattle.sb_clash.proofs.CallerLemmas.{in_all, about_clause, clash_clause, denied_all, list_permuted}
-use Rattle.sb_search.specs.Asking.{IsFair}
-use Rattle.sb_search.specs.Writing.{written, kept_behind}
-use Rattle.sb_search.specs.declared.theory.Checked.{Checked}
-use Rattle.sb_search.specs.declared.theory.Checked.TheVariants.{Fine, Lemma, Spent}
-use Rattle.sb_theory.specs.declared.strings.Strings.{Strings}
-use Rattle.sb_theory.specs.Memberships.{row_at, AreMembers, subject_of, is_subject, is_about, literals_about, is_atom, are_atoms, HaveAtoms, IsValid}
-use Rattle.sb_theory.specs.Wanted.{is_of_wanted, wanted_on, IsTaught}
-use Rattle.sb_theory.specs.Strings.{Holds, Writes, IsDenied, IsPaid, Answers}
-use Rattle.sb_theory.proofs.Standing.{subject_names, names_subject, about_subject, filter_passes, take_passes}
-use Rattle.sb_theory.specs.Laws.{have_more}
+use Rattle.sb_theory.proofs.Words.{[], if◌then◌else◌, inl, inr, ◌+◌, ◌||◌, ◌∙◌, ◌∷◌, ◌≡◌, ◌≤◌, Bool, List, None, Option, ap, arith, eqb, false, filter, get_or, length, map, not, refl, subst, suc, sym, take, true, zero, ℕ, AllKept, Answers, AreAbout, AreFew, AreFewer, AreSingle, Assigned, AtomOver, Checked, Fine, Frame, Grows, HaveAtoms, Holds, IsDenied, IsPaid, IsPermutation, IsTaught, IsValid, KeepsEntries, Kept, Lemma, Lit, MkandKeepsLanguage, Regex, Spending, Spent, Stands, Strings, Writes, all_among, all_from_among, and_from, and_parts, are_atoms, asked_by, asked_by_all, atoms_in, count_cons, denied_all, eq-eqb, false≢true, have_more, held, is_about, is_among, is_atom, is_denial, is_false_clause, is_false_under, is_of_wanted, is_same_literal, is_same_literal-true, kept_behind, list_all, list_permuted, literals_about, negation, negation_twice, one_if, or_cases, row_at, same_Some, slice_get_within, wanted_on, written, lt-ltb, get_or_default, All-filter, filter_passes, sum_by-filter_both, list_all-map, AllPass-from_list_all, list_all-from_AllPass, sum_by-take-le, count_by, cond_none, AreDistinct, entry_of, HasNoneFalse, nothing_kept, Ascend, HasNoSubset, AreEmpty, EmptyHolds, EmptyIsExact, HasNone, Denying, IsDenial, Ticks, sofar, with_denial, IsFair}
+use Rattle.sb_theory.proofs.Moving.{atoms_stay, taught_grows}
+use Rattle.sb_theory.proofs.Rows.{all_about, row_passes}
 
 -- How often a literal stands in a list.
 
-abbrev one_if : Bool → ℕ
-one_if b = if b then 1 else 0
-
 abbrev is_it : Lit → Lit → Bool
 is_it l m = is_same_literal m l
-
-count_cons : (p : Lit → Bool) (l : Lit) (ls : List Lit) → count_by p (l ∷ ls) ≡ one_if (p l) + count_by p ls
-count_cons p l ls = sum_by-cons (λ x. one_if (p x)) l ls
 
 counted_there : (l : Lit) (ls : List Lit) → is_among ls l ≡ true → 1 ≤ count_by (is_it l) ls
 counted_there l [] h = absurd (false≢true h)
@@ -67,8 +20,7 @@ there_counted : (l : Lit) (ls : List Lit) → 1 ≤ count_by (is_it l) ls → is
 there_counted l [] h = absurd (omega (arith, h))
 there_counted l (m ∷ ms) h = step (is_it l m) refl (there_counted l ms)
   where
-    step : (b : Bool) → is_it l m ≡ b → (1 ≤ count_by (is_it l) ms → is_among ms l ≡ true)
-        → (b || is_among ms l) ≡ true
+    step : (b : Bool) → is_it l m ≡ b → (1 ≤ count_by (is_it l) ms → is_among ms l ≡ true) → (b || is_among ms l) ≡ true
     step true e later = refl
     step false e later =
         let none : one_if (is_it l m) ≡ 0 = ap one_if e in later (omega (arith, h, count_cons (is_it l) m ms, none))
@@ -81,10 +33,7 @@ fewer_pass p few literals fewer h =
     (there_counted l literals (omega (arith, counted_there l few among, fewer l))))
 
 take_counts : (p : Lit → Bool) (n : ℕ) (ls : List Lit) → count_by p (take n ls) ≤ count_by p ls
-take_counts p zero ls = omega arith
-take_counts p (suc n) [] = omega arith
-take_counts p (suc n) (l ∷ ls) =
-    omega (arith, count_cons p l (take n ls), count_cons p l ls, take_counts p n ls)
+take_counts p n ls = sum_by-take-le (λ l. one_if (p l)) ls n
 
 pub fewer_same : (few literals : List Lit) → few ≡ literals → AreFewer few literals
 fewer_same few literals same = subst (λ (ls : List Lit). AreFewer few ls) same (λ l. omega arith)
@@ -93,85 +42,28 @@ fewer_same few literals same = subst (λ (ls : List Lit). AreFewer few ls) same 
 pub fewer_front : (few literals : List Lit) (n : ℕ) → AreFewer few (take n literals) → AreFewer few literals
 fewer_front few literals n fewer = λ l. omega (arith, fewer l, take_counts (is_it l) n literals)
 
--- Which literals are about a constant.
-
-test_subject : (x : ℕ) (o : Option ℕ) → o ≡ Some x → is_subject x o ≡ true
-test_subject x o h = ap (is_subject x) h ∙ eq-eqb x x refl
-
-all_about : (atoms : List (AtomOver ℕ)) (x : ℕ) (ls : List Lit) → list_all (is_about atoms x) ls ≡ true
-    → AreAbout atoms x ls
-all_about atoms x [] h = All-nil (IsAbout atoms x)
-all_about atoms x (l ∷ ls) h =
-    let p = and_parts (is_about atoms x l) (list_all (is_about atoms x) ls) h in
-    All-cons (IsAbout atoms x) l ls (subject_names atoms l x (about_subject atoms x l p.0))
-    (all_about atoms x ls p.1)
-
-about_all : (atoms : List (AtomOver ℕ)) (x : ℕ) (ls : List Lit) → AreAbout atoms x ls
-    → list_all (is_about atoms x) ls ≡ true
-about_all atoms x [] h = refl
-about_all atoms x (l ∷ ls) h =
-    and_from (is_about atoms x l) (list_all (is_about atoms x) ls)
-    (test_subject x (subject_of atoms l) (names_subject atoms l x (h 0 l (omega arith))))
-    (about_all atoms x ls (λ k d m. h (suc k) d (omega (arith, m))))
-
-pub fewer_about : (atoms : List (AtomOver ℕ)) (x : ℕ) (few literals : List Lit) → AreFewer few literals
-    → AreAbout atoms x literals → AreAbout atoms x few
-fewer_about atoms x few literals fewer h =
-    all_about atoms x few (fewer_pass (is_about atoms x) few literals fewer (about_all atoms x literals h))
-
--- The row of a constant.
+-- Fewer of a row's literals.
 
 filter_keeps : (p q : Lit → Bool) (ls : List Lit) → list_all q ls ≡ true → list_all q (filter p ls) ≡ true
-filter_keeps p q [] h = refl
-filter_keeps p q (l ∷ ls) h =
-    let parts = and_parts (q l) (list_all q ls) h in step (p l) parts.0 (filter_keeps p q ls parts.1)
-  where
-    step : (b : Bool) → q l ≡ true → list_all q (filter p ls) ≡ true
-        → list_all q (cond b (l ∷ filter p ls) (filter p ls)) ≡ true
-    step true here rest = and_from (q l) (list_all q (filter p ls)) here rest
-    step false here rest = rest
+filter_keeps p q ls h =
+    list_all-from_AllPass q (filter p ls) (All-filter p (λ l. q l ≡ true) ls (AllPass-from_list_all q ls h))
 
 filter_counts : (p q : Lit → Bool) (ls : List Lit) → count_by q (filter p ls) ≤ count_by q ls
-filter_counts p q [] = omega arith
-filter_counts p q (l ∷ ls) = step (p l) (filter_counts p q ls)
-  where
-    step : (b : Bool) → count_by q (filter p ls) ≤ count_by q ls
-        → count_by q (cond b (l ∷ filter p ls) (filter p ls)) ≤ count_by q (l ∷ ls)
-    step true less = omega (arith, count_cons q l (filter p ls), count_cons q l ls, less)
-    step false less = omega (arith, count_cons q l ls, less)
+filter_counts p q ls =
+    let parts : count_by q (filter p ls) + count_by q (filter (λ l. not (p l)) ls) ≡ count_by q ls =
+    sum_by-filter_both p (λ l. not (p l)) (λ l. refl) (λ l. one_if (q l)) ls in
+    omega (arith, parts)
 
-pub both_pass : (p : Lit → Bool) (ls : List Lit) (l : Lit) → list_all p ls ≡ true → p l ≡ true
-    → list_all p (ls ++ l ∷ []) ≡ true
-both_pass p ls l h k =
-    list_all-append p ls (l ∷ []) ∙ and_from (list_all p ls) (list_all p (l ∷ [])) h (and_from (p l) true k refl)
-
--- the literals of a row are about its constant
-pub row_about : (atoms : List (AtomOver ℕ)) (x : ℕ) (ls : List Lit) → AreAbout atoms x (literals_about atoms x ls)
-row_about atoms x ls = all_about atoms x (literals_about atoms x ls) (filter_passes (is_about atoms x) ls)
-
-pub front_about : (atoms : List (AtomOver ℕ)) (x n : ℕ) (ls front : List Lit)
-    → front ≡ take n (literals_about atoms x ls)
-    → AreAbout atoms x front
-front_about atoms x n ls front is =
-    subst (λ (ms : List Lit). AreAbout atoms x ms) (sym is)
-    (all_about atoms x (take n (literals_about atoms x ls))
-    (take_passes (is_about atoms x) n (literals_about atoms x ls) (filter_passes (is_about atoms x) ls)))
-
-pub front_is : (atoms : List (AtomOver ℕ)) (x n : ℕ) (rows now : List (List Lit)) (ls front : List Lit)
-    → AreMembers atoms rows ls → now ≡ rows → front ≡ take n (row_at now x)
-    → front ≡ take n (literals_about atoms x ls)
-front_is atoms x n rows now ls front members same is =
-    is ∙ ap (λ (rs : List (List Lit)). take n (row_at rs x)) same ∙ ap (take n) (members x)
-
--- of wanted atoms,
-pub row_wanted : (atoms : List (AtomOver ℕ)) (wanted : List ℕ) (x : ℕ) (entries : List Assigned)
+-- A row's literals are of wanted atoms,
+row_wanted : (atoms : List (AtomOver ℕ)) (wanted : List ℕ) (x : ℕ) (entries : List Assigned)
     → list_all (is_of_wanted wanted) (literals_about atoms x (wanted_on wanted entries)) ≡ true
 row_wanted atoms wanted x entries =
     filter_keeps (is_about atoms x) (is_of_wanted wanted) (wanted_on wanted entries)
-    (filter_passes (is_of_wanted wanted) (held entries))
+    (list_all-from_AllPass (is_of_wanted wanted) (wanted_on wanted entries)
+    (filter_passes (is_of_wanted wanted) (held entries)))
 
 -- and on the trail,
-pub row_among : (atoms : List (AtomOver ℕ)) (wanted : List ℕ) (x : ℕ) (entries : List Assigned)
+row_among : (atoms : List (AtomOver ℕ)) (wanted : List ℕ) (x : ℕ) (entries : List Assigned)
     → list_all (is_among (held entries)) (literals_about atoms x (wanted_on wanted entries)) ≡ true
 row_among atoms wanted x entries =
     filter_keeps (is_about atoms x) (is_among (held entries)) (wanted_on wanted entries)
@@ -210,7 +102,7 @@ trail_single (e ∷ es) h = λ l. step l (is_it l e.literal) refl (trail_single 
         omega (arith, count_cons (is_it l) e.literal (held es), none, few)
 
 -- each once
-pub row_single : (atoms : List (AtomOver ℕ)) (wanted : List ℕ) (x : ℕ) (entries : List Assigned)
+row_single : (atoms : List (AtomOver ℕ)) (wanted : List ℕ) (x : ℕ) (entries : List Assigned)
     → AreDistinct entries → AreSingle (literals_about atoms x (wanted_on wanted entries))
 row_single atoms wanted x entries distinct = λ l.
     omega (
@@ -230,88 +122,58 @@ false_on held (l ∷ ls) h =
     and_from (is_false_under held (negation l)) (list_all (is_false_under held) (map negation ls))
     (ap (is_among held) (negation_twice l) ∙ p.0) (false_on held ls p.1)
 
-never_clash_none : MkandKeepsLanguage → (rs : List Regex) (atoms : List (AtomOver ℕ)) (ls : List Lit) → ls ≡ []
-    → AreClashing rs atoms ls → ⊥
-never_clash_none keeps rs atoms ls none h =
-    false≢true (sym (h [] refl) ∙ ap (λ (ms : List Lit). language (asked_by_all rs atoms ms) []) none
-    ∙ in_all keeps rs atoms [] [])
-
-still_wanted : (wanted : List ℕ) (ls : List Lit) → list_all (is_of_wanted wanted) ls ≡ true
-    → list_all (is_of_wanted wanted) (map negation ls) ≡ true
-still_wanted wanted [] h = refl
-still_wanted wanted (l ∷ ls) h =
-    let p = and_parts (is_of_wanted wanted l) (list_all (is_of_wanted wanted) ls) h in
-    and_from (is_of_wanted wanted (negation l)) (list_all (is_of_wanted wanted) (map negation ls)) p.0
-    (still_wanted wanted ls p.1)
-
-pub denied_on : MkandKeepsLanguage → (rs : List Regex) (atoms : List (AtomOver ℕ)) (wanted : List ℕ)
-    (entries : List Assigned) (x : ℕ) (literals few clause : List Lit) → AreFewer few literals
-    → AreAbout atoms x literals → list_all (is_of_wanted wanted) literals ≡ true
-    → list_all (is_among (held entries)) literals ≡ true → AreClashing rs atoms few → Ascend clause
-    → IsPermutation (map negation few) clause → IsDenied rs atoms wanted entries x clause
-denied_on keeps rs atoms wanted entries x literals few clause fewer about asked among clash ascend perm =
-    let clashes = clash_clause keeps rs atoms few clause perm clash in
-    record {
-      asked = list_permuted (is_of_wanted wanted) (map negation few) clause perm
-          (still_wanted wanted few (fewer_pass (is_of_wanted wanted) few literals fewer asked));
-      about = about_clause atoms x few clause (fewer_about atoms x few literals fewer about) perm;
-      clash = clashes;
-      some = λ none. never_clash_none keeps rs atoms (map negation clause) (ap (map negation) none) clashes;
-      ascend = ascend;
-      is_false = list_permuted (is_false_under (held entries)) (map negation few) clause perm
-          (false_on (held entries) few (fewer_pass (is_among (held entries)) few literals fewer among));
-    }
-
 row_is : (x : Strings) (entries : List Assigned) (constant : ℕ) → Holds x → x.taken.items ≡ entries
     → row_at x.members.items constant ≡ literals_about x.atoms constant (wanted_on x.wanted entries)
 row_is x entries constant h taken =
-    h.members constant ∙ ap (λ (es : List Assigned). literals_about x.atoms constant (wanted_on x.wanted es)) taken
+    h.rows.members constant
+    ∙ ap (λ (es : List Assigned). literals_about x.atoms constant (wanted_on x.wanted es)) taken
 
--- of a few literals of a row
+-- the clause of a few literals of a row
 pub denied_row : MkandKeepsLanguage → (x : Strings) (entries : List Assigned) (constant : ℕ) (few clause : List Lit)
-    → Holds x → x.taken.items ≡ entries → AreFewer few (row_at x.members.items constant)
-    → AreClashing x.arena x.atoms few → Ascend clause → IsPermutation (map negation few) clause
-    → IsDenied x.arena x.atoms x.wanted entries constant clause
-denied_row keeps x entries constant few clause h taken fewer clash ascend perm =
-    denied_on keeps x.arena x.atoms x.wanted entries constant
-    (literals_about x.atoms constant (wanted_on x.wanted entries)) few clause
-    (subst (λ (ls : List Lit). AreFewer few ls) (row_is x entries constant h taken) fewer)
-    (row_about x.atoms constant (wanted_on x.wanted entries)) (row_wanted x.atoms x.wanted constant entries)
-    (row_among x.atoms x.wanted constant entries) clash ascend perm
+    → AreFew x constant few → x.taken.items ≡ entries → Ascend clause → IsPermutation (map negation few) clause
+    → IsDenied x entries constant clause
+denied_row keeps x entries constant few clause h taken ascend perm =
+    let row = row_is x entries constant h.holds taken in
+    let pass = λ (p : Lit → Bool) (all : list_all p (literals_about x.atoms constant (wanted_on x.wanted entries)) ≡ true).
+    fewer_pass p few (row_at x.members.items constant) h.fewer (ap (list_all p) row ∙ all) in
+    record {
+      denial = is_denial keeps x.arena x.atoms constant few clause
+          (all_about x.atoms constant few (fewer_pass (is_about x.atoms constant) few (row_at x.members.items constant)
+          h.fewer (row_passes x.atoms constant x.members.items (wanted_on x.wanted x.taken.items) h.holds.rows.members)))
+          h.clash ascend perm;
+      asked = list_permuted (is_of_wanted x.wanted) (map negation few) clause perm
+          (list_all-map (is_of_wanted x.wanted) negation few
+          ∙ pass (is_of_wanted x.wanted) (row_wanted x.atoms x.wanted constant entries));
+      is_false = list_permuted (is_false_under (held entries)) (map negation few) clause perm
+          (false_on (held entries) few (pass (is_among (held entries)) (row_among x.atoms x.wanted constant entries)));
+    }
 
-pub few_single : (x : Strings) (entries : List Assigned) (constant : ℕ) (few : List Lit) → Holds x
-    → x.taken.items ≡ entries → AreDistinct entries → AreFewer few (row_at x.members.items constant) → AreSingle few
-few_single x entries constant few h taken distinct fewer = λ l.
+pub few_single : (x : Strings) (entries : List Assigned) (constant : ℕ) (few : List Lit) → AreFew x constant few
+    → x.taken.items ≡ entries → AreDistinct entries → AreSingle few
+few_single x entries constant few h taken distinct = λ l.
     omega (
       arith,
-      subst (λ (ls : List Lit). AreFewer few ls) (row_is x entries constant h taken) fewer l,
+      subst (λ (ls : List Lit). AreFewer few ls) (row_is x entries constant h.holds taken) h.fewer l,
       row_single x.atoms x.wanted constant entries distinct l,
     )
 
 -- It is new,
-pub no_subset : (kept : Kept) (held clause : List Lit) → HasNoneFalse kept held → is_false_clause held clause ≡ true
+no_subset : (kept : Kept) (held clause : List Lit) → HasNoneFalse kept held → is_false_clause held clause ≡ true
     → HasNoSubset kept clause
 no_subset kept held clause none_false is_false = λ id other there subset.
     false≢true (sym (none_false id other there)
     ∙ list_all-from_AllPass (is_false_under held) other.literals (λ k d within.
-    let found = subset (get_or other.literals k d) (k, within, at other.literals k d within) in
+    let l = get_or other.literals k d in
+    let found = subset l (k, within, get_or_default other.literals k l d within) in
     ap (is_false_under held) (sym found.2)
-    ∙ AllPass-from_list_all (is_false_under held) clause is_false found.0 (get_or other.literals k d) found.1))
-  where
-    at : (ls : List Lit) (k : ℕ) (d : Lit) → k < length ls → get_or ls k (get_or ls k d) ≡ get_or ls k d
-    at [] k d within = absurd (omega (arith, within))
-    at (l ∷ ls) zero d within = refl
-    at (l ∷ ls) (suc k) d within = at ls k d (omega (arith, within))
+    ∙ AllPass-from_list_all (is_false_under held) clause is_false found.0 l found.1))
 
 -- of known atoms,
 about_atoms : (atoms : List (AtomOver ℕ)) (x : ℕ) (ls : List Lit) → AreAbout atoms x ls → are_atoms atoms ls ≡ true
-about_atoms atoms x [] h = refl
-about_atoms atoms x (l ∷ ls) h =
-    and_from (is_atom atoms l.atom) (are_atoms atoms ls) (here (h 0 l (omega arith)))
-    (about_atoms atoms x ls (λ k d m. h (suc k) d (omega (arith, m))))
-  where
-    here : IsAbout atoms x l → is_atom atoms l.atom ≡ true
-    here a = let low = slice_get_within atoms l.atom _ a.names in grind (arith, nat_tests, low)
+about_atoms atoms x ls h =
+    list_all-from_AllPass (λ l. is_atom atoms l.atom) ls (λ k d within.
+    lt-ltb (get_or ls k d).atom (length atoms)
+    (slice_get_within atoms (get_or ls k d).atom _ (h k d within).names))
 
 -- and true.
 
@@ -322,11 +184,10 @@ only_dead : (r : Regex) → HasNone r → AreEmpty (r ∷ []) (true ∷ [])
 only_dead r h zero s marked there = subst HasNone (same_Some r s there) h
 only_dead r h (suc n) s marked there = absurd (Prim.cc (there))
 
-pub is_valid : EmptyHolds → EmptyIsExact → (rs : List Regex) (atoms : List (AtomOver ℕ)) (wanted : List ℕ)
-    (entries : List Assigned) (x : ℕ) (clause : List Lit) → IsDenied rs atoms wanted entries x clause
-    → IsValid rs atoms clause
+is_valid : EmptyHolds → EmptyIsExact → (rs : List Regex) (atoms : List (AtomOver ℕ)) (x : ℕ) (clause : List Lit)
+    → IsDenial rs atoms x clause → IsValid rs atoms clause
 unfolding all_kept
-is_valid holds exact rs atoms wanted entries x clause d = λ v words.
+is_valid holds exact rs atoms x clause d = λ v words.
     let r = asked_by_all rs atoms (map negation clause) in
     holds v (all_kept rs atoms r) clause words (only_dead r d.clash)
     ((exact (all_kept rs atoms r) clause).1 (record {
@@ -344,69 +205,53 @@ is_valid holds exact rs atoms wanted entries x clause d = λ v words.
 abbrev pub answer_of : Bool → List Lit → Checked
 answer_of done clause = if done then Lemma clause else Spent
 
-pub never_fine : (clause : List Lit) (done : Bool) (answer : Checked) → answer ≡ answer_of done clause → answer ≡ Fine
-    → ⊥
-never_fine clause true answer is fine = absurd (other clause (sym is ∙ fine))
-  where
-    other : (clause : List Lit) → Lemma clause ≡ Fine → ⊥
-    other clause h = absurd (Prim.cc (h))
-never_fine clause false answer is fine = absurd (other (sym is ∙ fine))
-  where
-    other : Spent ≡ Fine → ⊥
-    other h = absurd (Prim.cc (h))
+never_fine : (clause : List Lit) (done : Bool) → answer_of done clause ≡ Fine → ⊥
+never_fine clause true fine = absurd (Prim.cc (fine))
+never_fine clause false fine = absurd (Prim.cc (fine))
 
-fair_answer : (atoms now : List (AtomOver ℕ)) (wanted : List ℕ) (rs more : List Regex) (entries : List Assigned)
-    (x : ℕ) (clause : List Lit) (done : Bool) → now ≡ atoms → Extends rs more → HaveRegexesBelow (length rs) atoms
-    → IsDenied rs atoms wanted entries x clause → IsValid rs atoms clause
-    → IsFair (λ atom. is_atom now atom ≡ true) (IsTaught more now wanted) entries (answer_of done clause)
-fair_answer atoms now wanted rs more entries x clause true same e below d valid = (
-  λ l among. ap (λ (ts : List (AtomOver ℕ)). is_atom ts l.atom) same
-      ∙ all_among (λ m. is_atom atoms m.atom) clause l (about_atoms atoms x clause d.about) among,
-  (
-    d.asked,
-    λ v words. ap (λ (table : List Atom). clause_holds v table clause)
-        (ap (atoms_in more) same ∙ atoms_kept rs more atoms e below) ∙ valid v words,
-  ),
+fair_answer : {x y : Strings} (entries : List Assigned) (constant : ℕ) (clause : List Lit) (done : Bool) → Grows x y
+    → IsDenied x entries constant clause → IsValid x.arena x.atoms clause
+    → IsFair (λ atom. is_atom y.atoms atom ≡ true) (IsTaught y.arena y.atoms y.wanted) entries (answer_of done clause)
+fair_answer {x} {y} entries constant clause true g d valid = (
+  λ l among. ap (λ (ts : List (AtomOver ℕ)). is_atom ts l.atom) (atoms_stay g)
+      ∙ all_among (λ m. is_atom x.atoms m.atom) clause l (about_atoms x.atoms constant clause d.denial.about) among,
+  taught_grows g clause (d.asked, valid),
 )
-fair_answer atoms now wanted rs more entries x clause false same e below d valid = tt
+fair_answer entries constant clause false g d valid = tt
 
-paid_answer : (before after : Spending) (clause : List Lit) (done : Bool)
-    → (done ≡ true → before.spent < after.spent) → (done ≡ false → after.spent ≡ after.limit)
+paid_answer : {before after : Spending} (clause : List Lit) (done : Bool) → Ticks before after done
     → IsPaid before after (answer_of done clause)
-paid_answer before after clause true ticks spent = ticks refl
-paid_answer before after clause false ticks spent = spent refl
+paid_answer clause true h = h.more refl
+paid_answer clause false h = h.spent refl
 
 kept_answer : (kept : Kept) (clause : List Lit) (done : Bool)
     → kept_behind kept (answer_of done clause) ≡ (if done then with_denial kept clause else kept)
 kept_answer kept clause true = refl
 kept_answer kept clause false = refl
 
-have_answer : (atoms : List (AtomOver ℕ)) (kept : Kept) (clause : List Lit) (done : Bool) → HaveAtoms atoms kept
-    → are_atoms atoms clause ≡ true → HaveAtoms atoms (if done then with_denial kept clause else kept)
-have_answer atoms kept clause true h new = have_more atoms kept clause 0 h new
-have_answer atoms kept clause false h new = h
-
-have_behind : (x y : Strings) (kept : Kept) (clause : List Lit) (done : Bool) → y.atoms ≡ x.atoms
+have_behind : {x y : Strings} (kept : Kept) (clause : List Lit) (done : Bool) → Grows x y
     → are_atoms x.atoms clause ≡ true → HaveAtoms x.atoms kept
     → HaveAtoms y.atoms (kept_behind kept (answer_of done clause))
-have_behind x y kept clause done atoms known h =
-    subst (λ (ts : List (AtomOver ℕ)). HaveAtoms ts (kept_behind kept (answer_of done clause))) (sym atoms)
-    (subst (HaveAtoms x.atoms) (sym (kept_answer kept clause done)) (have_answer x.atoms kept clause done h known))
+have_behind {x} {y} kept clause done g known h =
+    subst (λ (ts : List (AtomOver ℕ)). HaveAtoms ts (kept_behind kept (answer_of done clause))) (sym (atoms_stay g))
+    (step done)
+  where
+    step : (done : Bool) → HaveAtoms x.atoms (kept_behind kept (answer_of done clause))
+    step true = have_more x.atoms kept clause 0 h known
+    step false = h
 
-writes_answer : (x y : Strings) (kept : Kept) (clause : List Lit) (done : Bool) (before after : Spending)
-    (old new : Option (List ℕ)) → y.atoms ≡ x.atoms → y.proves ≡ x.proves → Extends x.arena y.arena
-    → KeepsEntries x.graph.memo y.graph.memo → are_atoms x.atoms clause ≡ true → HasNoSubset kept clause
-    → (x.proves ≡ false → y.trace ≡ x.trace)
-    → (x.proves ≡ true → (asked : Asked) (k : AllKept) → Tracks x.arena x.graph.memo x.trace k
-    → k.atoms ≡ atoms_in x.arena x.atoms → HasNoSubset k.clauses clause → IsCounted asked k before
-    → Denies asked k y.arena y.graph.memo y.trace x.atoms clause done after old new)
+writes_answer : {x y : Strings} (kept : Kept) (clause : List Lit) (done : Bool) (before after : Spending)
+    (old new : Option (List ℕ)) → Grows x y → KeepsEntries x.graph.memo y.graph.memo → are_atoms x.atoms clause ≡ true
+    → HasNoSubset kept clause → (x.proves ≡ false → y.trace ≡ x.trace)
+    → (x.proves ≡ true → Denying (sofar x.arena x.graph x.trace before old) (sofar y.arena y.graph y.trace after new)
+    x.atoms clause done)
     → Writes x y (written kept before old) (written (kept_behind kept (answer_of done clause)) after new)
-writes_answer x y kept clause done before after old new atoms proves e keeps known fresh silent puts = record {
-  atoms = atoms;
-  proves = proves;
-  extends = e;
+writes_answer {x} {y} kept clause done before after old new g keeps known fresh silent puts = record {
+  atoms = atoms_stay g;
+  proves = ap (λ (f : Frame). f.proves) g.frame;
+  extends = g.extends;
   derivatives = keeps;
-  known = have_behind x y kept clause done atoms known;
+  known = have_behind kept clause done g known;
   silent = silent;
   lines = λ on asked k b.
       let d = puts on asked k b.tracks b.atoms (subst (λ (ks : Kept). HasNoSubset ks clause) (sym b.clauses) fresh)
@@ -415,35 +260,33 @@ writes_answer x y kept clause done before after old new atoms proves e keeps kno
         d.puts,
         record {
           tracks = d.tracks;
-          atoms = d.atoms_stay ∙ ap (atoms_in y.arena) (sym atoms);
+          atoms = d.atoms_stay ∙ ap (atoms_in y.arena) (sym (atoms_stay g));
           clauses = d.clauses ∙ ap (λ (ks : Kept). if done then with_denial ks clause else ks) b.clauses
               ∙ sym (kept_answer kept clause done);
-          known = have_behind x y kept clause done atoms known b.known;
+          known = have_behind kept clause done g known b.known;
           counted = d.counts;
         },
       );
 }
 
-pub answers_denied : EmptyHolds → EmptyIsExact → (x y : Strings) (entries : List Assigned) (constant : ℕ)
-    (clause : List Lit) (done : Bool) (before after : Spending) (old new : Option (List ℕ)) → y.atoms ≡ x.atoms
-    → y.proves ≡ x.proves → y.wanted ≡ x.wanted → Extends x.arena y.arena → KeepsEntries x.graph.memo y.graph.memo
-    → HaveRegexesBelow (length x.arena) x.atoms → IsDenied x.arena x.atoms x.wanted entries constant clause
-    → (done ≡ true → before.spent < after.spent) → (done ≡ false → after.spent ≡ after.limit)
+pub answers_denied : EmptyHolds → EmptyIsExact → {x y : Strings} {entries : List Assigned} {before after : Spending}
+    (constant : ℕ) (clause : List Lit) (done : Bool) (answer : Checked) (old new : Option (List ℕ))
+    → answer ≡ answer_of done clause → IsDenied x entries constant clause → Grows x y
+    → KeepsEntries x.graph.memo y.graph.memo → Stands y entries → Ticks before after done
     → (x.proves ≡ false → y.trace ≡ x.trace)
-    → (x.proves ≡ true → (asked : Asked) (k : AllKept) → Tracks x.arena x.graph.memo x.trace k
-    → k.atoms ≡ atoms_in x.arena x.atoms → HasNoSubset k.clauses clause → IsCounted asked k before
-    → Denies asked k y.arena y.graph.memo y.trace x.atoms clause done after old new)
-    → Answers x y entries before after old new (answer_of done clause)
-answers_denied holds exact x y entries constant clause done before after old new atoms proves same_wanted e keeps below d
-    ticks spent silent puts =
-    record {
-      fair = subst (λ (ns : List ℕ). IsFair (λ atom. is_atom y.atoms atom ≡ true) (IsTaught y.arena y.atoms ns) entries
-          (answer_of done clause)) (sym same_wanted)
-          (fair_answer x.atoms y.atoms x.wanted x.arena y.arena entries constant clause done atoms e below d
-          (is_valid holds exact x.arena x.atoms x.wanted entries constant clause d));
-      paid = paid_answer before after clause done ticks spent;
+    → (x.proves ≡ true → Denying (sofar x.arena x.graph x.trace before old) (sofar y.arena y.graph y.trace after new)
+    x.atoms clause done)
+    → Answers x y entries before after old new answer
+answers_denied holds exact {x} {y} {entries} {before} {after} constant clause done answer old new is d g keeps stands
+    ticks silent puts =
+    subst (λ (a : Checked). Answers x y entries before after old new a) (sym is) (record {
+      stands = stands;
+      agrees = λ fine. absurd (never_fine clause done fine);
+      fair = fair_answer entries constant clause done g d
+          (is_valid holds exact x.arena x.atoms constant clause d.denial);
+      paid = paid_answer clause done ticks;
       writes = λ kept none_false.
-          writes_answer x y kept clause done before after old new atoms proves e keeps
-          (about_atoms x.atoms constant clause d.about)
+          writes_answer kept clause done before after old new g keeps
+          (about_atoms x.atoms constant clause d.denial.about)
           (no_subset kept (held entries) clause none_false d.is_false) silent puts;
-    }
+    })

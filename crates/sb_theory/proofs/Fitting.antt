@@ -1,50 +1,87 @@
 -- How much of each row is known to be true of the words, as literals come and words are put.
-use Rattle.std.proofs.Common.{◌≡◌, ℕ, ◌+◌, ◌-◌, ◌<◌, ◌≤◌, Bool, true, false, not, cond, nat_eq, if◌then◌else◌, List, [], ◌∷◌, ◌++◌, length, filter, take, get_or, Option, Some, None, refl, sym, ap, subst, ◌∙◌, arith}
-use Rattle.std.specs.List.{list_all}
-use Rattle.std.proofs.lemmas.Bool.{and_parts, and_from, false≢true, eqb-true, eq-eqb}
-use Rattle.std.proofs.lemmas.List.{length-append, take_all, take_at, take_more, take-append-le}
-use Rattle.std.proofs.lemmas.List.Folds.{list_all-append}
-use Rattle.sb_lit.specs.declared.clause.Lit.{Lit}
-use Rattle.sb_lang.specs.Regex.{Regex}
-use Rattle.sb_lang.specs.Language.{language}
-use Rattle.sb_lang.specs.Constructors.{mknot}
-use Rattle.sb_lang.specs.ConstructorLaws.{MkandKeepsLanguage, MknotKeepsLanguage}
-use Rattle.sb_term.specs.declared.term.Serial.{Serial}
-use Rattle.sb_trail.specs.declared.assigned.Assigned.{Assigned}
-use Rattle.sb_regex.specs.Numbered.{regex_at}
-use Rattle.sb_rulebook.specs.Atoms.{AtomOver, bool_atom}
-use Rattle.sb_clash.specs.Literals.{number_in, asked_by, asked_by_all}
-use Rattle.sb_clash.proofs.CallerLemmas.{in_all}
-use Rattle.sb_theory.specs.declared.strings.Strings.{Strings}
-use Rattle.sb_theory.specs.Memberships.{subject_of, is_subject, is_about, literals_about, word_at, is_true_of, fits_subject, is_true_by, IsPut}
-use Rattle.sb_theory.specs.Wanted.{is_of_wanted, wanted_of, wanted_on}
-use Rattle.sb_theory.specs.Fronts.{number_at, IsSet, Rises, is_in, AreFitting, IsNoted}
-use Rattle.sb_theory.specs.Strings.{Holds, Agrees}
-use Rattle.sb_theory.proofs.Standing.{names_subject}
-use Rattle.sb_theory.proofs.Rows.{row_other, row_more, row_passed, about_one, not_about, one_wanted}
-use Rattle.sb_theory.proofs.Denied.{row_about, both_pass}
+use Rattle.sb_theory.proofs.Words.{[], if◌then◌else◌, ◌++◌, ◌+◌, ◌-◌, ◌<◌, ◌∙◌, ◌∷◌, ◌≡◌, ◌≤◌, Bool, List, None, Option, Some, ap, arith, cond, false, filter, get_or, length, nat_eq, not, option_and_then, refl, subst, suc, sym, take, true, zero, ℕ, Agrees, All-take, AreAbout, AreFitting, AreMembers, AreRows, Assigned, AtomOver, Extends, HaveRegexesBelow, Holds, IsAbout, IsAdded, IsNoted, IsPut, IsSet, IsWhole, Lit, MkandKeepsLanguage, MknotKeepsLanguage, Names, Regex, Rises, Serial, Strings, and_from, and_parts, asked_by, asked_by_all, at_kept, bool_atom, constant_of, constant_piece, eq-eqb, eqb-true, false≢true, filter-append, fits_subject, get_or_from_slice_get, in_all, in_atom, is_about, is_front_true, is_in, is_subject, is_true_by, is_true_of, is_wanted, length-append, list_all, literals_about, number_at, number_in, regex_at, regex_below, row_at, subject_of, take-append-le, take_all, take_at, take_more, wanted_of, wanted_on, word_at, beq, all_push, mknot, language}
+use Rattle.sb_theory.proofs.Rows.{members_added, members_passed, put_at, put_off, row_about}
+
+-- The word of a constant, tried.
+
+sign_is : (s b : Bool) → beq b s ≡ (if s then b else not b)
+sign_is true true = refl
+sign_is true false = refl
+sign_is false true = refl
+sign_is false false = refl
+
+pub true_by_word : (rs : List Regex) (atoms : List (AtomOver ℕ)) (words : List (Option (List ℕ))) (l : Lit) (x r : ℕ)
+    (b : Bool) → Names atoms l.atom (in_atom (constant_piece x ∷ []) r)
+    → b ≡ language (regex_at rs r) (word_at words x) → beq b l.positive ≡ is_true_by rs atoms words l
+true_by_word rs atoms words l x r b names is =
+    sign_is l.positive b
+    ∙ ap (λ c. if l.positive then c else not c) is
+    ∙ sym (ap (λ n. if l.positive then language (regex_at rs n) (word_at words x)
+    else not (language (regex_at rs n) (word_at words x)))
+    (ap number_in (get_or_from_slice_get atoms l.atom (in_atom (constant_piece x ∷ []) r) (bool_atom 0) names)))
+    ∙ sym (ap (λ (o : Option ℕ). fits_subject rs atoms words l o) (ap (option_and_then constant_of) names))
 
 -- What a literal asks for is where it is true.
 
-by_sign : MknotKeepsLanguage → (b : Bool) (r : Regex) (w : List ℕ)
-    → language (if b then r else mknot r) w ≡ (if b then language r w else not (language r w))
-unfolding language
-by_sign keeps true r w = refl
-by_sign keeps false r w = keeps r w
-
 asked_holds : MknotKeepsLanguage → (rs : List Regex) (atoms : List (AtomOver ℕ)) (w : List ℕ) (l : Lit)
     → language (asked_by rs atoms l) w ≡ is_true_of rs atoms w l
-asked_holds keeps rs atoms w l = by_sign keeps l.positive (regex_at rs (number_in (get_or atoms l.atom (bool_atom 0)))) w
-
-same_tests : (p q : Lit → Bool) (ls : List Lit) → ((l : Lit) → p l ≡ q l) → list_all p ls ≡ list_all q ls
-same_tests p q [] same = refl
-same_tests p q (l ∷ ls) same = rw (same l, same_tests p q ls same) refl
+unfolding language
+asked_holds keeps rs atoms w l = by_sign l.positive (regex_at rs (number_in (get_or atoms l.atom (bool_atom 0))))
+  where
+    by_sign : (b : Bool) (r : Regex)
+        → language (if b then r else mknot r) w ≡ (if b then language r w else not (language r w))
+    by_sign true r = refl
+    by_sign false r = keeps r w
 
 all_of_word : MkandKeepsLanguage → MknotKeepsLanguage → (rs : List Regex) (atoms : List (AtomOver ℕ))
     (ls : List Lit) (w : List ℕ) → language (asked_by_all rs atoms ls) w ≡ list_all (is_true_of rs atoms w) ls
-all_of_word keeps negates rs atoms ls w =
-    in_all keeps rs atoms ls w
-    ∙ same_tests (λ l. language (asked_by rs atoms l) w) (is_true_of rs atoms w) ls (asked_holds negates rs atoms w)
+all_of_word keeps negates rs atoms ls w = in_all keeps rs atoms ls w ∙ same ls
+  where
+    same : (ls : List Lit) → list_all (λ l. language (asked_by rs atoms l) w) ls ≡ list_all (is_true_of rs atoms w) ls
+    same [] = refl
+    same (l ∷ ls) = rw (asked_holds negates rs atoms w l, same ls) refl
+
+-- Where the arena grows.
+
+true_grown : (rs more : List Regex) (atoms : List (AtomOver ℕ)) (w : List ℕ) (x : ℕ) (ls : List Lit)
+    → Extends rs more → HaveRegexesBelow (length rs) atoms → AreAbout atoms x ls
+    → list_all (is_true_of more atoms w) ls ≡ list_all (is_true_of rs atoms w) ls
+true_grown rs more atoms w x [] e below about = refl
+true_grown rs more atoms w x (l ∷ ls) e below about =
+    let here : is_true_of more atoms w l ≡ is_true_of rs atoms w l =
+    ap (λ (r : Regex). if l.positive then language r w else not (language r w))
+    (at_kept rs more (number_in (get_or atoms l.atom (bool_atom 0))) e
+    (regex_below (length rs) atoms x l below (about 0 l (omega arith)))) in
+    rw (here, true_grown rs more atoms w x ls e below (λ k d m. about (suc k) d (omega (arith, m)))) refl
+
+pub rows_grown : {rs more : List Regex} {atoms : List (AtomOver ℕ)} {words : List (Option (List ℕ))}
+    {rows : List (List Lit)} {fitting : List ℕ} {changed : List Serial} {ls : List Lit} → Extends rs more
+    → HaveRegexesBelow (length rs) atoms → AreRows rs atoms words rows fitting changed ls
+    → AreRows more atoms words rows fitting changed ls
+rows_grown {rs} {more} {atoms} {words} {rows} {fitting} {ls = ls} e below h = record {
+  members = h.members;
+  fit = record {
+    front = λ x. true_grown rs more atoms (word_at words x) x (take (number_at fitting x) (row_at rows x)) e below
+        (All-take (IsAbout atoms x) (number_at fitting x) (row_at rows x) (row_about atoms x rows ls h.members))
+        ∙ h.fit.front x;
+    whole = h.fit.whole;
+  };
+}
+
+-- At the beginning.
+pub rows_none : (rs : List Regex) (atoms : List (AtomOver ℕ)) (words : List (Option (List ℕ)))
+    (rows : List (List Lit)) (fitting : List ℕ) (changed : List Serial) (ls : List Lit) → rows ≡ [] → fitting ≡ []
+    → ls ≡ [] → AreRows rs atoms words rows fitting changed ls
+rows_none rs atoms words rows fitting changed ls none no_numbers no_literals = record {
+  members = λ x. ap (λ (all : List (List Lit)). row_at all x) none ∙ sym (ap (literals_about atoms x) no_literals);
+  fit = record {
+    front = λ x. ap (λ (ns : List ℕ). is_front_true rs atoms (word_at words x) (number_at ns x) (row_at rows x))
+        no_numbers;
+    whole = λ x out.
+        let empty : length (row_at rows x) ≡ 0 = ap (λ (all : List (List Lit)). length (row_at all x)) none in
+        omega (arith, empty);
+  };
+}
 
 -- Once all rows fit, all literals of wanted atoms are true.
 
@@ -83,82 +120,75 @@ pub agrees_settled : (x : Strings) (entries : List Assigned) → Holds x → x.c
 agrees_settled x entries h none taken =
     ap (λ (es : List Assigned). list_all (is_true_by x.arena x.atoms x.words.items) (wanted_on x.wanted es)) (sym taken)
     ∙ all_true x.arena x.atoms x.words.items (wanted_on x.wanted x.taken.items) (λ n.
-    row_true (is_true_of x.arena x.atoms (word_at x.words.items n))
-    (literals_about x.atoms n (wanted_on x.wanted x.taken.items)) (number_at x.fitting.items n)
-    (h.fit.whole n (ap (λ (cs : List Serial). is_in cs n) none)) (h.fit.front n))
+    ap (list_all (is_true_of x.arena x.atoms (word_at x.words.items n))) (sym (h.rows.members n))
+    ∙ row_true (is_true_of x.arena x.atoms (word_at x.words.items n)) (row_at x.members.items n)
+    (number_at x.fitting.items n) (h.rows.fit.whole n (ap (λ (cs : List Serial). is_in cs n) none))
+    (h.rows.fit.front n))
+
+-- One constant's word, row or number is another one.
+
+record IsSame (words put : List (Option (List ℕ))) (rows now : List (List Lit)) (fitting set : List ℕ) (y : ℕ) : Type 0
+  where
+    word : word_at put y ≡ word_at words y
+    row : row_at now y ≡ row_at rows y
+    number : number_at set y ≡ number_at fitting y
+
+fitting_but : {rs : List Regex} {atoms : List (AtomOver ℕ)} {words : List (Option (List ℕ))} {rows : List (List Lit)}
+    {fitting : List ℕ} {changed : List Serial} (put : List (Option (List ℕ))) (now : List (List Lit)) (set : List ℕ)
+    (after : List Serial) (x : ℕ)
+    → ((y : ℕ) → nat_eq x y ≡ false → IsSame words put rows now fitting set y)
+    → ((y : ℕ) → is_in after y ≡ false → is_in changed y ≡ false)
+    → is_front_true rs atoms (word_at put x) (number_at set x) (row_at now x) ≡ true
+    → (is_in after x ≡ false → IsWhole now set x) → AreFitting rs atoms words rows fitting changed
+    → AreFitting rs atoms put now set after
+fitting_but {rs} {atoms} {words} {rows} {fitting} put now set after x same stay here out h =
+    record { front = λ y. front y (nat_eq x y) refl; whole = λ y. whole y (nat_eq x y) refl }
+  where
+    front : (y : ℕ) (b : Bool) → nat_eq x y ≡ b
+        → is_front_true rs atoms (word_at put y) (number_at set y) (row_at now y) ≡ true
+    front y true e =
+        subst (λ z. is_front_true rs atoms (word_at put z) (number_at set z) (row_at now z) ≡ true) (eqb-true x y e) here
+    front y false e =
+        let s = same y e in
+        ap (λ w. is_front_true rs atoms w (number_at set y) (row_at now y)) s.word
+        ∙ ap (λ n. is_front_true rs atoms (word_at words y) n (row_at now y)) s.number
+        ∙ ap (λ (row : List Lit). is_front_true rs atoms (word_at words y) (number_at fitting y) row) s.row
+        ∙ h.front y
+
+    whole : (y : ℕ) (b : Bool) → nat_eq x y ≡ b → is_in after y ≡ false → IsWhole now set y
+    whole y true e = subst (λ z. is_in after z ≡ false → IsWhole now set z) (eqb-true x y e) out
+    whole y false e = λ off.
+        let s = same y e in omega (arith, h.whole y (stay y off), s.number, ap length s.row)
 
 -- One literal more.
 
--- one that is not wanted, or about no constant
-pub fitting_passed : (rs : List Regex) (atoms : List (AtomOver ℕ)) (words : List (Option (List ℕ)))
-    (ls more : List Lit) (fitting : List ℕ) (changed : List Serial) → ((x : ℕ) → literals_about atoms x more ≡ [])
-    → AreFitting rs atoms words ls fitting changed → AreFitting rs atoms words (ls ++ more) fitting changed
-fitting_passed rs atoms words ls more fitting changed none h = record {
-  front = λ x. ap (λ (row : List Lit).
-      list_all (is_true_of rs atoms (word_at words x)) (take (number_at fitting x) row))
-      (row_passed atoms x ls more (none x)) ∙ h.front x;
-  whole = λ x out. subst (λ (row : List Lit). length row ≤ number_at fitting x) (sym (row_passed atoms x ls more (none x)))
-      (h.whole x out);
-}
-
--- and one that is wanted
-pub fitting_asked : (rs : List Regex) (atoms : List (AtomOver ℕ)) (wanted : List ℕ) (words : List (Option (List ℕ)))
-    (ls : List Lit) (fitting : List ℕ) (changed : List Serial) (l : Lit) → is_of_wanted wanted l ≡ true
-    → AreFitting rs atoms words (ls ++ l ∷ []) fitting changed
-    → AreFitting rs atoms words (ls ++ wanted_of wanted (l ∷ [])) fitting changed
-fitting_asked rs atoms wanted words ls fitting changed l asked h =
-    subst (λ (ms : List Lit). AreFitting rs atoms words (ls ++ ms) fitting changed) (sym (one_wanted wanted l asked)) h
-
-pushed_front : (rs : List Regex) (atoms : List (AtomOver ℕ)) (words : List (Option (List ℕ))) (ls : List Lit)
-    (old new : List ℕ) (l : Lit) (x : ℕ) → subject_of atoms l ≡ Some x
-    → ((y : ℕ) → nat_eq x y ≡ false → number_at new y ≡ number_at old y)
-    → list_all (is_true_of rs atoms (word_at words x)) (take (number_at new x) (literals_about atoms x ls ++ l ∷ []))
-    ≡ true
-    → ((y : ℕ) → list_all (is_true_of rs atoms (word_at words y)) (take (number_at old y) (literals_about atoms y ls))
-    ≡ true)
-    → (y : ℕ) (b : Bool) → nat_eq x y ≡ b
-    → list_all (is_true_of rs atoms (word_at words y)) (take (number_at new y) (literals_about atoms y (ls ++ l ∷ [])))
-    ≡ true
-pushed_front rs atoms words ls old new l x subject others here front y true e =
-    subst (λ z. list_all (is_true_of rs atoms (word_at words z))
-    (take (number_at new z) (literals_about atoms z (ls ++ l ∷ []))) ≡ true) (eqb-true x y e)
-    (ap (λ (row : List Lit). list_all (is_true_of rs atoms (word_at words x)) (take (number_at new x) row))
-    (row_more atoms x ls l (about_one atoms l x subject)) ∙ here)
-pushed_front rs atoms words ls old new l x subject others here front y false e =
-    ap (λ (row : List Lit). list_all (is_true_of rs atoms (word_at words y)) (take (number_at new y) row))
-    (row_other atoms y ls l (not_about atoms l x y subject e))
-    ∙ ap (λ n. list_all (is_true_of rs atoms (word_at words y)) (take n (literals_about atoms y ls))) (others y e)
-    ∙ front y
-
-pushed_whole : (atoms : List (AtomOver ℕ)) (ls : List Lit) (old new : List ℕ) (before after : List Serial) (l : Lit)
-    (x : ℕ) → subject_of atoms l ≡ Some x → ((y : ℕ) → nat_eq x y ≡ false → number_at new y ≡ number_at old y)
-    → ((y : ℕ) → is_in after y ≡ false → is_in before y ≡ false)
-    → (is_in after x ≡ false → length (literals_about atoms x ls ++ l ∷ []) ≤ number_at new x)
-    → ((y : ℕ) → is_in before y ≡ false → length (literals_about atoms y ls) ≤ number_at old y)
-    → (y : ℕ) (b : Bool) → nat_eq x y ≡ b → is_in after y ≡ false
-    → length (literals_about atoms y (ls ++ l ∷ [])) ≤ number_at new y
-pushed_whole atoms ls old new before after l x subject others stay here whole y true e =
-    subst (λ z. is_in after z ≡ false → length (literals_about atoms z (ls ++ l ∷ [])) ≤ number_at new z)
-    (eqb-true x y e)
-    (λ out. subst (λ (row : List Lit). length row ≤ number_at new x)
-    (sym (row_more atoms x ls l (about_one atoms l x subject))) (here out))
-pushed_whole atoms ls old new before after l x subject others stay here whole y false e = λ out.
-    subst (λ n. length (literals_about atoms y (ls ++ l ∷ [])) ≤ n) (sym (others y e))
-    (subst (λ (row : List Lit). length row ≤ number_at old y)
-    (sym (row_other atoms y ls l (not_about atoms l x y subject e))) (whole y (stay y out)))
+pub rows_passed : {rs : List Regex} {atoms : List (AtomOver ℕ)} {words : List (Option (List ℕ))}
+    {rows : List (List Lit)} {fitting : List ℕ} {changed : List Serial} {ls : List Lit} (more : List Lit)
+    → ((x : ℕ) → literals_about atoms x more ≡ []) → AreRows rs atoms words rows fitting changed ls
+    → AreRows rs atoms words rows fitting changed (ls ++ more)
+rows_passed {atoms = atoms} {rows = rows} {ls = ls} more none h =
+    record { members = members_passed atoms rows ls more none h.members; fit = h.fit }
 
 -- where the row is not known to fit whole, its constant is looked at whatever comes
-pub fitting_behind : (rs : List Regex) (atoms : List (AtomOver ℕ)) (words : List (Option (List ℕ))) (ls : List Lit)
-    (fitting : List ℕ) (changed : List Serial) (l : Lit) (x : ℕ) → subject_of atoms l ≡ Some x
-    → number_at fitting x < length (literals_about atoms x ls) → AreFitting rs atoms words ls fitting changed
-    → AreFitting rs atoms words (ls ++ l ∷ []) fitting changed
-fitting_behind rs atoms words ls fitting changed l x subject short h = record {
-  front = λ y. pushed_front rs atoms words ls fitting fitting l x subject (λ z e. refl)
-      (ap (list_all (is_true_of rs atoms (word_at words x)))
-      (take-append-le (number_at fitting x) (literals_about atoms x ls) (l ∷ []) (omega (arith, short)))
-      ∙ h.front x) h.front y (nat_eq x y) refl;
-  whole = λ y. pushed_whole atoms ls fitting fitting changed changed l x subject (λ z e. refl) (λ z out. out)
-      (λ out. absurd (omega (arith, short, h.whole x out))) h.whole y (nat_eq x y) refl;
+pub rows_behind : {rs : List Regex} {atoms : List (AtomOver ℕ)} {words : List (Option (List ℕ))}
+    {rows : List (List Lit)} {fitting : List ℕ} {changed : List Serial} {ls : List Lit} (wanted : List ℕ)
+    (now : List (List Lit)) (l : Lit) (x : ℕ) → subject_of atoms l ≡ Some x → is_wanted wanted l.atom ≡ true
+    → number_at fitting x < length (row_at rows x) → IsAdded rows now x l
+    → AreRows rs atoms words rows fitting changed ls
+    → AreRows rs atoms words now fitting changed (ls ++ wanted_of wanted (l ∷ []))
+rows_behind {rs} {atoms} {words} {rows} {fitting} {changed} {ls} wanted now l x subject asked short added h = record {
+  members = members_added atoms wanted rows now ls l x subject asked added h.members;
+  fit = fitting_but words now fitting changed x
+      (λ y e. record {
+        word = refl;
+        row = put_off (row_at now) (row_at rows) (λ z. row_at rows z ++ l ∷ []) x added y e;
+        number = refl;
+      }) (λ y out. out)
+      (ap (λ (row : List Lit). is_front_true rs atoms (word_at words x) (number_at fitting x) row)
+      (put_at (row_at now) (row_at rows) (λ z. row_at rows z ++ l ∷ []) x added)
+      ∙ ap (list_all (is_true_of rs atoms (word_at words x)))
+      (take-append-le (number_at fitting x) (row_at rows x) (l ∷ []) (omega (arith, short)))
+      ∙ h.fit.front x) (λ out. absurd (omega (arith, short, h.fit.whole x out))) h.fit;
 }
 
 noted_front : (p : Lit → Bool) (row : List Lit) (l : Lit) (n long : ℕ) (b : Bool) → long ≡ length row → long ≤ n
@@ -166,9 +196,7 @@ noted_front : (p : Lit → Bool) (row : List Lit) (l : Lit) (n long : ℕ) (b : 
     → list_all p (take (if b then long + 1 else long) (row ++ l ∷ [])) ≡ true
 noted_front p row l n long true is enough h same =
     ap (list_all p) (take_all (long + 1) (row ++ l ∷ []) (omega (arith, is, length-append row (l ∷ []))))
-    ∙ list_all-append p row (l ∷ [])
-    ∙ and_from (list_all p row) (list_all p (l ∷ [])) (row_true p row n (omega (arith, is, enough)) h)
-    (and_from (p l) true (sym same) refl)
+    ∙ all_push p row l (row_true p row n (omega (arith, is, enough)) h) (sym same)
 noted_front p row l n long false is enough h same =
     ap (list_all p) (take_at row (l ∷ []) long (sym is)) ∙ row_true p row n (omega (arith, is, enough)) h
 
@@ -178,118 +206,144 @@ noted_whole row l long true out is here gone = omega (arith, is, length-append r
 noted_whole row l long false out is here gone = absurd (false≢true (sym gone ∙ here refl))
 
 -- where it is, the next literal is matched
-pub fitting_noted : (rs : List Regex) (atoms : List (AtomOver ℕ)) (words : List (Option (List ℕ))) (ls : List Lit)
-    (old new : List ℕ) (before after : List Serial) (l : Lit) (x long : ℕ) (matches : Bool)
-    → subject_of atoms l ≡ Some x → long ≡ length (literals_about atoms x ls) → long ≤ number_at old x
-    → matches ≡ is_true_by rs atoms words l → IsNoted old new before after x long matches
-    → AreFitting rs atoms words ls old before → AreFitting rs atoms words (ls ++ l ∷ []) new after
-fitting_noted rs atoms words ls old new before after l x long matches subject is enough same noted h =
-    let number : number_at new x ≡ (if matches then long + 1 else long) =
-    noted.set x ∙ ap (λ b. if b then (if matches then long + 1 else long) else number_at old x) (eq-eqb x x refl) in
-    let others = λ (y : ℕ) (e : nat_eq x y ≡ false).
-    noted.set y ∙ ap (λ b. if b then (if matches then long + 1 else long) else number_at old y) e in
+pub rows_noted : {rs : List Regex} {atoms : List (AtomOver ℕ)} {words : List (Option (List ℕ))}
+    {rows : List (List Lit)} {fitting : List ℕ} {changed : List Serial} {ls : List Lit} (wanted : List ℕ)
+    (now : List (List Lit)) (set : List ℕ) (after : List Serial) (l : Lit) (x long : ℕ) (matches : Bool)
+    → subject_of atoms l ≡ Some x → is_wanted wanted l.atom ≡ true → long ≡ length (row_at rows x)
+    → long ≤ number_at fitting x → matches ≡ is_true_by rs atoms words l
+    → IsNoted fitting set changed after x long matches → IsAdded rows now x l
+    → AreRows rs atoms words rows fitting changed ls
+    → AreRows rs atoms words now set after (ls ++ wanted_of wanted (l ∷ []))
+rows_noted {rs} {atoms} {words} {rows} {fitting} {changed} {ls} wanted now set after l x long matches subject asked is
+    enough same noted added h =
+    let number : number_at set x ≡ (if matches then long + 1 else long) =
+    put_at (number_at set) (number_at fitting) (λ y. if matches then long + 1 else long) x noted.set in
+    let row = put_at (row_at now) (row_at rows) (λ z. row_at rows z ++ l ∷ []) x added in
     let known : matches ≡ is_true_of rs atoms (word_at words x) l =
     same ∙ ap (fits_subject rs atoms words l) subject in
     record {
-      front = λ y. pushed_front rs atoms words ls old new l x subject others
-          (ap (λ n. list_all (is_true_of rs atoms (word_at words x)) (take n (literals_about atoms x ls ++ l ∷ [])))
-          number
-          ∙ noted_front (is_true_of rs atoms (word_at words x)) (literals_about atoms x ls) l (number_at old x) long
-          matches is enough (h.front x) known) h.front y (nat_eq x y) refl;
-      whole = λ y. pushed_whole atoms ls old new before after l x subject others noted.stay
-          (λ out. subst (λ n. length (literals_about atoms x ls ++ l ∷ []) ≤ n) (sym number)
-          (noted_whole (literals_about atoms x ls) l long matches (is_in after x) is noted.here out)) h.whole y
-          (nat_eq x y) refl;
+      members = members_added atoms wanted rows now ls l x subject asked added h.members;
+      fit = fitting_but words now set after x
+          (λ y e. record {
+            word = refl;
+            row = put_off (row_at now) (row_at rows) (λ z. row_at rows z ++ l ∷ []) x added y e;
+            number = put_off (number_at set) (number_at fitting) (λ z. if matches then long + 1 else long) x noted.set
+                y e;
+          }) noted.stay
+          (ap (λ n. is_front_true rs atoms (word_at words x) n (row_at now x)) number
+          ∙ ap (λ (r : List Lit). list_all (is_true_of rs atoms (word_at words x))
+          (take (if matches then long + 1 else long) r)) row
+          ∙ noted_front (is_true_of rs atoms (word_at words x)) (row_at rows x) l (number_at fitting x) long matches is
+          enough (h.fit.front x) known)
+          (λ out. subst (λ n. length (row_at now x) ≤ n) (sym number)
+          (subst (λ (r : List Lit). length r ≤ (if matches then long + 1 else long)) (sym row)
+          (noted_whole (row_at rows x) l long matches (is_in after x) is noted.here out))) h.fit;
+    }
+
+-- the trail's literals are one more
+pub rows_taken : {rs more : List Regex} {atoms : List (AtomOver ℕ)} {rows now : List (List Lit)}
+    {fitting set : List ℕ} {changed after : List Serial} {ls new : List Lit} (words given : List (Option (List ℕ)))
+    (one : List Lit) → given ≡ words → new ≡ ls ++ one
+    → (AreRows rs atoms given rows fitting changed ls → AreRows more atoms given now set after (ls ++ one))
+    → AreRows rs atoms words rows fitting changed ls → AreRows more atoms words now set after new
+rows_taken {rs} {more} {atoms} {rows} {now} {fitting} {set} {changed} {after} {ls} words given one same is took h =
+    subst (λ (all : List Lit). AreRows more atoms words now set after all) (sym is)
+    (subst (λ (ws : List (Option (List ℕ))). AreRows more atoms ws now set after (ls ++ one)) same
+    (took (subst (λ (ws : List (Option (List ℕ))). AreRows rs atoms ws rows fitting changed ls) (sym same) h)))
+
+-- Literals are taken off from the end.
+
+take_front : (p : Lit → Bool) (n : ℕ) (xs ys : List Lit) → list_all p (take n (xs ++ ys)) ≡ true
+    → list_all p (take n xs) ≡ true
+take_front p zero xs ys h = refl
+take_front p (suc n) [] ys h = refl
+take_front p (suc n) (x ∷ xs) ys h =
+    let q = and_parts (p x) (list_all p (take n (xs ++ ys))) h in
+    and_from (p x) (list_all p (take n xs)) q.0 (take_front p n xs ys q.1)
+
+pub rows_cut : {rs : List Regex} {atoms : List (AtomOver ℕ)} {words : List (Option (List ℕ))} {rows : List (List Lit)}
+    {fitting : List ℕ} {changed : List Serial} {old : List Lit} (now : List (List Lit)) (new more : List Lit)
+    → old ≡ new ++ more → AreMembers atoms now new → AreRows rs atoms words rows fitting changed old
+    → AreRows rs atoms words now fitting changed new
+rows_cut {rs} {atoms} {words} {rows} {fitting} {old = old} now new more is members h =
+    let row : (x : ℕ) → row_at rows x ≡ row_at now x ++ literals_about atoms x more = λ x.
+    h.members x ∙ ap (literals_about atoms x) is ∙ filter-append (is_about atoms x) new more
+    ∙ ap (λ (r : List Lit). r ++ literals_about atoms x more) (sym (members x)) in
+    record {
+      members = members;
+      fit = record {
+        front = λ x. take_front (is_true_of rs atoms (word_at words x)) (number_at fitting x) (row_at now x)
+            (literals_about atoms x more)
+            (ap (λ (r : List Lit). is_front_true rs atoms (word_at words x) (number_at fitting x) r) (sym (row x))
+            ∙ h.fit.front x);
+        whole = λ x out.
+            let all = ap length (row x) ∙ length-append (row_at now x) (literals_about atoms x more) in
+            omega (arith, all, h.fit.whole x out);
+      };
     }
 
 -- More of a row is known to be true.
 
-moved_front : (rs : List Regex) (atoms : List (AtomOver ℕ)) (old new : List (Option (List ℕ))) (ls : List Lit)
-    (fitting now : List ℕ) (x long : ℕ) → ((y : ℕ) → nat_eq x y ≡ false → word_at new y ≡ word_at old y)
-    → IsSet fitting now x long
-    → list_all (is_true_of rs atoms (word_at new x)) (take long (literals_about atoms x ls)) ≡ true
-    → ((y : ℕ)
-    → list_all (is_true_of rs atoms (word_at old y)) (take (number_at fitting y) (literals_about atoms y ls)) ≡ true)
-    → (y : ℕ) (b : Bool) → nat_eq x y ≡ b
-    → list_all (is_true_of rs atoms (word_at new y)) (take (number_at now y) (literals_about atoms y ls)) ≡ true
-moved_front rs atoms old new ls fitting now x long others set here front y true e =
-    ap (λ n. list_all (is_true_of rs atoms (word_at new y)) (take n (literals_about atoms y ls)))
-    (set y ∙ ap (λ b. if b then long else number_at fitting y) e)
-    ∙ subst (λ z. list_all (is_true_of rs atoms (word_at new z)) (take long (literals_about atoms z ls)) ≡ true)
-    (eqb-true x y e) here
-moved_front rs atoms old new ls fitting now x long others set here front y false e =
-    ap (λ n. list_all (is_true_of rs atoms (word_at new y)) (take n (literals_about atoms y ls)))
-    (set y ∙ ap (λ b. if b then long else number_at fitting y) e)
-    ∙ ap (λ w. list_all (is_true_of rs atoms w) (take (number_at fitting y) (literals_about atoms y ls))) (others y e)
-    ∙ front y
-
-moved_whole : (atoms : List (AtomOver ℕ)) (ls : List Lit) (fitting now : List ℕ) (changed : List Serial) (x long : ℕ)
-    → IsSet fitting now x long → number_at fitting x < long → long ≤ length (literals_about atoms x ls)
-    → ((y : ℕ) → is_in changed y ≡ false → length (literals_about atoms y ls) ≤ number_at fitting y)
-    → (y : ℕ) (b : Bool) → nat_eq x y ≡ b → is_in changed y ≡ false
-    → length (literals_about atoms y ls) ≤ number_at now y
-moved_whole atoms ls fitting now changed x long set more within whole y true e =
-    subst (λ z. is_in changed z ≡ false → length (literals_about atoms z ls) ≤ number_at now z) (eqb-true x y e)
-    (λ out. absurd (omega (arith, more, within, whole x out)))
-moved_whole atoms ls fitting now changed x long set more within whole y false e = λ out.
-    subst (λ n. length (literals_about atoms y ls) ≤ n)
-    (sym (set y ∙ ap (λ b. if b then long else number_at fitting y) e)) (whole y out)
-
-fitting_moved : (rs : List Regex) (atoms : List (AtomOver ℕ)) (old new : List (Option (List ℕ))) (ls : List Lit)
-    (fitting now : List ℕ) (changed : List Serial) (x long : ℕ)
-    → ((y : ℕ) → nat_eq x y ≡ false → word_at new y ≡ word_at old y) → IsSet fitting now x long
-    → number_at fitting x < long → long ≤ length (literals_about atoms x ls)
-    → list_all (is_true_of rs atoms (word_at new x)) (take long (literals_about atoms x ls)) ≡ true
-    → AreFitting rs atoms old ls fitting changed → AreFitting rs atoms new ls now changed
-fitting_moved rs atoms old new ls fitting now changed x long others set more within here h = record {
-  front = λ y. moved_front rs atoms old new ls fitting now x long others set here h.front y (nat_eq x y) refl;
-  whole = λ y. moved_whole atoms ls fitting now changed x long set more within h.whole y (nat_eq x y) refl;
-}
+fitting_moved : {rs : List Regex} {atoms : List (AtomOver ℕ)} {words : List (Option (List ℕ))} {rows : List (List Lit)}
+    {fitting : List ℕ} {changed : List Serial} (put : List (Option (List ℕ))) (set : List ℕ) (x long : ℕ)
+    → ((y : ℕ) → nat_eq x y ≡ false → word_at put y ≡ word_at words y) → IsSet fitting set x long
+    → number_at fitting x < long → long ≤ length (row_at rows x)
+    → is_front_true rs atoms (word_at put x) long (row_at rows x) ≡ true
+    → AreFitting rs atoms words rows fitting changed → AreFitting rs atoms put rows set changed
+fitting_moved {rs} {atoms} {rows = rows} {fitting} {changed} put set x long others is more within here h =
+    fitting_but put rows set changed x
+    (λ y e. record {
+      word = others y e;
+      row = refl;
+      number = put_off (number_at set) (number_at fitting) (λ z. long) x is y e;
+    }) (λ y out. out)
+    (ap (λ n. is_front_true rs atoms (word_at put x) n (row_at rows x))
+    (put_at (number_at set) (number_at fitting) (λ z. long) x is) ∙ here)
+    (λ out. absurd (omega (arith, more, within, h.whole x out))) h
 
 pub rises_set : (old new : List ℕ) (x long : ℕ) → IsSet old new x long → number_at old x ≤ long → Rises old new
-rises_set old new x long set more = λ y. step y (nat_eq x y) refl
+rises_set old new x long is more = λ y. step y (nat_eq x y) refl
   where
     step : (y : ℕ) (b : Bool) → nat_eq x y ≡ b → number_at old y ≤ number_at new y
     step y true e =
-        let now : number_at new y ≡ long = set y ∙ ap (λ b. if b then long else number_at old y) e in
-        omega (arith, now, ap (number_at old) (eqb-true x y e), more)
-    step y false e =
-        let now : number_at new y ≡ number_at old y = set y ∙ ap (λ b. if b then long else number_at old y) e in
-        omega (arith, now)
-
-pub set_here : (old new : List ℕ) (x long : ℕ) → IsSet old new x long → number_at new x ≡ long
-set_here old new x long set = set x ∙ ap (λ b. if b then long else number_at old x) (eq-eqb x x refl)
+        subst (λ z. number_at old z ≤ number_at new z) (eqb-true x y e)
+        (omega (arith, put_at (number_at new) (number_at old) (λ z. long) x is, more))
+    step y false e = omega (arith, put_off (number_at new) (number_at old) (λ z. long) x is y e)
 
 -- by a word that is put,
-pub fitting_put : MkandKeepsLanguage → MknotKeepsLanguage → (rs : List Regex) (atoms : List (AtomOver ℕ))
-    (old new : List (Option (List ℕ))) (ls row : List Lit) (fitting now : List ℕ) (changed : List Serial) (x long : ℕ)
-    (w : List ℕ) → IsPut old new x w → IsSet fitting now x long → number_at fitting x < long
-    → long ≤ length (literals_about atoms x ls) → row ≡ take long (literals_about atoms x ls)
-    → language (asked_by_all rs atoms row) w ≡ true → AreFitting rs atoms old ls fitting changed
-    → AreFitting rs atoms new ls now changed
-fitting_put keeps negates rs atoms old new ls row fitting now changed x long w put set more within is found h =
-    fitting_moved rs atoms old new ls fitting now changed x long
-    (λ y e. put y ∙ ap (λ b. if b then w else word_at old y) e) set more within
-    (ap (λ v. list_all (is_true_of rs atoms v) (take long (literals_about atoms x ls)))
-    (put x ∙ ap (λ b. if b then w else word_at old x) (eq-eqb x x refl))
-    ∙ ap (list_all (is_true_of rs atoms w)) (sym is) ∙ sym (all_of_word keeps negates rs atoms row w) ∙ found) h
+pub rows_put : MkandKeepsLanguage → MknotKeepsLanguage → {rs : List Regex} {atoms : List (AtomOver ℕ)}
+    {words : List (Option (List ℕ))} {rows : List (List Lit)} {fitting : List ℕ} {changed : List Serial}
+    {ls : List Lit} (put : List (Option (List ℕ))) (set : List ℕ) (row : List Lit) (x long : ℕ) (w : List ℕ)
+    → IsPut words put x w → IsSet fitting set x long → number_at fitting x < long → long ≤ length (row_at rows x)
+    → row ≡ take long (row_at rows x) → language (asked_by_all rs atoms row) w ≡ true
+    → AreRows rs atoms words rows fitting changed ls → AreRows rs atoms put rows set changed ls
+rows_put keeps negates {rs} {atoms} {words} {rows} put set row x long w is_put is_set more within is found h = record {
+  members = h.members;
+  fit = fitting_moved put set x long (put_off (word_at put) (word_at words) (λ y. w) x is_put) is_set more within
+      (ap (λ v. is_front_true rs atoms v long (row_at rows x)) (put_at (word_at put) (word_at words) (λ y. w) x is_put)
+      ∙ ap (list_all (is_true_of rs atoms w)) (sym is) ∙ sym (all_of_word keeps negates rs atoms row w) ∙ found) h.fit;
+}
 
 -- or as the next literal is matched.
-pub fitting_next : (rs : List Regex) (atoms : List (AtomOver ℕ)) (words : List (Option (List ℕ))) (ls : List Lit)
-    (fitting now : List ℕ) (changed : List Serial) (x long : ℕ) (l : Lit) → IsSet fitting now x long
-    → number_at fitting x + 1 ≡ long → long ≤ length (literals_about atoms x ls)
-    → l ≡ get_or (literals_about atoms x ls) (long - 1) l → is_true_by rs atoms words l ≡ true
-    → AreFitting rs atoms words ls fitting changed → AreFitting rs atoms words ls now changed
-fitting_next rs atoms words ls fitting now changed x long l set next within is matched h =
-    let row = literals_about atoms x ls in
+pub rows_next : {rs : List Regex} {atoms : List (AtomOver ℕ)} {words : List (Option (List ℕ))} {rows : List (List Lit)}
+    {fitting : List ℕ} {changed : List Serial} {ls : List Lit} (set : List ℕ) (x long : ℕ) (l : Lit)
+    → IsSet fitting set x long → number_at fitting x + 1 ≡ long → long ≤ length (row_at rows x)
+    → l ≡ get_or (row_at rows x) (long - 1) l → is_true_by rs atoms words l ≡ true
+    → AreRows rs atoms words rows fitting changed ls → AreRows rs atoms words rows set changed ls
+rows_next {rs} {atoms} {words} {rows} {fitting} {ls = ls} set x long l is_set next within is matched h =
+    let row = row_at rows x in
     let i = number_at fitting x in
     let p = is_true_of rs atoms (word_at words x) in
     let inside : i < length row = omega (arith, next, within) in
     let place : long - 1 ≡ i = omega (arith, next) in
     let here : l ≡ get_or row i l = is ∙ ap (λ n. get_or row n l) place in
     let subject : subject_of atoms l ≡ Some x =
-    ap (subject_of atoms) here ∙ names_subject atoms (get_or row i l) x (row_about atoms x ls i l inside) in
+    ap (subject_of atoms) here
+    ∙ ap (option_and_then constant_of) (row_about atoms x rows ls h.members i l inside).names in
     let passes : p l ≡ true = sym (ap (fits_subject rs atoms words l) subject) ∙ matched in
-    fitting_moved rs atoms words words ls fitting now changed x long (λ y e. refl) set (omega (arith, next)) within
-    (ap (λ n. list_all p (take n row)) (sym next) ∙ ap (list_all p) (take_more row i l inside)
-    ∙ both_pass p (take i row) (get_or row i l) (h.front x) (ap p (sym here) ∙ passes)) h
+    record {
+      members = h.members;
+      fit = fitting_moved words set x long (λ y e. refl) is_set (omega (arith, next)) within
+          (ap (λ n. list_all p (take n row)) (sym next) ∙ ap (list_all p) (take_more row i l inside)
+          ∙ all_push p (take i row) (get_or row i l) (h.fit.front x) (ap p (sym here) ∙ passes)) h.fit;
+    }

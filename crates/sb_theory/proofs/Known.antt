@@ -1,12 +1,5 @@
 -- Atoms of kept clauses that the theory knows.
-use Rattle.std.proofs.Common.{◌≡◌, ℕ, zero, suc, true, List, [], ◌∷◌, length, Option, subst}
-use Rattle.std.proofs.lemmas.Bool.{and_parts}
-use Rattle.sb_lit.specs.Kept.{Kept, KeptClause}
-use Rattle.sb_lit.proofs.CallerLemmas.{all_among}
-use Rattle.sb_clauses.specs.Propagation.{has_room_for, is_reserved}
-use Rattle.sb_rulebook.specs.Atoms.{AtomOver}
-use Rattle.sb_search.specs.Asking.{AreAllKnown}
-use Rattle.sb_theory.specs.Memberships.{is_atom}
+use Rattle.sb_theory.proofs.Words.{[], ◌∷◌, ◌≡◌, List, Option, length, subst, suc, true, zero, ℕ, AtomOver, Kept, KeptClause, all_among, and_parts, is_atom, has_room_for, is_reserved, AreAllKnown}
 
 -- where each has a number below that of the table's next one
 pub all_known : (atoms : List (AtomOver ℕ)) (kept : Kept) → has_room_for (length atoms) kept ≡ true

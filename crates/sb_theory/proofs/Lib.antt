@@ -1,9 +1,9 @@
-pub mod Standing
+pub mod Words
 pub mod Rows
 pub mod Fitting
+pub mod Moving
+pub mod Standing
 pub mod Denied
-pub mod Settling
-pub mod Placed
 pub mod Answering
 pub mod Known
 pub mod CallerLemmas

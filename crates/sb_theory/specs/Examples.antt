@@ -1,10 +1,7 @@
 -- Computed examples of literals that are true of words.
 use Rattle.std.specs.Prelude.{◌≡◌, ℕ, true, false, List, [], ◌∷◌, Some, None, refl}
-use Rattle.sb_lit.specs.declared.clause.Lit.{Lit}
-use Rattle.sb_lang.specs.Regex.{Regex, none, eps}
+use Rattle.sb_theory.specs.Words.{AtomOver, Lit, Regex, bool_atom, constant_piece, eps, in_atom, none}
 use Rattle.sb_lang.specs.Language.{language}
-use Rattle.sb_script.specs.Pieces.{constant_piece}
-use Rattle.sb_rulebook.specs.Atoms.{AtomOver, bool_atom, in_atom}
 use Rattle.sb_theory.specs.Memberships.{subject_of, literals_about, word_at, is_true_by, is_atom}
 use Rattle.sb_theory.specs.Wanted.{is_wanted, wanted_of}
 

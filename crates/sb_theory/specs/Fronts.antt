@@ -1,11 +1,7 @@
 -- How much of each constant's row its word is known to make true.
 use Rattle.std.specs.Prelude.{◌≡◌, ℕ, ◌+◌, ◌≤◌, Bool, true, false, nat_eq, if◌then◌else◌, List, length, take, get_or, Option}
-use Rattle.std.specs.List.{list_all, list_any}
-use Rattle.sb_lit.specs.declared.clause.Lit.{Lit}
-use Rattle.sb_lang.specs.Regex.{Regex}
-use Rattle.sb_term.specs.declared.term.Serial.{Serial}
-use Rattle.sb_rulebook.specs.Atoms.{AtomOver}
-use Rattle.sb_theory.specs.Memberships.{literals_about, row_at, word_at, is_true_of}
+use Rattle.sb_theory.specs.Words.{AtomOver, Lit, Regex, Serial, list_all, list_any}
+use Rattle.sb_theory.specs.Memberships.{AreMembers, row_at, word_at, is_true_of}
 
 -- a number for each constant, 0 past the last
 abbrev pub number_at : List ℕ → ℕ → ℕ
@@ -27,15 +23,24 @@ is_in changed x = list_any (λ s. nat_eq s.0 x) changed
 abbrev pub IsWhole : List (List Lit) → List ℕ → ℕ → Type 0
 IsWhole rows fitting x = length (row_at rows x) ≤ number_at fitting x
 
+-- so many first literals of a row are true of a word
+abbrev pub is_front_true : List Regex → List (AtomOver ℕ) → List ℕ → ℕ → List Lit → Bool
+is_front_true rs atoms w n row = list_all (is_true_of rs atoms w) (take n row)
+
 -- So many first literals of each constant's row are true of its word. Those of a constant that is not in the list are
--- all of them. The rows are those of these literals.
-pub record AreFitting (rs : List Regex) (atoms : List (AtomOver ℕ)) (words : List (Option (List ℕ))) (ls : List Lit)
-    (fitting : List ℕ) (changed : List Serial) : Type 0
+-- all of them.
+pub record AreFitting (rs : List Regex) (atoms : List (AtomOver ℕ)) (words : List (Option (List ℕ)))
+    (rows : List (List Lit)) (fitting : List ℕ) (changed : List Serial) : Type 0
   where
-    pub front : (x : ℕ)
-        → list_all (is_true_of rs atoms (word_at words x)) (take (number_at fitting x) (literals_about atoms x ls))
-        ≡ true
-    pub whole : (x : ℕ) → is_in changed x ≡ false → length (literals_about atoms x ls) ≤ number_at fitting x
+    pub front : (x : ℕ) → is_front_true rs atoms (word_at words x) (number_at fitting x) (row_at rows x) ≡ true
+    pub whole : (x : ℕ) → is_in changed x ≡ false → IsWhole rows fitting x
+
+-- The rows are those of these literals.
+pub record AreRows (rs : List Regex) (atoms : List (AtomOver ℕ)) (words : List (Option (List ℕ)))
+    (rows : List (List Lit)) (fitting : List ℕ) (changed : List Serial) (ls : List Lit) : Type 0
+  where
+    pub members : AreMembers atoms rows ls
+    pub fit : AreFitting rs atoms words rows fitting changed
 
 -- The literal behind the first ones of a constant's row was matched with its word, which makes these true.
 pub record IsNoted (old new : List ℕ) (before after : List Serial) (x long : ℕ) (matches : Bool) : Type 0 where

@@ -1,35 +1,23 @@
 -- Lines that the search puts over the theory, and lines behind lines.
 use Rattle.std.proofs.Common.{◌≡◌, ◌⊎◌, ℕ, zero, suc, ◌+◌, ◌<◌, Bool, true, false, not, ◌&&◌, nat_lt, if◌then◌else◌, List, [], ◌∷◌, ◌++◌, length, Some, Result, Ok, Err, refl, sym, ap, subst, ◌∙◌, inl, inr, arith, append_assoc}
-use Rattle.std.specs.List.{list_all}
+use Rattle.sb_theory.specs.Words.{AllKept, Asked, Assigned, Atom, AtomOver, Extends, KeepsEntries, Kept, KeptClause, Lit, Regex, Traced, Tracks, Written, atoms_in, counting, kept_at, list_all, most_counted, over, rests_of_any, true_or_false, with_clause, with_gate, with_learned}
 use Rattle.std.proofs.lemmas.Bool.{and_from, or_left, or_right, le-ltb, eq-eqb, lt-ltb}
 use Rattle.std.proofs.lemmas.List.{length-map}
 use Rattle.std.proofs.lemmas.Option.{same_Some}
-use Rattle.sb_lit.specs.declared.clause.Lit.{Lit}
 use Rattle.sb_lit.specs.Clauses.{is_among, is_same_literal, are_ascending}
-use Rattle.sb_lit.specs.Kept.{Kept, KeptClause, kept_at}
 use Rattle.sb_lit.specs.Hints.{Unlearned, learned}
 use Rattle.sb_lit.proofs.CallerLemmas.{is_same_literal-self, all_from_among}
-use Rattle.sb_lang.specs.Regex.{Regex}
-use Rattle.sb_trail.specs.declared.assigned.Assigned.{Assigned}
 use Rattle.sb_analyze.specs.Learning.{IsLesson}
-use Rattle.sb_deriv.specs.Faithful.{Memo, KeepsEntries}
-use Rattle.sb_regex.specs.Numbered.{Extends}
 use Rattle.sb_regex.proofs.CallerLemmas.{extends_same, extends_more}
-use Rattle.sb_graph.specs.Findings.{Findings}
-use Rattle.sb_rulebook.specs.Atoms.{Atom, AtomOver}
 use Rattle.sb_rulebook.specs.AtomRules.{are_known}
 use Rattle.sb_rulebook.specs.ClauseRules.{Refusal, refusal_of, unknown_id}
 use Rattle.sb_rulebook.specs.Gates.{is_gate, has_both_signs}
-use Rattle.sb_rulebook.specs.Kept.{AllKept, Asked, most_counted, counting, with_clause, rests_of_any}
 use Rattle.sb_rulebook.specs.Follows.{follows}
 use Rattle.sb_rulebook.specs.Lines.{learned_line, rule_line, gate}
 use Rattle.sb_rulebook.specs.LineLaws.{has_text}
-use Rattle.sb_atoms.specs.Numbered.{over, atoms_in, HaveRegexesBelow}
-use Rattle.sb_atoms.proofs.CallerLemmas.{atoms_kept}
-use Rattle.sb_trace.specs.Tracking.{Traced, Tracks}
 use Rattle.sb_trace.proofs.CallerLemmas.{puts_none, puts_one, puts_both, tracks_grow}
+pub use Rattle.sb_clash.proofs.CallerLemmas.{tracks_kept}
 use Rattle.sb_search.specs.Asking.{AreKnown}
-use Rattle.sb_search.specs.Writing.{Written, with_learned, with_gate, true_or_false}
 use Rattle.sb_theory.specs.declared.strings.Strings.{Strings}
 use Rattle.sb_theory.specs.Memberships.{is_atom, are_atoms, HaveAtoms}
 use Rattle.sb_theory.specs.Strings.{Stands, Writes}
@@ -40,17 +28,6 @@ stands_longer x entries more h = record {
   levelled = h.levelled;
   rest = h.rest ++ more;
   is = ap (λ es. es ++ more) h.is ∙ append_assoc x.taken.items h.rest more;
-}
-
-pub writes_none : (x : Strings) (proof : Written) → Writes x x proof proof
-writes_none x proof = record {
-  atoms = refl;
-  proves = refl;
-  extends = extends_same x.arena;
-  derivatives = λ n pieces h. h;
-  known = λ h. h;
-  silent = λ off. refl;
-  lines = λ on asked kept backs. (kept, puts_none asked kept proof.told, backs);
 }
 
 pub writes_both : (x y z : Strings) (before between after : Written) → Writes x y before between
@@ -73,9 +50,9 @@ writes_both x y z before between after p q = record {
 
 -- where the arena and what is known of derivatives grow
 pub writes_grown : (x y : Strings) (proof : Written) → y.atoms ≡ x.atoms → y.proves ≡ x.proves → y.trace ≡ x.trace
-    → HaveRegexesBelow (length x.arena) x.atoms → Extends x.arena y.arena → KeepsEntries x.graph.memo y.graph.memo
-    → Writes x y proof proof
-writes_grown x y proof atoms proves trace below e keeps = record {
+    → atoms_in y.arena x.atoms ≡ atoms_in x.arena x.atoms → Extends x.arena y.arena
+    → KeepsEntries x.graph.memo y.graph.memo → Writes x y proof proof
+writes_grown x y proof atoms proves trace table e keeps = record {
   atoms = atoms;
   proves = proves;
   extends = e;
@@ -88,7 +65,7 @@ writes_grown x y proof atoms proves trace below e keeps = record {
     record {
       tracks = subst (λ (t : Traced). Tracks y.arena y.graph.memo t kept) (sym trace)
           (tracks_grow x.arena y.arena x.graph.memo y.graph.memo x.trace kept e keeps b.tracks);
-      atoms = b.atoms ∙ sym (atoms_kept x.arena y.arena x.atoms e below) ∙ ap (atoms_in y.arena) (sym atoms);
+      atoms = b.atoms ∙ sym table ∙ ap (atoms_in y.arena) (sym atoms);
       clauses = b.clauses;
       known = subst (λ (ts : List (AtomOver ℕ)). HaveAtoms ts proof.kept) (sym atoms) b.known;
       counted = b.counted;
@@ -96,30 +73,8 @@ writes_grown x y proof atoms proves trace below e keeps = record {
   );
 }
 
--- where nothing of this changes
-pub writes_same : (x y : Strings) (proof : Written) → y.atoms ≡ x.atoms → y.proves ≡ x.proves → y.trace ≡ x.trace
-    → y.arena ≡ x.arena → y.graph ≡ x.graph → Writes x y proof proof
-writes_same x y proof atoms proves trace arena graph = record {
-  atoms = atoms;
-  proves = proves;
-  extends = subst (λ (rs : List Regex). Extends x.arena rs) (sym arena) (extends_same x.arena);
-  derivatives = subst (λ (g : Findings). KeepsEntries x.graph.memo g.memo) (sym graph) (λ n pieces h. h);
-  known = λ h. subst (λ (ts : List (AtomOver ℕ)). HaveAtoms ts proof.kept) (sym atoms) h;
-  silent = λ off. trace;
-  lines = λ on asked kept b. (
-    kept,
-    puts_none asked kept proof.told,
-    record {
-      tracks = subst (λ (r : List Regex). Tracks r y.graph.memo y.trace kept) (sym arena)
-          (subst (λ (g : Findings). Tracks x.arena g.memo y.trace kept) (sym graph)
-          (subst (λ (t : Traced). Tracks x.arena x.graph.memo t kept) (sym trace) b.tracks));
-      atoms = b.atoms ∙ ap (λ (r : List Regex). atoms_in r x.atoms) (sym arena) ∙ ap (atoms_in y.arena) (sym atoms);
-      clauses = b.clauses;
-      known = subst (λ (ts : List (AtomOver ℕ)). HaveAtoms ts proof.kept) (sym atoms) b.known;
-      counted = b.counted;
-    },
-  );
-}
+pub writes_none : (x : Strings) (proof : Written) → Writes x x proof proof
+writes_none x proof = writes_grown x x proof refl refl refl refl (extends_same x.arena) (λ n pieces h. h)
 
 -- Atoms of clauses that are kept.
 
@@ -166,20 +121,6 @@ learned_follows asked kept clause ids level known accepted room =
     ap (λ b. if not b then Err unknown_id else learned_as asked kept clause ids (learned kept.clauses clause ids)) known
     ∙ ap (learned_as asked kept clause ids) accepted
     ∙ counting_on asked (with_clause kept clause level (rests_of_any kept ids)) room
-
--- where other clauses are kept
-pub tracks_kept : (rs : List Regex) (memo : Memo) (t : Traced) (kept : AllKept) (clauses : Kept) (rests : List (List ℕ))
-    (counted : ℕ) → Tracks rs memo t kept
-    → Tracks rs memo t (record kept { clauses = clauses; rests = rests; counted = counted })
-tracks_kept rs memo t kept clauses rests counted h = record {
-  numbers = h.numbers;
-  regexes = h.regexes;
-  expansions_long = h.expansions_long;
-  dead_long = h.dead_long;
-  expanded = h.expanded;
-  dead = h.dead;
-  targets = h.targets;
-}
 
 pub writes_learned : (x : Strings) (proof : Written) (clause : List Lit) (hints : List ℕ) (level : ℕ)
     → IsLesson proof.kept clause hints level → AreKnown (λ atom. is_atom x.atoms atom ≡ true) clause

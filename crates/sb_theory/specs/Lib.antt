@@ -1,3 +1,4 @@
+pub mod Words
 pub mod Memberships
 pub mod Wanted
 pub mod Strings

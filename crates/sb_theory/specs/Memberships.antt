@@ -1,16 +1,9 @@
 -- When literals are true of words, one for each String constant.
 use Rattle.std.specs.Prelude.{◌≡◌, ℕ, Bool, true, false, not, nat_eq, nat_lt, if◌then◌else◌, List, [], ◌∷◌, filter, get_or, slice_get, length, Option, Some, None, option_and_then, unwrap_or}
-use Rattle.std.specs.List.{list_all}
-use Rattle.sb_lit.specs.declared.clause.Lit.{Lit}
-use Rattle.sb_lit.specs.Kept.{Kept, KeptClause, kept_at}
-use Rattle.sb_lang.specs.Regex.{Regex}
+use Rattle.sb_theory.specs.Words.{AtomOver, Kept, KeptClause, Lit, Regex, atoms_in, bool_atom, clause_holds, constant_piece, in_atom, kept_at, list_all, regex_at}
 use Rattle.sb_lang.specs.Language.{language}
-use Rattle.sb_regex.specs.Numbered.{regex_at}
 use Rattle.sb_meaning.specs.Values.{Valuation}
-use Rattle.sb_script.specs.Pieces.{constant_piece}
-use Rattle.sb_rulebook.specs.Atoms.{AtomOver, bool_atom, in_atom, clause_holds}
 use Rattle.sb_sound.specs.Tables.{HasWords}
-use Rattle.sb_atoms.specs.Numbered.{atoms_in}
 use Rattle.sb_clash.specs.Literals.{number_in}
 
 -- the constant of a membership

@@ -1,8 +1,6 @@
 -- Private: entries of a trail that are taken off from its end, and rows of literals.
 use Rattle.std.specs.Prelude.{◌≡◌, ℕ, Bool, false, nat_eq, nat_lt, if◌then◌else◌, List, [], ◌∷◌, ◌++◌}
-use Rattle.sb_lit.specs.declared.clause.Lit.{Lit}
-use Rattle.sb_trail.specs.declared.assigned.Assigned.{Assigned}
-use Rattle.sb_trail.specs.Assignments.{current_level, up_to}
+use Rattle.sb_theory.specs.Words.{Assigned, Lit, current_level, up_to}
 use Rattle.sb_theory.specs.Memberships.{row_at}
 
 -- the last entry's level is above this one

@@ -1,33 +1,19 @@
 -- What the theory has taken in of a trail, and what its lines make of a proof.
-use Rattle.std.specs.Prelude.{◌≡◌, ◌≢◌, ℕ, ◌<◌, true, false, List, [], ◌++◌, map, length, take, Option}
-use Rattle.std.specs.List.{list_all}
-use Rattle.sb_lit.specs.declared.clause.Lit.{Lit}
+use Rattle.std.specs.Prelude.{◌≡◌, ℕ, ◌<◌, ◌≤◌, Bool, true, false, List, [], ◌++◌, length, take, Option, Some, None, Result, IfOk}
+use Rattle.sb_theory.specs.Words.{AllKept, AreLevelled, Ask, Asked, Assigned, AtomOver, Extends, Fine, HaveRegexesBelow, IsGraph, IsRight, KeepsEntries, Kept, Lemma, Lit, Serial, Spent, Tracks, Written, atoms_in, held, kept_behind, list_all, written}
 use Rattle.sb_lit.specs.Budgets.{Spending}
-use Rattle.sb_lit.specs.Clauses.{negation, is_false_clause}
-use Rattle.sb_lit.specs.Kept.{Kept}
-use Rattle.sb_lang.specs.Regex.{Regex}
-use Rattle.sb_trail.specs.declared.assigned.Assigned.{Assigned}
-use Rattle.sb_trail.specs.Assignments.{held, AreLevelled}
+use Rattle.sb_lit.specs.Clauses.{is_false_clause}
 use Rattle.sb_clauses.specs.Propagation.{HasNoneFalse}
-use Rattle.sb_deriv.specs.Faithful.{KeepsEntries}
-use Rattle.sb_regex.specs.Numbered.{Extends}
-use Rattle.sb_graph.specs.Findings.{IsGraph}
-use Rattle.sb_plain.specs.Memory.{IsRight}
-use Rattle.sb_rulebook.specs.Atoms.{AtomOver}
-use Rattle.sb_rulebook.specs.Kept.{AllKept, Asked}
-use Rattle.sb_sound.specs.HintLaws.{Ascend}
-use Rattle.sb_atoms.specs.Numbered.{atoms_in, HaveRegexesBelow}
-use Rattle.sb_trace.specs.Putting.{Puts, IsCounted}
-use Rattle.sb_trace.specs.Tracking.{Tracks}
-use Rattle.sb_clash.specs.Literals.{AreAbout, AreClashing}
+use Rattle.sb_proof.specs.declared.tape.TapeFault.{TapeFault}
+use Rattle.sb_trace.specs.Putting.{Puts, IsCounted, CountsTapeFault, SpendsWithin}
+use Rattle.sb_clash.specs.Literals.{AreClashing, AreFewer}
+use Rattle.sb_clash.specs.Denials.{IsDenial}
 use Rattle.sb_search.specs.Asking.{IsFair}
-use Rattle.sb_search.specs.Writing.{Written, written, kept_behind}
 use Rattle.sb_search.specs.declared.theory.Checked.{Checked}
-use Rattle.sb_search.specs.declared.theory.Checked.TheVariants.{Fine, Lemma, Ask, Spent}
 use Rattle.sb_theory.specs.declared.strings.Strings.{Strings}
-use Rattle.sb_theory.specs.Memberships.{AreMembers, row_at, is_true_by, is_atom, HaveAtoms}
+use Rattle.sb_theory.specs.Memberships.{row_at, is_true_by, is_atom, HaveAtoms}
 use Rattle.sb_theory.specs.Wanted.{is_of_wanted, wanted_on, IsTaught}
-use Rattle.sb_theory.specs.Fronts.{AreFitting}
+use Rattle.sb_theory.specs.Fronts.{number_at, IsWhole, Rises, AreRows}
 
 -- What holds of the theory: its tables are right, the rows are those of the literals of wanted atoms that were taken in,
 -- and it is known how much of each of them is true of the words.
@@ -35,8 +21,8 @@ pub record Holds (x : Strings) : Type 0 where
   pub graph : IsGraph x.arena x.graph
   pub plain : IsRight x.arena x.plain
   pub regexes : HaveRegexesBelow (length x.arena) x.atoms
-  pub members : AreMembers x.atoms x.members.items (wanted_on x.wanted x.taken.items)
-  pub fit : AreFitting x.arena x.atoms x.words.items (wanted_on x.wanted x.taken.items) x.fitting.items x.changed
+  pub rows : AreRows x.arena x.atoms x.words.items x.members.items x.fitting.items x.changed
+      (wanted_on x.wanted x.taken.items)
 
 -- What was taken in is the front of the trail.
 pub record Stands (x : Strings) (entries : List Assigned) : Type 0 where
@@ -49,11 +35,18 @@ pub record Stands (x : Strings) (entries : List Assigned) : Type 0 where
 abbrev pub Agrees : Strings → List Assigned → Type 0
 Agrees x entries = list_all (is_true_by x.arena x.atoms x.words.items) (wanted_on x.wanted entries) ≡ true
 
+-- what stays whatever is asked
+pub record Frame : Type 0 where
+  pub atoms : List (AtomOver ℕ)
+  pub wanted : List ℕ
+  pub proves : Bool
+
+abbrev pub frame_of : Strings → Frame
+frame_of x = record { atoms = x.atoms; wanted = x.wanted; proves = x.proves }
+
 -- Regexes may be added, and nothing else that others know changes.
 pub record Grows (x y : Strings) : Type 0 where
-  pub atoms : y.atoms ≡ x.atoms
-  pub wanted : y.wanted ≡ x.wanted
-  pub proves : y.proves ≡ x.proves
+  pub frame : frame_of y ≡ frame_of x
   pub below : HaveRegexesBelow (length x.arena) x.atoms
   pub extends : Extends x.arena y.arena
 
@@ -63,12 +56,19 @@ pub record Keeps (x y : Strings) : Type 0 where
   pub trace : y.trace ≡ x.trace
   pub derivatives : KeepsEntries x.graph.memo y.graph.memo
 
+-- what was taken in, and what is to be looked at
+pub record Intake : Type 0 where
+  pub entries : List Assigned
+  pub rows : List (List Lit)
+  pub changed : List Serial
+
+abbrev pub intake_of : Strings → Intake
+intake_of x = record { entries = x.taken.items; rows = x.members.items; changed = x.changed }
+
 -- Words may be put: what was taken in stays, and so do the constants whose rows are to be looked at.
 pub record Looks (x y : Strings) : Type 0 where
   pub keeps : Keeps x y
-  pub taken : y.taken.items ≡ x.taken.items
-  pub members : y.members.items ≡ x.members.items
-  pub changed : y.changed ≡ x.changed
+  pub intake : intake_of y ≡ intake_of x
 
 -- no word makes the row of the constant true
 abbrev pub HasClash : Strings → ℕ → Type 0
@@ -77,6 +77,39 @@ HasClash x constant = AreClashing x.arena x.atoms (row_at x.members.items consta
 -- nor so many first literals of it
 abbrev pub HasClashIn : ℕ → Strings → ℕ → Type 0
 HasClashIn long x constant = AreClashing x.arena x.atoms (take long (row_at x.members.items constant))
+
+-- A word was asked for of so many first literals of a constant's row: it is the constant's, or there is none.
+pub record IsAsked (long : ℕ) (x y : Strings) (constant : ℕ) (found : Bool) : Type 0 where
+  pub holds : Holds y
+  pub fits : found ≡ true → number_at y.fitting.items constant ≡ long
+  pub clash : found ≡ false → HasClashIn long y constant
+  pub rises : Rises x.fitting.items y.fitting.items
+
+-- The same of the whole row, where no word may be needed.
+pub record IsSettled (x y : Strings) (constant : ℕ) (found : Bool) : Type 0 where
+  pub holds : Holds y
+  pub whole : found ≡ true → IsWhole y.members.items y.fitting.items constant
+  pub clash : found ≡ false → HasClash y constant
+  pub rises : Rises x.fitting.items y.fitting.items
+
+-- Either all rows fit, or that of this constant has no word.
+pub record AreSettled (x y : Strings) (found : Option Serial) : Type 0 where
+  pub holds : Holds y
+  pub entries : y.taken.items ≡ x.taken.items
+  pub settled : found ≡ None → y.changed ≡ []
+  pub clash : (s : Serial) → found ≡ Some s → HasClash y s.0
+
+-- so many first literals of the row have no word
+pub record IsFront (y : Strings) (constant long : ℕ) : Type 0 where
+  pub holds : Holds y
+  pub within : long ≤ length (row_at y.members.items constant)
+  pub clash : HasClashIn long y constant
+
+-- a few literals of the row clash
+pub record AreFew (y : Strings) (constant : ℕ) (few : List Lit) : Type 0 where
+  pub holds : Holds y
+  pub fewer : AreFewer few (row_at y.members.items constant)
+  pub clash : AreClashing y.arena y.atoms few
 
 -- The reader of the proof keeps what the theory knows of regexes and atoms, and these clauses, whose atoms it knows.
 pub record Backs (asked : Asked) (x : Strings) (kept : AllKept) (proof : Written) : Type 0 where
@@ -99,15 +132,10 @@ pub record Writes (x y : Strings) (before after : Written) : Type 0 where
       → (more : AllKept) × Puts asked kept more before.told after.told × Backs asked y more after
 
 -- The clause is of wanted memberships of one constant, no word makes it false, and it is false on the trail.
-pub record IsDenied (rs : List Regex) (atoms : List (AtomOver ℕ)) (wanted : List ℕ) (entries : List Assigned) (x : ℕ)
-    (clause : List Lit) : Type 0
-  where
-    pub asked : list_all (is_of_wanted wanted) clause ≡ true
-    pub about : AreAbout atoms x clause
-    pub clash : AreClashing rs atoms (map negation clause)
-    pub some : clause ≢ []
-    pub ascend : Ascend clause
-    pub is_false : is_false_clause (held entries) clause ≡ true
+pub record IsDenied (x : Strings) (entries : List Assigned) (constant : ℕ) (clause : List Lit) : Type 0 where
+  pub denial : IsDenial x.arena x.atoms constant clause
+  pub asked : list_all (is_of_wanted x.wanted) clause ≡ true
+  pub is_false : is_false_clause (held entries) clause ≡ true
 
 -- a lemma spends a step, and all is spent where that is the answer
 abbrev pub IsPaid : Spending → Spending → Checked → Type 0
@@ -120,12 +148,18 @@ IsPaid before after Spent = after.spent ≡ after.limit
 pub record Answers (x y : Strings) (entries : List Assigned) (before after : Spending) (old new : Option (List ℕ))
     (answer : Checked) : Type 0
   where
+    pub stands : Stands y entries
+    pub agrees : answer ≡ Fine → Agrees y entries
     pub fair : IsFair (λ atom. is_atom y.atoms atom ≡ true) (IsTaught y.arena y.atoms y.wanted) entries answer
     pub paid : IsPaid before after answer
     pub writes : (kept : Kept) → HasNoneFalse kept (held entries)
         → Writes x y (written kept before old) (written (kept_behind kept answer) after new)
 
--- The answer is the end, where something is wrong.
-abbrev pub IsEnd : Strings → Strings → List Assigned → Spending → Spending → Option (List ℕ) → Option (List ℕ) → Checked
-    → Type 0
-IsEnd x y entries before after old new answer = Answers x y entries before after old new answer × (answer ≢ Fine)
+-- What a look at a trail leaves, whatever comes of it.
+pub record IsLook (x y : Strings) (entries : List Assigned) (before after : Spending) (old new : Option (List ℕ))
+    (faults now : ℕ) (result : Result Checked TapeFault) : Type 0
+  where
+    pub answers : IfOk result (Answers x y entries before after old new)
+    pub grows : Grows x y
+    pub steps : SpendsWithin before after
+    pub counts : CountsTapeFault result faults now

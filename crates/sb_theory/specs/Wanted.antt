@@ -1,11 +1,6 @@
 -- The atoms that are to have values, and the literals of these.
 use Rattle.std.specs.Prelude.{◌≡◌, ℕ, Bool, true, false, nat_eq, List, filter, get_or}
-use Rattle.std.specs.List.{list_any, list_all}
-use Rattle.sb_lit.specs.declared.clause.Lit.{Lit}
-use Rattle.sb_trail.specs.declared.assigned.Assigned.{Assigned}
-use Rattle.sb_trail.specs.Assignments.{held}
-use Rattle.sb_lang.specs.Regex.{Regex}
-use Rattle.sb_rulebook.specs.Atoms.{AtomOver}
+use Rattle.sb_theory.specs.Words.{Assigned, AtomOver, Lit, Regex, held, list_all, list_any}
 use Rattle.sb_theory.specs.Memberships.{IsValid}
 
 -- the atom is one of those that are wanted

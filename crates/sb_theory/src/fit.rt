@@ -1,19 +1,16 @@
 //! Literals that are matched with the words of their constants.
 
 ghost use Rattle.std.specs.Prelude.{◌≡◌, ◌<◌, ◌^◌, ◌∷◌, ◌++◌, [], List, length, IfOk, OnOk};
-ghost use Rattle.sb_lit.specs.declared.clause.Lit.{Lit as TheLit};
-ghost use Rattle.sb_regex.specs.Numbered.{Extends};
-ghost use Rattle.sb_plain.specs.Memory.{IsRight};
-ghost use Rattle.sb_atoms.specs.Numbered.{HaveRegexesBelow};
-ghost use Rattle.sb_theory.specs.Memberships.{is_true_by, AreMembers};
+ghost use Rattle.sb_theory.specs.Words.{Extends, HaveRegexesBelow, IsRight, Lit as TheLit};
+ghost use Rattle.sb_theory.specs.Memberships.{is_true_by};
 ghost use Rattle.sb_theory.specs.Wanted.{wanted_of};
-ghost use Rattle.sb_theory.specs.Fronts.{AreFitting, IsNoted};
+ghost use Rattle.sb_theory.specs.Fronts.{AreRows, IsNoted};
 
 use crate::changed::Changed;
 use crate::member::{asked, membership};
 use crate::numbers::{number_of, put_number};
 use crate::place::contains;
-use crate::row::{Row, row_of};
+use crate::row::{Row, put_member, row_of};
 use crate::wanted::WantedAtoms;
 use sb_atoms::Atoms;
 use sb_lit::Lit;
@@ -21,7 +18,7 @@ use sb_plain::Plain;
 use sb_regex::Arena;
 use sb_term::Serial;
 use sb_word::Word;
-use std::alloc::AllocError;
+use std::alloc::{AllocError, Global};
 
 /// Whether the word of a literal's constant makes it true, and so where it is about none.
 pub(crate) fn fits(
@@ -44,26 +41,27 @@ pub(crate) fn fits(
     Ok(is_in == literal.positive)
 }
 
-/// Matches the next literal of a constant's row with its word, where the literal's atom is wanted and the word is known
-/// to make the row true so far: either it makes the next one true too, or the constant is to be looked at. What is known
-/// of a row that was longer is then known of what is left of it.
-pub(crate) fn note(
+/// Adds the next literal to the row of its constant, where its atom is wanted. Where the word is known to make the row
+/// true so far, either it makes the next one true too, or the constant is to be looked at. What is known of a row that
+/// was longer is then known of what is left of it.
+pub(crate) fn take_literal(
+    alloc: Global,
     arena: &mut Arena,
     plain: &mut Plain,
     wanted: &WantedAtoms,
     atoms: &Atoms,
     words: &[Option<Word>],
-    rows: &[Row],
+    rows: &mut Vec<Row>,
     fitting: &mut Vec<usize>,
     changed: &mut Changed,
     literal: Lit,
 ) -> Result<(), AllocError>
     requires regexes { HaveRegexesBelow (length arena.old) atoms.now }
     requires right { IsRight arena.old plain.old }
-    ensures fit { OnOk result ((ls : List TheLit) → AreMembers atoms.now rows.now ls
-        → AreFitting arena.old atoms.now words.now ls fitting.old.items changed.old
-        → AreFitting arena.new atoms.now words.now (ls ++ wanted_of wanted.now (literal ∷ [])) fitting.new.items
-        changed.new) }
+    ensures rows { OnOk result ((ls : List TheLit)
+        → AreRows arena.old atoms.now words.now rows.old.items fitting.old.items changed.old ls
+        → AreRows arena.new atoms.now words.now rows.new.items fitting.new.items changed.new
+        (ls ++ wanted_of wanted.now (literal ∷ []))) }
     ensures extends { Extends arena.old arena.new }
     ensures right { IsRight arena.new plain.new }
 {
@@ -72,10 +70,11 @@ pub(crate) fn note(
     };
     let long = row_of(rows, member.serial).len();
     if number_of(fitting, member.serial) < long {
-        return Ok(());
+        return put_member(alloc, rows, member.serial, literal);
     }
     let matches = fits(arena, plain, atoms, words, literal)?;
-    note_next(fitting, changed, member.serial, long, matches)
+    note_next(fitting, changed, member.serial, long, matches)?;
+    put_member(alloc, rows, member.serial, literal)
 }
 
 /// Notes whether the next literal of a constant's row is true of its word, which makes so many true, all of the row so

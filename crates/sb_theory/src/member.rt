@@ -1,24 +1,19 @@
 //! What literals are about, and what was taken in of them.
 
-ghost use Rattle.std.specs.Prelude.{◌≡◌, ◌∷◌, ◌++◌, ℕ, true, [], List, None, OnOk, IfSome, IfNone};
-ghost use Rattle.sb_lit.specs.declared.clause.Lit.{Lit as TheLit};
-ghost use Rattle.sb_script.specs.Pieces.{constant_piece};
-ghost use Rattle.sb_rulebook.specs.Atoms.{in_atom};
-ghost use Rattle.sb_trail.specs.Assignments.{AreLevelled};
-ghost use Rattle.sb_atoms.specs.Numbered.{Names, atom_in};
+ghost use Rattle.std.specs.Prelude.{◌≡◌, ◌∷◌, ◌++◌, ℕ, true, [], List, Some, None, IfSome, IfNone};
+ghost use Rattle.sb_theory.specs.Words.{AreLevelled, Lit as TheLit, Names, atom_in, constant_piece, in_atom};
 ghost use Rattle.sb_theory.specs.Places.{IsCut};
 ghost use Rattle.sb_theory.specs.Memberships.{constant_of, subject_of, literals_about, AreMembers};
 ghost use Rattle.sb_theory.specs.Wanted.{is_wanted, wanted_of, wanted_on};
 
-use crate::place::{add, is_above};
-use crate::row::{Row, drop_member, put_member};
+use crate::place::is_above;
+use crate::row::{Row, drop_member};
 use crate::wanted::WantedAtoms;
 use sb_atoms::{Atom, AtomId, Atoms};
 use sb_lit::Lit;
 use sb_regex::RegexId;
 use sb_term::Serial;
 use sb_trail::Entry;
-use std::alloc::{AllocError, Global};
 
 /// That a constant's word is in the language of a regex.
 #[derive(Clone, Copy)]
@@ -57,8 +52,7 @@ fn member_in(atom: &Atom) -> Option<Member>
 
 /// What a literal's atom says, where it is wanted and a membership of one constant. Takes constant time and no memory.
 pub(crate) fn asked(wanted: &WantedAtoms, atoms: &Atoms, literal: Lit) -> Option<Member>
-    ensures some { IfSome result
-        (λ found. Names atoms.now literal.atom (in_atom (constant_piece found.serial.0 ∷ []) found.regex)) }
+    ensures some { IfSome result (λ found. subject_of atoms.now literal ≡ Some found.serial.0) }
     ensures wanted { IfSome result (λ found. is_wanted wanted.now literal.atom ≡ true) }
     ensures none { IfNone result ((x : ℕ) → literals_about atoms.now x (wanted_of wanted.now (literal ∷ [])) ≡ []) }
 {
@@ -69,27 +63,6 @@ pub(crate) fn asked(wanted: &WantedAtoms, atoms: &Atoms, literal: Lit) -> Option
         return None;
     }
     Some(member)
-}
-
-/// Adds an entry to those that were taken in, and its literal, where its atom is wanted, to the row of its constant.
-pub(crate) fn keep(
-    alloc: Global,
-    wanted: &WantedAtoms,
-    atoms: &Atoms,
-    taken: &mut Vec<Entry>,
-    rows: &mut Vec<Row>,
-    entry: Entry,
-) -> Result<(), AllocError>
-    ensures taken { OnOk result (taken.new.items ≡ taken.old.items ++ entry ∷ []) }
-    ensures members { OnOk result (AreMembers atoms.now rows.old.items (wanted_on wanted.now taken.old.items)
-        → AreMembers atoms.now rows.new.items (wanted_on wanted.now taken.new.items)) }
-{
-    let literal = entry.literal();
-    let Some(member) = asked(wanted, atoms, literal) else {
-        return add(taken, entry);
-    };
-    put_member(alloc, rows, member.serial, literal)?;
-    add(taken, entry)
 }
 
 /// Takes the last literal that was taken in off the row of its constant, where its atom is wanted. Takes no memory.

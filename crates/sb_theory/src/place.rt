@@ -1,9 +1,8 @@
 //! Words by the serials of their constants.
 
-ghost use Rattle.std.specs.Prelude.{◌≡◌, ◌<◌, ◌∷◌, ◌++◌, [], length, IfOk, OnOk};
+ghost use Rattle.std.specs.Prelude.{◌≡◌, ◌<◌, length, IfOk, OnOk};
 ghost use Rattle.sb_lang.specs.Language.{language};
-ghost use Rattle.sb_regex.specs.Numbered.{regex_at, Extends};
-ghost use Rattle.sb_plain.specs.Memory.{IsRight};
+ghost use Rattle.sb_theory.specs.Words.{Extends, IsRight, regex_at};
 ghost use Rattle.sb_theory.specs.Memberships.{word_at, IsPut};
 ghost use Rattle.sb_theory.specs.Places.{is_above};
 
@@ -49,14 +48,6 @@ pub(crate) fn put_word(
         words.push(None)?;
     }
     words[place] = Some(word);
-    Ok(())
-}
-
-/// Adds an entry.
-pub(crate) fn add(entries: &mut Vec<Entry>, entry: Entry) -> Result<(), AllocError>
-    ensures { OnOk result (entries.new.items ≡ entries.old.items ++ entry ∷ []) }
-{
-    entries.push(entry)?;
     Ok(())
 }
 

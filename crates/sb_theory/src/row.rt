@@ -1,7 +1,7 @@
 //! Literals of memberships by the serials of their constants.
 
 ghost use Rattle.std.specs.Prelude.{◌≡◌, ◌<◌, ◌≤◌, ◌∷◌, ◌++◌, [], List, length, take, get_or, OnOk};
-ghost use Rattle.sb_lit.specs.declared.clause.Lit.{Lit as TheLit};
+ghost use Rattle.sb_theory.specs.Words.{Lit as TheLit};
 ghost use Rattle.sb_theory.specs.Memberships.{row_at};
 ghost use Rattle.sb_theory.specs.Places.{IsAdded, IsDropped};
 

@@ -1,29 +1,23 @@
 //! The theory.
 
-ghost use Rattle.std.specs.Prelude.{◌≡◌, ◌+◌, ◌<◌, ◌≤◌, [], true, false, length, if◌then◌else◌, IfOk, OnOk, IfSome, IfNone};
+ghost use Rattle.std.specs.Prelude.{◌≡◌, ◌+◌, ◌<◌, ◌≤◌, [], true, length, if◌then◌else◌, IfOk, OnOk};
 ghost use Rattle.std.proofs.Common.{rules};
-ghost use Rattle.sb_trail.specs.Assignments.{current_level};
-ghost use Rattle.sb_graph.specs.Findings.{IsGraph};
-ghost use Rattle.sb_plain.specs.Memory.{IsRight};
-ghost use Rattle.sb_atoms.specs.Numbered.{HaveRegexesBelow};
-ghost use Rattle.sb_trace.specs.Putting.{CountsTapeFault, SpendsWithin};
-ghost use Rattle.sb_clash.specs.Literals.{AreClashing, AreFewer};
-ghost use Rattle.sb_search.specs.declared.theory.Checked.TheVariants.{Fine, Lemma, Spent};
+ghost use Rattle.sb_theory.specs.Words.{HaveRegexesBelow, IsGraph, IsRight, Lemma, Spent, current_level};
 ghost use Rattle.sb_theory.specs.Memberships.{row_at, is_atom};
 ghost use Rattle.sb_theory.specs.Wanted.{IsTaught};
-ghost use Rattle.sb_theory.specs.Fronts.{number_at, IsWhole, Rises};
-ghost use Rattle.sb_theory.specs.Strings.{Holds, Stands, Agrees, Grows, Keeps, Looks, HasClash, HasClashIn, Writes, IsDenied, Answers, IsEnd};
+ghost use Rattle.sb_theory.specs.Fronts.{number_at};
+ghost use Rattle.sb_theory.specs.Strings.{Holds, Stands, Agrees, Keeps, Looks, HasClash, IsAsked, IsSettled, AreSettled, IsFront, AreFew, IsDenied, Writes, IsLook};
 ghost use Rattle.sb_theory.specs.Laws.{stands_longer, writes_none, writes_both, writes_learned, writes_gate};
 
 use crate::changed::Changed;
-use crate::fit::{fits, note};
-use crate::member::{cut, keep};
+use crate::fit::{fits, take_literal};
+use crate::member::cut;
 use crate::numbers::{number_of, put_number};
 use crate::place::put_word;
 use crate::row::{Row, front_of, literal_at, row_of};
 use crate::wanted::WantedAtoms;
 use sb_atoms::Atoms;
-use sb_clash::{core, denial, least_word, put_denial};
+use sb_clash::{core, denial, least_word, put_denial, tick};
 use sb_clauses::Clauses;
 use sb_graph::{Explored, Graph, graph_stays};
 use sb_lang::constructors::{mkand_keeps_language, mknot_keeps_language};
@@ -172,16 +166,12 @@ impl Strings {
         budget: &mut Budget,
     ) -> Result<Checked, TapeFault>
         requires { Stands self.old trail.now.literals }
-        ensures stands { OnOk result (Stands self.new trail.now.literals) }
-        ensures answers { IfOk result (Answers self.old self.new trail.now.literals budget.old budget.new
-            (L.Tape.told tape.old) (L.Tape.told tape.new)) }
-        ensures agrees { IfOk result (λ answer. answer ≡ Fine → Agrees self.new trail.now.literals) }
-        ensures grows { Grows self.old self.new }
-        ensures steps { SpendsWithin budget.old budget.new }
-        ensures counts { CountsTapeFault result (L.Tape.faults tape.old) (L.Tape.faults tape.new) }
+        ensures { IsLook self.old self.new trail.now.literals budget.old budget.new (L.Tape.told tape.old)
+            (L.Tape.told tape.new) (L.Tape.faults tape.old) (L.Tape.faults tape.new) result }
     {
         self.take_in(trail)?;
-        let found = self.first_clash()?;
+        let marks = self.proves && trail.current_level() == 0;
+        let found = self.first_clash(marks)?;
         match found {
             None => Ok(Checked::Fine),
             Some(serial) => self.clash(trail, serial, tape, budget),
@@ -191,8 +181,8 @@ impl Strings {
     /// Takes the whole trail in, whatever the words.
     fn take_in(&mut self, trail: &Trail) -> Result<(), AllocError>
         requires { Stands self.old trail.now.literals }
-        ensures stands { OnOk result (Stands self.new trail.now.literals) }
-        ensures whole { OnOk result (self.new.taken.items ≡ trail.now.literals) }
+        ensures ok { OnOk result
+            (Stands self.new trail.now.literals × (self.new.taken.items ≡ trail.now.literals)) }
         ensures keeps { Keeps self.old self.new }
     {
         while self.taken.len() < trail.len() {
@@ -205,48 +195,39 @@ impl Strings {
     fn take_next(&mut self, trail: &Trail) -> Result<(), AllocError>
         requires stands { Stands self.old trail.now.literals }
         requires more { length self.old.taken.items < length trail.now.literals }
-        ensures stands { OnOk result (Stands self.new trail.now.literals) }
-        ensures more { OnOk result (length self.new.taken.items ≡ length self.old.taken.items + 1) }
+        ensures ok { OnOk result (Stands self.new trail.now.literals
+            × (length self.new.taken.items ≡ length self.old.taken.items + 1)) }
         ensures keeps { Keeps self.old self.new }
     {
         graph_stays();
         let entry = trail.literals()[self.taken.len()];
-        note(
+        take_literal(
+            self.alloc,
             &mut self.arena,
             &mut self.plain,
             &self.wanted,
             &self.atoms,
             &self.words,
-            &self.members,
+            &mut self.members,
             &mut self.fitting,
             &mut self.changed,
             entry.literal(),
         )?;
-        keep(
-            self.alloc,
-            &self.wanted,
-            &self.atoms,
-            &mut self.taken,
-            &mut self.members,
-            entry,
-        )?;
+        self.taken.push(entry)?;
         Ok(())
     }
 
     /// Looks for words of the constants whose rows are not known to fit, oldest first. The first constant that has
-    /// none: it and those behind it are looked at again.
-    fn first_clash(&mut self) -> Result<Option<Serial>, AllocError>
+    /// none: it and those behind it are looked at again. Where `marks` is true, its row is marked as dead in the graph.
+    fn first_clash(&mut self, marks: bool) -> Result<Option<Serial>, AllocError>
         requires { Holds self.old }
-        ensures holds { OnOk result (Holds self.new) }
-        ensures settled { IfOk result (λ found. IfNone found (self.new.changed ≡ [])) }
-        ensures clash { IfOk result (λ found. IfSome found (λ serial. HasClash self.new serial.0)) }
+        ensures ok { IfOk result (AreSettled self.old self.new) }
         ensures keeps { Keeps self.old self.new }
-        ensures taken { self.new.taken.items ≡ self.old.taken.items }
     {
         let mut place = 0;
         while place < self.changed.len() {
             let serial = self.changed.at(place);
-            if !self.settles(serial)? {
+            if !self.settles(serial, marks)? {
                 return Ok(Some(serial));
             }
             place += 1;
@@ -256,32 +237,25 @@ impl Strings {
     }
 
     /// Whether a constant has a word that makes its whole row true, which it has from then on.
-    fn settles(&mut self, serial: Serial) -> Result<bool, AllocError>
+    fn settles(&mut self, serial: Serial, marks: bool) -> Result<bool, AllocError>
         requires { Holds self.old }
-        ensures holds { OnOk result (Holds self.new) }
-        ensures whole { IfOk result (λ found. found ≡ true
-            → IsWhole self.new.members.items self.new.fitting.items serial.0) }
-        ensures clash { IfOk result (λ found. found ≡ false → HasClash self.new serial.0) }
-        ensures rises { OnOk result (Rises self.old.fitting.items self.new.fitting.items) }
+        ensures ok { IfOk result (IsSettled self.old self.new serial.0) }
         ensures looks { Looks self.old self.new }
     {
         let long = row_of(&self.members, serial).len();
         if long <= number_of(&self.fitting, serial) {
             return Ok(true);
         }
-        self.ask(serial, long)
+        self.ask(serial, long, marks)
     }
 
     /// Whether a word makes so many first literals of a constant's row true, more than its word is known to. It is the
     /// constant's from then on.
-    fn ask(&mut self, serial: Serial, long: usize) -> Result<bool, AllocError>
+    fn ask(&mut self, serial: Serial, long: usize, marks: bool) -> Result<bool, AllocError>
         requires holds { Holds self.old }
         requires more { number_at self.old.fitting.items serial.0 < long }
         requires within { long ≤ length (row_at self.old.members.items serial.0) }
-        ensures holds { OnOk result (Holds self.new) }
-        ensures fits { IfOk result (λ found. found ≡ true → number_at self.new.fitting.items serial.0 ≡ long) }
-        ensures clash { IfOk result (λ found. found ≡ false → HasClashIn long self.new serial.0) }
-        ensures rises { OnOk result (Rises self.old.fitting.items self.new.fitting.items) }
+        ensures ok { IfOk result (IsAsked long self.old self.new serial.0) }
         ensures looks { Looks self.old self.new }
     {
         right_stays();
@@ -294,6 +268,7 @@ impl Strings {
             &self.atoms,
             serial,
             front_of(&self.members, serial, long),
+            marks,
         )?;
         match explored {
             Explored::Alive(word) => {
@@ -316,12 +291,8 @@ impl Strings {
         requires stands { Stands self.old trail.now.literals }
         requires whole { self.old.taken.items ≡ trail.now.literals }
         requires clash { HasClash self.old serial.0 }
-        ensures stands { OnOk result (Stands self.new trail.now.literals) }
-        ensures end { IfOk result (IsEnd self.old self.new trail.now.literals budget.old budget.new
-            (L.Tape.told tape.old) (L.Tape.told tape.new)) }
-        ensures grows { Grows self.old self.new }
-        ensures steps { SpendsWithin budget.old budget.new }
-        ensures counts { CountsTapeFault result (L.Tape.faults tape.old) (L.Tape.faults tape.new) }
+        ensures { IsLook self.old self.new trail.now.literals budget.old budget.new (L.Tape.told tape.old)
+            (L.Tape.told tape.new) (L.Tape.faults tape.old) (L.Tape.faults tape.new) result }
     {
         mkand_keeps_language();
         let _trail = trail.literals();
@@ -335,11 +306,9 @@ impl Strings {
     fn clashing(&mut self, trail: &Trail, serial: Serial) -> Result<Vec<Lit>, AllocError>
         requires holds { Holds self.old }
         requires clash { HasClash self.old serial.0 }
-        ensures holds { OnOk result (Holds self.new) }
+        ensures few { IfOk result (λ few. AreFew self.new serial.0 few.items) }
         ensures whole { IfOk result (λ few. current_level trail.now.literals ≡ 0
             → few.items ≡ row_at self.new.members.items serial.0) }
-        ensures fewer { IfOk result (λ few. AreFewer few.items (row_at self.new.members.items serial.0)) }
-        ensures clash { IfOk result (λ few. AreClashing self.new.arena self.new.atoms few.items) }
         ensures looks { Looks self.old self.new }
     {
         right_stays();
@@ -362,31 +331,27 @@ impl Strings {
     fn clashing_front(&mut self, serial: Serial) -> Result<usize, AllocError>
         requires holds { Holds self.old }
         requires clash { HasClash self.old serial.0 }
-        ensures holds { OnOk result (Holds self.new) }
-        ensures within { IfOk result (λ long. long ≤ length (row_at self.new.members.items serial.0)) }
-        ensures clash { IfOk result (λ long. HasClashIn long self.new serial.0) }
+        ensures front { IfOk result (IsFront self.new serial.0) }
         ensures looks { Looks self.old self.new }
     {
         let whole = row_of(&self.members, serial).len();
         let mut long = number_of(&self.fitting, serial);
         while long < whole {
             long += 1;
-            if self.clashes(serial, long)? {
+            if !self.goes_on(serial, long)? {
                 return Ok(long);
             }
         }
         Ok(whole)
     }
 
-    /// Whether no word makes so many first literals of a constant's row true, of which the word is known to make all
-    /// but the last one true.
-    fn clashes(&mut self, serial: Serial, long: usize) -> Result<bool, AllocError>
+    /// Whether a word makes so many first literals of a constant's row true, of which its word is known to make all but
+    /// the last one true. It is the constant's from then on.
+    fn goes_on(&mut self, serial: Serial, long: usize) -> Result<bool, AllocError>
         requires holds { Holds self.old }
         requires next { number_at self.old.fitting.items serial.0 + 1 ≡ long }
         requires within { long ≤ length (row_at self.old.members.items serial.0) }
-        ensures holds { OnOk result (Holds self.new) }
-        ensures fits { IfOk result (λ none. none ≡ false → number_at self.new.fitting.items serial.0 ≡ long) }
-        ensures clash { IfOk result (λ none. none ≡ true → HasClashIn long self.new serial.0) }
+        ensures ok { IfOk result (IsAsked long self.old self.new serial.0) }
         ensures looks { Looks self.old self.new }
     {
         graph_stays();
@@ -400,10 +365,9 @@ impl Strings {
         )?;
         if matches {
             put_number(&mut self.fitting, serial, long)?;
-            return Ok(false);
+            return Ok(true);
         }
-        let found = self.ask(serial, long)?;
-        Ok(!found)
+        self.ask(serial, long, false)
     }
 
     /// The clause as a lemma, with its lines where such are put, and a step of the budget.
@@ -416,19 +380,15 @@ impl Strings {
         budget: &mut Budget,
     ) -> Result<Checked, TapeFault>
         requires stands { Stands self.old trail.now.literals }
-        requires denied { IsDenied self.old.arena self.old.atoms self.old.wanted trail.now.literals serial.0 clause }
-        ensures stands { OnOk result (Stands self.new trail.now.literals) }
-        ensures end { IfOk result (IsEnd self.old self.new trail.now.literals budget.old budget.new
-            (L.Tape.told tape.old) (L.Tape.told tape.new)) }
-        ensures grows { Grows self.old self.new }
-        ensures steps { SpendsWithin budget.old budget.new }
-        ensures counts { CountsTapeFault result (L.Tape.faults tape.old) (L.Tape.faults tape.new) }
+        requires denied { IsDenied self.old trail.now.literals serial.0 clause }
+        ensures { IsLook self.old self.new trail.now.literals budget.old budget.new (L.Tape.told tape.old)
+            (L.Tape.told tape.new) (L.Tape.faults tape.old) (L.Tape.faults tape.new) result }
     {
         right_stays();
         empty_holds();
         empty_is_exact();
         if !self.proves {
-            let done = budget.tick().is_ok();
+            let done = tick(budget);
             return Ok(answered(done, clause));
         }
         let done = put_denial(

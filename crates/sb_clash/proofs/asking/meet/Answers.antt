@@ -1,11 +1,5 @@
-use Rattle.std.proofs.Common.{◌+◌, take, subst, sym, arith, []}
-use Rattle.std.proofs.lemmas.Result.{IfOk-weaker, IfOk-from_err}
-use Rattle.sb_lang.specs.Constructors.{mkand}
-use Rattle.sb_regex.specs.Numbered.{Names, regexes_at}
-use Rattle.sb_regex.proofs.CallerLemmas.{extends_more, extends_same}
-use Rattle.sb_atoms.proofs.CallerLemmas.{regexes_kept}
-use Rattle.sb_clash.specs.Literals.{asked_by_all}
-use Rattle.sb_clash.proofs.AskedFacts.{IsAskedSofar, asked_more, asked_met}
+use Rattle.sb_clash.proofs.Words.{◌+◌, arith, subst, sym, take, IfOk-from_err, IfOk-weaker, Names, extends_more, extends_same, mkand, regexes_at, regexes_kept}
+use Rattle.sb_clash.proofs.AskedFacts.{IsAskedSofar, asked_met, asked_more}
 use Rattle.sb_clash.proofs.asking.meet.Goals as goal
 
 pub loop-literal-preserved : goal.loop-literal-preserved
@@ -21,17 +15,6 @@ loop-literal-preserved c = (
       c.loop-literal.invariant.1 c.requires.about c.loop-literal-test.true c.loop-literal.invariant.2
       c.in_ok-id.ensures.ok),
 )
-
-pub returns-clause-ok : goal.returns-clause-ok
-returns-clause-ok c =
-    IfOk-weaker c.and.result
-    (λ id. Names c.and.new.self id (mkand (regexes_at c.loop-literal.arena c.deref.result.now)))
-    (λ id. Names c.and.new.self id (asked_by_all c.and.new.self c.args.atoms.now c.args.literals.now))
-    (λ id names. asked_met c.loop-literal.arena c.and.new.self c.args.atoms.now c.args.serial.0 c.args.literals.now
-    c.loop-literal.literal-index c.loop-literal.ids.items id (omega (arith, c.loop-literal-test.false))
-    c.and.ensures.extends c.loop-literal.invariant.1 c.requires.about c.loop-literal.invariant.2
-    (subst (λ is. Names c.and.new.self id (mkand (regexes_at c.loop-literal.arena is))) c.deref.ensures.value names))
-    c.and.ensures.ok
 
 pub returns-in_err-ids : goal.returns-in_err-ids
 returns-in_err-ids c =
@@ -59,9 +42,14 @@ returns-in_err-push c =
           c.in_ok-id.ensures.extends;
     }
 
-pub returns-clause-extends : goal.returns-clause-extends
-returns-clause-extends c =
-    extends_more c.args.arena.now c.loop-literal.arena c.and.new.self c.loop-literal.invariant.0 c.and.ensures.extends
-
-pub asked_by-requires-clause-regexes : goal.asked_by-requires-clause-regexes
-asked_by-requires-clause-regexes c = c.loop-literal.invariant.1
+pub returns : goal.returns
+returns c = record {
+  ok = IfOk-weaker c.and.result _ _
+      (λ id names. asked_met c.loop-literal.arena c.and.new.self c.args.atoms.now c.args.serial.0 c.args.literals.now
+      c.loop-literal.literal-index c.loop-literal.ids.items id (omega (arith, c.loop-literal-test.false))
+      c.and.ensures.extends c.loop-literal.invariant.1 c.requires.about c.loop-literal.invariant.2
+      (subst (λ is. Names c.and.new.self id (mkand (regexes_at c.loop-literal.arena is))) c.deref.ensures.value names))
+      c.and.ensures.ok;
+  extends = extends_more c.args.arena.now c.loop-literal.arena c.and.new.self c.loop-literal.invariant.0
+      c.and.ensures.extends;
+}

@@ -1,6 +1,4 @@
-use Rattle.std.proofs.Common.{length, take}
-use Rattle.sb_regex.specs.Numbered.{Extends}
-use Rattle.sb_atoms.specs.Numbered.{HaveRegexesBelow}
+use Rattle.sb_clash.proofs.Words.{length, take, Extends, HaveRegexesBelow}
 use Rattle.sb_clash.proofs.AskedFacts.{IsAskedSofar}
 use Rattle.sb_clash.proofs.asking.meet.Given as goal
 

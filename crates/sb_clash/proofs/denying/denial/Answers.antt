@@ -1,6 +1,4 @@
-use Rattle.std.proofs.Common.{subst, sym}
-use Rattle.std.specs.List.Sorted.{IsPermutation}
-use Rattle.sb_sound.specs.HintLaws.{Ascend}
+use Rattle.sb_clash.proofs.Words.{subst, sym, Ascend, IsPermutation}
 use Rattle.sb_clash.proofs.DenialFacts.{ascends}
 use Rattle.sb_clash.proofs.denying.denial.Goals as goal
 

@@ -1,5 +1,4 @@
-use Rattle.std.proofs.Common.{◌≡◌, take, map}
-use Rattle.sb_lit.specs.Clauses.{negation}
+use Rattle.sb_clash.proofs.Words.{◌≡◌, map, take, negation}
 use Rattle.sb_clash.proofs.denying.opposite.Given as goal
 
 abbrev pub invariant-loop-literal : goal.invariant-loop-literal

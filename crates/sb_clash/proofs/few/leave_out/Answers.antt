@@ -1,60 +1,62 @@
-use Rattle.std.proofs.lemmas.Result.{IfOk-from_err}
-use Rattle.sb_regex.proofs.CallerLemmas.{extends_more, extends_same}
-use Rattle.sb_atoms.proofs.CallerLemmas.{regexes_kept}
-use Rattle.sb_clash.proofs.FewerFacts.{fewer_both}
+use Rattle.sb_clash.proofs.Words.{◌∙◌, arith, subst, sym, CanBeAsked, IfOk-from_err, IsCore}
+use Rattle.sb_clash.proofs.AskedFacts.{explores_both, explores_none}
+use Rattle.sb_clash.proofs.FewerFacts.{core_left}
 use Rattle.sb_clash.proofs.few.leave_out.Goals as goal
 
+pub returns-in_err-left : goal.returns-in_err-left
+returns-in_err-left c =
+    let r = c.from_residual in
+    record { few = IfOk-from_err r.result _ r.ensures.0; explores = explores_none c.requires.can.graph }
+
+pub returns-then-len-gt-MOST_TRIED : goal.returns-then-len-gt-MOST_TRIED
+returns-then-len-gt-MOST_TRIED c = record {
+  few = subst (IsCore c.args.arena.now c.args.atoms.now c.args.literals.now) (sym c.in_ok-left.ensures.items)
+      (record { fewer = λ l. omega arith; clash = c.requires.clash });
+  explores = explores_none c.requires.can.graph;
+}
+
+pub loop-place-init : goal.loop-place-init
+loop-place-init c =
+    let is = sym c.in_ok-left.ensures.items in
+    record {
+      explores = explores_none c.requires.can.graph;
+      can = subst (CanBeAsked c.args.arena.now c.args.graph.now c.args.atoms.now c.args.serial.0) is c.requires.can;
+      few = subst (IsCore c.args.arena.now c.args.atoms.now c.args.literals.now) is
+          (record { fewer = λ l. omega arith; clash = c.requires.clash });
+    }
+
+pub leaves_out-requires : goal.leaves_out-requires
+leaves_out-requires c = record {
+  place = omega (arith, c.loop-place-test.true, c.len-in-loop-place.ensures ∙ c.loop-place.left.ok.0);
+  can = c.loop-place.invariant.can;
+  clash = c.loop-place.invariant.few.clash;
+}
+
 pub loop-place-preserved-then-not-branch : goal.loop-place-preserved-then-not-branch
-loop-place-preserved-then-not-branch c = (
-  extends_more c.args.arena.now c.loop-place.arena c.leaves_out.new.arena c.loop-place.invariant.0
-      c.in_ok-leaves_out.ensures.extends,
-  regexes_kept c.loop-place.arena c.leaves_out.new.arena c.args.atoms.now c.in_ok-leaves_out.ensures.extends
-      c.loop-place.invariant.1,
-  c.in_ok-leaves_out.ensures.graph,
-  λ n h. c.in_ok-leaves_out.ensures.marks_stay n (c.loop-place.invariant.3 n h),
-  λ n pieces h. c.in_ok-leaves_out.ensures.derivatives_stay n pieces (c.loop-place.invariant.4 n pieces h),
-  c.in_ok-leaves_out.ensures.about,
-  fewer_both c.leaves_out.new.left.items c.loop-place.left.items c.args.left.now.items
-      c.in_ok-leaves_out.ensures.fewer c.loop-place.invariant.6,
-  c.in_ok-leaves_out.ensures.clash c.loop-place.invariant.7,
-)
+loop-place-preserved-then-not-branch c =
+    let before = c.loop-place.invariant in
+    let h = c.in_ok-leaves_out.ensures in
+    record {
+      explores = explores_both before.explores h.explores;
+      can = h.ok.can;
+      few = core_left h.ok before.few;
+    }
 
 pub loop-place-preserved : goal.loop-place-preserved
-loop-place-preserved c = (
-  extends_more c.args.arena.now c.loop-place.arena c.leaves_out.new.arena c.loop-place.invariant.0
-      c.in_ok-leaves_out.ensures.extends,
-  regexes_kept c.loop-place.arena c.leaves_out.new.arena c.args.atoms.now c.in_ok-leaves_out.ensures.extends
-      c.loop-place.invariant.1,
-  c.in_ok-leaves_out.ensures.graph,
-  λ n h. c.in_ok-leaves_out.ensures.marks_stay n (c.loop-place.invariant.3 n h),
-  λ n pieces h. c.in_ok-leaves_out.ensures.derivatives_stay n pieces (c.loop-place.invariant.4 n pieces h),
-  c.in_ok-leaves_out.ensures.about,
-  fewer_both c.leaves_out.new.left.items c.loop-place.left.items c.args.left.now.items
-      c.in_ok-leaves_out.ensures.fewer c.loop-place.invariant.6,
-  c.in_ok-leaves_out.ensures.clash c.loop-place.invariant.7,
-)
+loop-place-preserved c =
+    let before = c.loop-place.invariant in
+    let h = c.in_ok-leaves_out.ensures in
+    record {
+      explores = explores_both before.explores h.explores;
+      can = h.ok.can;
+      few = core_left h.ok before.few;
+    }
 
 pub returns-in_err-leaves_out : goal.returns-in_err-leaves_out
 returns-in_err-leaves_out c =
-    let x = c.from_residual in
-    record {
-      fewer = IfOk-from_err x.result _ x.ensures.0;
-      clash = IfOk-from_err x.result _ x.ensures.0;
-      extends = extends_more c.args.arena.now c.loop-place.arena c.leaves_out.new.arena c.loop-place.invariant.0
-          c.in_err-leaves_out.ensures.extends;
-      graph = c.in_err-leaves_out.ensures.graph;
-      marks_stay = λ n h. c.in_err-leaves_out.ensures.marks_stay n (c.loop-place.invariant.3 n h);
-      derivatives_stay = λ n pieces h. c.in_err-leaves_out.ensures.derivatives_stay n pieces (c.loop-place.invariant.4 n pieces h);
-    }
+    let r = c.from_residual-in_err-leaves_out in
+    let e = explores_both c.loop-place.invariant.explores c.in_err-leaves_out.ensures.explores in
+    record { few = IfOk-from_err r.result _ r.ensures.0; explores = e }
 
 pub returns : goal.returns
-returns c =
-    let h = c.loop-place.invariant in
-    record {
-      fewer = h.6;
-      clash = h.7;
-      extends = h.0;
-      graph = h.2;
-      marks_stay = h.3;
-      derivatives_stay = h.4;
-    }
+returns c = let h = c.loop-place.invariant in record { few = h.few; explores = h.explores }

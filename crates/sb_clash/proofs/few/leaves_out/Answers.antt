@@ -1,77 +1,39 @@
-use Rattle.std.proofs.Common.{refl}
-use Rattle.std.proofs.lemmas.Result.{IfOk-from_err}
-use Rattle.std.proofs.lemmas.Bool.{false≢true, true≢false}
-use Rattle.sb_clash.proofs.AskedFacts.{clash_grown}
-use Rattle.sb_regex.proofs.CallerLemmas.{extends_same}
+use Rattle.sb_clash.proofs.Words.{◌∙◌, List, ap, subst, sym, remove, AreClashing, CanBeAsked, IfOk-from_err, Lit}
+use Rattle.sb_clash.proofs.AskedFacts.{explores_none}
+use Rattle.sb_clash.proofs.FewerFacts.{left_out, none_left_out, others_can}
 use Rattle.sb_clash.proofs.few.leaves_out.Goals as goal
-
-pub returns-then-not-branch-clause-clash : goal.returns-then-not-branch-clause-clash
-returns-then-not-branch-clause-clash c = λ h.
-    clash_grown c.args.arena.now c.clash.new.arena c.args.atoms.now c.args.serial.0 c.args.left.now.items
-    c.in_ok-clash.ensures.extends c.requires.regexes c.requires.about h
 
 pub returns-in_err-others : goal.returns-in_err-others
 returns-in_err-others c =
-    let x = c.from_residual in
-    record {
-      fewer = IfOk-from_err x.result _ x.ensures.0;
-      about = IfOk-from_err x.result _ x.ensures.0;
-      clash = IfOk-from_err x.result _ x.ensures.0;
-      shorter = IfOk-from_err x.result _ x.ensures.0;
-      same = IfOk-from_err x.result _ x.ensures.0;
-      extends = extends_same c.args.arena.now;
-      graph = c.requires.graph;
-      marks_stay = λ n h. h;
-      derivatives_stay = λ n pieces h. h;
-    }
+    let r = c.from_residual in
+    record { ok = IfOk-from_err r.result _ r.ensures.0; explores = explores_none c.requires.can.graph }
+
+pub clash-requires : goal.clash-requires
+clash-requires c =
+    subst (CanBeAsked c.args.arena.now c.args.graph.now c.args.atoms.now c.args.serial.0)
+    (sym (c.deref-2.ensures.value ∙ c.remove.ensures.items
+    ∙ ap (λ (ls : List Lit). remove ls c.args.place)
+    (c.in_ok-others.ensures.items ∙ c.deref.ensures.value)))
+    (others_can c.args.left.now.items c.args.place c.requires.can)
 
 pub returns-in_err-clash : goal.returns-in_err-clash
 returns-in_err-clash c =
-    let x = c.from_residual-in_err-clash in
+    let r = c.from_residual-in_err-clash in
+    record { ok = IfOk-from_err r.result _ r.ensures.0; explores = c.in_err-clash.ensures.explores }
+
+pub returns-then-not-branch : goal.returns-then-not-branch
+returns-then-not-branch c =
+    let e = c.in_ok-clash.ensures.explores in
+    record { ok = none_left_out c.args.left.now.items e c.requires.can c.requires.clash; explores = e }
+
+pub returns : goal.returns
+returns c =
+    let e = c.in_ok-clash.ensures.explores in
     record {
-      fewer = IfOk-from_err x.result _ x.ensures.0;
-      about = IfOk-from_err x.result _ x.ensures.0;
-      clash = IfOk-from_err x.result _ x.ensures.0;
-      shorter = IfOk-from_err x.result _ x.ensures.0;
-      same = IfOk-from_err x.result _ x.ensures.0;
-      extends = c.clash.ensures.extends;
-      graph = c.clash.ensures.graph;
-      marks_stay = c.clash.ensures.marks_stay;
-      derivatives_stay = c.clash.ensures.derivatives_stay;
+      ok = left_out c.args.left.now.items c.remove.new.self.items c.args.place c.requires.place
+          (c.remove.ensures.items ∙ ap (λ (ls : List Lit). remove ls c.args.place)
+          (c.in_ok-others.ensures.items ∙ c.deref.ensures.value)) e c.requires.can
+          (subst (AreClashing c.clash.new.arena c.args.atoms.now) c.deref-2.ensures.value
+          (c.in_ok-clash.ensures.clash c.if-not-branch.false));
+      explores = e;
     }
-
-pub returns-then-not-branch-clause-extends : goal.returns-then-not-branch-clause-extends
-returns-then-not-branch-clause-extends c = c.clash.ensures.extends
-
-pub returns-clause-extends : goal.returns-clause-extends
-returns-clause-extends c = c.clash.ensures.extends
-
-pub returns-then-not-branch-clause-graph : goal.returns-then-not-branch-clause-graph
-returns-then-not-branch-clause-graph c = c.clash.ensures.graph
-
-pub returns-clause-graph : goal.returns-clause-graph
-returns-clause-graph c = c.clash.ensures.graph
-
-pub returns-then-not-branch-clause-marks_stay : goal.returns-then-not-branch-clause-marks_stay
-returns-then-not-branch-clause-marks_stay c = c.clash.ensures.marks_stay
-
-pub returns-clause-marks_stay : goal.returns-clause-marks_stay
-returns-clause-marks_stay c = c.clash.ensures.marks_stay
-
-pub returns-then-not-branch-clause-derivatives_stay : goal.returns-then-not-branch-clause-derivatives_stay
-returns-then-not-branch-clause-derivatives_stay c = c.clash.ensures.derivatives_stay
-
-pub returns-clause-derivatives_stay : goal.returns-clause-derivatives_stay
-returns-clause-derivatives_stay c = c.clash.ensures.derivatives_stay
-
-pub returns-then-not-branch-clause-shorter : goal.returns-then-not-branch-clause-shorter
-returns-then-not-branch-clause-shorter c = λ t. absurd (false≢true t)
-
-pub returns-then-not-branch-clause-same : goal.returns-then-not-branch-clause-same
-returns-then-not-branch-clause-same c = λ _. refl
-
-pub returns-then-not-branch-clause-about : goal.returns-then-not-branch-clause-about
-returns-then-not-branch-clause-about c = c.requires.about
-
-pub returns-clause-same : goal.returns-clause-same
-returns-clause-same c = λ t. absurd (true≢false t)

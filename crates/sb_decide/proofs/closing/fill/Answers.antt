@@ -1,5 +1,5 @@
 use Rattle.std.proofs.Common.{◌<◌, length, arith}
-use Rattle.std.proofs.lemmas.Bool.Decides.{nat_tests}
+use Rattle.sb_decide.proofs.Words.{nat_tests}
 use Rattle.sb_decide.proofs.Constants.{filling_more}
 use Rattle.sb_decide.proofs.closing.fill.Goals as goal
 
@@ -8,4 +8,4 @@ loop-alloc-preserved c =
     let few : length c.loop-alloc.words.items < c.args.count =
     grind (arith, nat_tests, c.loop-alloc-test.true, c.len.ensures) in
     filling_more c.args.words.now.items c.loop-alloc.words.items c.push.new.self.items c.args.count
-    c.in_ok-empty_word.field-0 c.loop-alloc.invariant few c.in_ok-push.ensures.items c.in_ok-empty_word.ensures
+    c.in_ok-word_of.field-0 c.loop-alloc.invariant few c.in_ok-push.ensures.items c.in_ok-word_of.ensures.exact

@@ -1,9 +1,5 @@
 use Rattle.std.proofs.Common.{◌≡◌, ◌<◌, List, Option, length}
-use Rattle.std.specs.List.{All}
-use Rattle.sb_lang.specs.Regex.{Regex}
-use Rattle.sb_term.specs.declared.term.Serial.{Serial}
-use Rattle.sb_decide.specs.declared.conjuncts.Member.{Member}
-use Rattle.sb_decide.specs.Taking.{IsTakingOver}
+use Rattle.sb_decide.proofs.Words.{All, IsTakingOver, Member, Regex, Serial}
 use Rattle.sb_decide.proofs.closing.take_over.Given as goal
 
 abbrev pub invariant-loop-one : goal.invariant-loop-one

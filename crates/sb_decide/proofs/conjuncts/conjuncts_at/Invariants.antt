@@ -1,7 +1,5 @@
 use Rattle.std.proofs.Common.{◌≡◌, ℕ, ◌<◌, List, length}
-use Rattle.std.specs.List.{All}
-use Rattle.sb_lang.specs.Regex.{Regex}
-use Rattle.sb_decide.specs.Members.{AreRooted, places_in}
+use Rattle.sb_decide.proofs.Words.{All, AreRooted, Regex, places_in}
 use Rattle.sb_decide.proofs.RootFacts.{Walking}
 use Rattle.sb_decide.proofs.conjuncts.conjuncts_at.Given as goal
 

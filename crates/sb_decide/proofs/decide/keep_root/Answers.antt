@@ -1,11 +1,10 @@
-use Rattle.std.proofs.Common.{◌<◌, length, sym, ◌∙◌, arith}
-use Rattle.sb_decide.proofs.RootFacts.{all_last, root_of_last}
+use Rattle.std.proofs.Common.{sym, ◌∙◌, arith}
+use Rattle.sb_decide.proofs.RootFacts.{last_below, root_of_last}
 use Rattle.sb_decide.proofs.decide.keep_root.Goals as goal
 
 pub index_mut-requires : goal.index_mut-requires
 index_mut-requires c =
-    let low = all_last (λ place. place < length c.args.roots.now.items) _ c.args.places.now c.in-Some.place.now
-    c.in-Some.ensures.cases.0 c.requires.within in
+    let low = (last_below _ _ _ _ c.in-Some.ensures.cases.0 c.requires.within).1 in
     omega (arith, low, c.args.roots.now.ok.0)
 
 pub returns : goal.returns

@@ -1,6 +1,5 @@
 use Rattle.std.proofs.Common.{◌-◌, ◌<◌, length, take, sym, ap, ◌∙◌}
-use Rattle.std.proofs.lemmas.List.Elements.{All-take}
-use Rattle.sb_decide.specs.Conjoined.{is_settled}
+use Rattle.sb_decide.proofs.Words.{All-take, is_settled}
 use Rattle.sb_decide.proofs.Constants.{conjoined_within, unlisted}
 use Rattle.sb_decide.proofs.decide.unlist.Goals as goal
 

@@ -1,7 +1,5 @@
 use Rattle.std.proofs.Common.{Some, ◌∙◌, arith}
-use Rattle.sb_problem.specs.Patterns.{pattern_in}
-use Rattle.sb_script.proofs.CallerLemmas.{asked_regular}
-use Rattle.sb_term.specs.Numbered.{term_at}
+use Rattle.sb_decide.proofs.Words.{asked_regular, pattern_in, term_at}
 use Rattle.sb_decide.proofs.DemandFacts.{denied_demands, denied_fits}
 use Rattle.sb_decide.proofs.demand.demand_of.Goals as goal
 

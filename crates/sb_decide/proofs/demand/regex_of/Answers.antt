@@ -1,6 +1,4 @@
-use Rattle.std.proofs.lemmas.Result.{IfOk-from_err}
-use Rattle.sb_lang.specs.Normal.{normal}
-use Rattle.sb_regex.proofs.CallerLemmas.{extends_more, names_below}
+use Rattle.sb_decide.proofs.Words.{IfOk-from_err, extends_more, names_below, normal}
 use Rattle.sb_term.proofs.CallerLemmas as table
 use Rattle.sb_decide.proofs.DemandFacts.{no_regex, positive_regex, negative_regex}
 use Rattle.sb_decide.proofs.demand.regex_of.Goals as goal
@@ -44,7 +42,7 @@ returns-in_err-complement c =
     let e = c.in_ok-id.ensures in
     record {
       number = IfOk-from_err x.result _ x.ensures.0;
-      extends = extends_more c.args.arena.now c.pattern.new.arena c.not.new.self e.extends c.not.ensures.extends;
+      extends = extends_more _ _ _ e.extends c.not.ensures.extends;
       normals = c.normals_stay.ensures c.args.table.now c.args.table.now c.pattern.new.arena c.not.new.self
           c.pattern.new.self (table.extends_same c.args.table.now) c.not.ensures.extends e.normals;
     }
@@ -55,7 +53,7 @@ returns c =
     record {
       number = negative_regex c.pattern.new.arena c.not.new.self c.args.table.now c.args.demand c.in-Some.id
           c.in_ok-complement.complement c.if-demand.false (rw c.in-Some.is at e.number) c.in_ok-complement.ensures.ok;
-      extends = extends_more c.args.arena.now c.pattern.new.arena c.not.new.self e.extends c.not.ensures.extends;
+      extends = extends_more _ _ _ e.extends c.not.ensures.extends;
       normals = c.normals_stay.ensures c.args.table.now c.args.table.now c.pattern.new.arena c.not.new.self
           c.pattern.new.self (table.extends_same c.args.table.now) c.not.ensures.extends e.normals;
     }

@@ -1,7 +1,5 @@
 use Rattle.std.proofs.Common.{sym, ◌∙◌, arith}
-use Rattle.std.proofs.lemmas.Bool.{false≢true}
-use Rattle.std.proofs.lemmas.Result.{IfOk-from_err}
-use Rattle.sb_regex.proofs.CallerLemmas.{extends_more, extends_same, number_kept}
+use Rattle.sb_decide.proofs.Words.{IfOk-from_err, extends_more, extends_same, false≢true, number_kept}
 use Rattle.sb_decide.proofs.KeptWords.{matched_none, matched_next, matched_all, number_there}
 use Rattle.sb_decide.proofs.standing.is_in_each.Goals as goal
 
@@ -28,7 +26,7 @@ matches-requires c =
     let low = number_there c.args.arena.now c.args.members.now _ _ c.in-Some.member c.requires.numbers within
     c.in-Some.is in
     record {
-      known = number_kept c.args.arena.now c.loop-place.arena _ c.loop-place.invariant.1 low;
+      known = number_kept _ _ _ c.loop-place.invariant.1 low;
       right = c.loop-place.invariant.2;
     }
 
@@ -37,8 +35,7 @@ returns-in_err-matches c =
     let x = c.from_residual in
     record {
       all = IfOk-from_err x.result _ x.ensures.0;
-      extends = extends_more c.args.arena.now c.loop-place.arena c.matches.new.arena c.loop-place.invariant.1
-          c.matches.ensures.extends;
+      extends = extends_more _ _ _ c.loop-place.invariant.1 c.matches.ensures.extends;
       right = c.matches.ensures.right;
     }
 
@@ -47,7 +44,7 @@ returns-then-not-branch c =
     let e = c.in_ok-matches.ensures in
     record {
       all = λ all. absurd (false≢true all);
-      extends = extends_more c.args.arena.now c.loop-place.arena c.matches.new.arena c.loop-place.invariant.1 e.extends;
+      extends = extends_more _ _ _ c.loop-place.invariant.1 e.extends;
       right = e.right;
     }
 
@@ -59,9 +56,9 @@ loop-place-preserved c =
     c.in-Some.is in (
       matched_next c.loop-place.arena c.matches.new.arena c.args.members.now c.args.places.now c.args.word.now
           c.loop-place.place-index _ _ c.in-Some.member e.extends c.loop-place.invariant.0 c.loop-place-test.true within
-          c.in-Some.is (number_kept c.args.arena.now c.loop-place.arena _ c.loop-place.invariant.1 low)
+          c.in-Some.is (number_kept _ _ _ c.loop-place.invariant.1 low)
           (sym (sym c.if-not-branch.false ∙ e.ok)),
-      extends_more c.args.arena.now c.loop-place.arena c.matches.new.arena c.loop-place.invariant.1 e.extends,
+      extends_more _ _ _ c.loop-place.invariant.1 e.extends,
       e.right,
     )
 

@@ -1,7 +1,5 @@
 use Rattle.std.proofs.Common.{take}
-use Rattle.sb_regex.specs.Numbered.{Extends}
-use Rattle.sb_plain.specs.Memory.{IsRight}
-use Rattle.sb_decide.specs.Taking.{IsInEach}
+use Rattle.sb_decide.proofs.Words.{Extends, IsInEach, IsRight}
 use Rattle.sb_decide.proofs.standing.is_in_each.Given as goal
 
 abbrev pub invariant-loop-place : goal.invariant-loop-place

@@ -1,4 +1,4 @@
-use Rattle.std.proofs.lemmas.List.{take_rest}
+use Rattle.sb_decide.proofs.Words.{take_rest}
 use Rattle.sb_decide.proofs.standing.places_behind.Goals as goal
 
 pub returns : goal.returns

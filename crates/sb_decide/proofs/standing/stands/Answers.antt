@@ -1,11 +1,5 @@
 use Rattle.std.proofs.Common.{◌<◌, ◌∙◌, [], length, drop, sym, ap, subst}
-use Rattle.std.proofs.lemmas.Bool.{false≢true}
-use Rattle.std.proofs.lemmas.List.{get_or_read}
-use Rattle.std.proofs.lemmas.List.Elements.{All-drop}
-use Rattle.std.proofs.lemmas.Result.{IfOk-from_err}
-use Rattle.std.specs.List.{All}
-use Rattle.sb_regex.proofs.CallerLemmas.{extends_same}
-use Rattle.sb_decide.specs.Deciding.{word_at}
+use Rattle.sb_decide.proofs.Words.{All, All-drop, IfOk-from_err, extends_same, false≢true, get_or_read, word_at}
 use Rattle.sb_decide.proofs.KeptWords.{behind_within, word_stands}
 use Rattle.sb_decide.proofs.RootFacts.{places_within}
 use Rattle.sb_decide.proofs.standing.stands.Goals as goal

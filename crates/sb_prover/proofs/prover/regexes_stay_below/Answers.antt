@@ -1,4 +1,4 @@
-use Rattle.sb_atoms.proofs.CallerLemmas.{regexes_kept}
+use Rattle.sb_prover.proofs.Words.{regexes_kept}
 use Rattle.sb_prover.proofs.prover.regexes_stay_below.Goals as goal
 
 pub returns : goal.returns

@@ -1,4 +1,4 @@
-use Rattle.std.proofs.Common.{◌≡◌, take}
+use Rattle.sb_prover.proofs.Words.{◌≡◌, take}
 use Rattle.sb_prover.proofs.verdict.characters_of.Given as goal
 
 abbrev pub invariant-loop-code : goal.invariant-loop-code

@@ -1,9 +1,4 @@
-use Rattle.std.proofs.Common.{map, ap, ◌∙◌}
-use Rattle.sb_script.specs.Steps.{line}
-use Rattle.sb_rulebook.specs.Lines.{said_sat, text_of, verdict_line}
-use Rattle.sb_proof.specs.Tapes.{with_bytes}
-use Rattle.sb_stack.specs.Stacked.{live_in}
-use Rattle.sb_prover.specs.Saying.{said_value}
+use Rattle.sb_prover.proofs.Words.{map, ap, ◌∙◌, line, live_in, said_sat, said_value, text_of, verdict_line, with_bytes}
 use Rattle.sb_prover.proofs.verdict.say_values.Goals as goal
 
 pub returns-clause-told : goal.returns-clause-told

@@ -1,7 +1,5 @@
-use Rattle.std.proofs.Common.{◌≡◌, map, take}
+use Rattle.sb_prover.proofs.Words.{◌≡◌, map, take, live_in, said_value}
 use Rattle.sb_proof.specs.Lines.{value_in}
-use Rattle.sb_stack.specs.Stacked.{live_in}
-use Rattle.sb_prover.specs.Saying.{said_value}
 use Rattle.sb_prover.proofs.verdict.values_of.Given as goal
 
 abbrev pub invariant-loop-constant : goal.invariant-loop-constant

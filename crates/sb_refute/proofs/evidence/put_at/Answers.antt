@@ -1,15 +1,14 @@
-use Rattle.std.proofs.Common.{◌≡◌, ◌-◌, ◌++◌, [], ◌∷◌, length, take, replicate, None, ap, ◌∙◌, arith}
-use Rattle.sb_refute.specs.Lines.{placed}
+use Rattle.sb_refute.proofs.Words.{◌≡◌, ◌-◌, ◌++◌, [], ◌∷◌, length, take, replicate, None, ap, ◌∙◌, arith, placed}
 use Rattle.sb_refute.proofs.Places.{set-placed, filled-placed}
 use Rattle.sb_refute.proofs.evidence.put_at.Goals as goal
 
-pub returns-then-place-len-clause-ok : goal.returns-then-place-len-clause-ok
-returns-then-place-len-clause-ok c =
+pub returns-then-place-len : goal.returns-then-place-len
+returns-then-place-len c =
     set-placed c.args.all.now.items c.args.place c.args.asserted
     (omega (arith, c.if-place-len.true, c.len.ensures, c.args.all.now.ok.0))
 
-pub returns-clause-ok : goal.returns-clause-ok
-returns-clause-ok c =
+pub returns : goal.returns
+returns c =
     let v = c.reserve.new.self in
     let long : v.len ≡ length v.items = omega (arith, v.ok.0) in
     c.in_ok-push.ensures.items

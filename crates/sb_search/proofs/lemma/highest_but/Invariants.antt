@@ -1,5 +1,4 @@
-use Rattle.std.proofs.Common.{take}
-use Rattle.sb_search.specs.Searching.{IsHighest}
+use Rattle.sb_search.proofs.Words.{take, IsHighest}
 use Rattle.sb_search.proofs.lemma.highest_but.Given as goal
 
 abbrev pub invariant-loop-literal : goal.invariant-loop-literal

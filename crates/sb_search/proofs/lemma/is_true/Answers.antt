@@ -1,5 +1,4 @@
-use Rattle.std.proofs.Common.{Bool, false, Option, unwrap_or, ap, ◌∙◌}
-use Rattle.sb_trail.specs.Assignments.{held}
+use Rattle.sb_search.proofs.Words.{Bool, false, Option, unwrap_or, ap, ◌∙◌, held}
 use Rattle.sb_search.proofs.Due.{value_true}
 use Rattle.sb_search.proofs.lemma.is_true.Goals as goal
 

@@ -1,12 +1,9 @@
-use Rattle.std.proofs.Common.{sym, ◌∙◌}
+use Rattle.sb_search.proofs.Words.{sym, ◌∙◌}
 use Rattle.sb_search.proofs.Due.{lowest_none, lowest_open, lowest_true}
 use Rattle.sb_search.proofs.lemma.lowest_level.Goals as goal
 
 pub returns-in_default : goal.returns-in_default
 returns-in_default c = lowest_none c.args.trail.now.literals c.args.clause.now c.in_default.ensures
-
-pub second_level-level-requires : goal.second_level-level-requires
-second_level-level-requires c = c.in-Some.ensures
 
 pub returns-then-is_true_up_to : goal.returns-then-is_true_up_to
 returns-then-is_true_up_to c =

@@ -7,5 +7,4 @@ returns-in-Some c =
     (second_two c.args.trail.now.literals c.args.clause.now c.args.last c.in-Some.second c.requires c.in-Some.ensures)
 
 pub returns-in-None : goal.returns-in-None
-returns-in-None c =
-    second_none c.args.trail.now.literals c.args.clause.now c.args.last c.requires c.in-None.ensures
+returns-in-None c = second_none c.args.trail.now.literals c.args.clause.now c.args.last c.requires c.in-None.ensures

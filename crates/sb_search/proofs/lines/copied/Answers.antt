@@ -1,16 +1,11 @@
-use Rattle.std.proofs.Common.{arith}
-use Rattle.std.proofs.lemmas.Grind.{common_steps}
-use Rattle.std.proofs.lemmas.Result.{IfOk-from_err}
+use Rattle.sb_search.proofs.Words.{arith, common_steps, IfOk-from_err}
 use Rattle.sb_search.proofs.lines.copied.Goals as goal
 
 pub loop-literal-preserved : goal.loop-literal-preserved
 loop-literal-preserved c = grind (arith, common_steps)
 
 pub returns : goal.returns
-returns c = record {
-  same = grind (arith, common_steps);
-  small = grind (arith, common_steps);
-}
+returns c = record { same = grind (arith, common_steps); small = grind (arith, common_steps) }
 
 pub returns-in_err-push : goal.returns-in_err-push
 returns-in_err-push c = record {

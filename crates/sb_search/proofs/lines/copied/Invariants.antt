@@ -1,6 +1,4 @@
-use Rattle.std.proofs.Common.{◌≡◌, true, take}
-use Rattle.std.specs.List.{list_all}
-use Rattle.sb_rulebook.specs.LineLaws.{is_small_literal}
+use Rattle.sb_search.proofs.Words.{◌≡◌, true, take, list_all, is_small_literal}
 use Rattle.sb_search.proofs.lines.copied.Given as goal
 
 abbrev pub invariant-loop-literal : goal.invariant-loop-literal

@@ -1,5 +1,4 @@
-use Rattle.std.proofs.Common.{◌≡◌, true, map, take}
-use Rattle.sb_rulebook.specs.LineLaws.{are_small}
+use Rattle.sb_search.proofs.Words.{◌≡◌, true, map, take, are_small}
 use Rattle.sb_search.proofs.lines.numbers.Given as goal
 
 abbrev pub invariant-loop-id : goal.invariant-loop-id

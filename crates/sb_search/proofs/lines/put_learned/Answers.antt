@@ -1,9 +1,4 @@
-use Rattle.std.proofs.Common.{◌≡◌, ℕ, true, List, subst}
-use Rattle.std.specs.List.{list_all}
-use Rattle.std.proofs.lemmas.Bool.{and_from}
-use Rattle.std.proofs.lemmas.Result.{IfOk-from_err, on_ok_weaker}
-use Rattle.sb_lit.specs.declared.clause.Lit.{Lit}
-use Rattle.sb_rulebook.specs.LineLaws.{are_small, is_small_literal}
+use Rattle.sb_search.proofs.Words.{◌≡◌, ℕ, true, List, subst, list_all, and_from, IfOk-from_err, on_ok_weaker, Lit, are_small, is_small_literal}
 use Rattle.sb_search.proofs.lines.put_learned.Goals as goal
 
 pub returns-clause-has_text : goal.returns-clause-has_text
@@ -14,10 +9,12 @@ returns-clause-has_text g c =
     (subst (λ (ns : List ℕ). are_small ns ≡ true) c.ids.ensures c.in_ok-hints.ensures.small)) c.put.ensures.ok
 
 pub returns-in_err-hints-clause-has_text : goal.returns-in_err-hints-clause-has_text
-returns-in_err-hints-clause-has_text g c = IfOk-from_err c.from_residual-in_err-hints.result _ c.from_residual-in_err-hints.ensures.0
+returns-in_err-hints-clause-has_text g c =
+    IfOk-from_err c.from_residual-in_err-hints.result _ c.from_residual-in_err-hints.ensures.0
 
 pub returns-in_err-hints-clause-told : goal.returns-in_err-hints-clause-told
-returns-in_err-hints-clause-told g c = IfOk-from_err c.from_residual-in_err-hints.result _ c.from_residual-in_err-hints.ensures.0
+returns-in_err-hints-clause-told g c =
+    IfOk-from_err c.from_residual-in_err-hints.result _ c.from_residual-in_err-hints.ensures.0
 
 pub returns-in_err-literals-clause-has_text : goal.returns-in_err-literals-clause-has_text
 returns-in_err-literals-clause-has_text g c = IfOk-from_err c.from_residual.result _ c.from_residual.ensures.0

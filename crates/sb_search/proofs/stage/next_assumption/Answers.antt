@@ -1,5 +1,4 @@
-use Rattle.std.proofs.Common.{arith}
-use Rattle.std.proofs.lemmas.Grind.{common_steps}
+use Rattle.sb_search.proofs.Words.{arith, common_steps}
 use Rattle.sb_search.proofs.stage.next_assumption.Goals as goal
 
 pub loop-next-preserved : goal.loop-next-preserved

@@ -1,6 +1,4 @@
-use Rattle.std.proofs.Common.{◌≡◌, ◌-◌, true, take, length}
-use Rattle.sb_trail.specs.Assignments.{held}
-use Rattle.sb_search.specs.Found.{are_true}
+use Rattle.sb_search.proofs.Words.{◌≡◌, ◌-◌, true, take, length, held, are_true}
 use Rattle.sb_search.proofs.stage.next_assumption.Given as goal
 
 abbrev pub invariant-loop-next : goal.invariant-loop-next

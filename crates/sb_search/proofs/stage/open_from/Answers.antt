@@ -1,5 +1,4 @@
-use Rattle.std.proofs.Common.{arith}
-use Rattle.std.proofs.lemmas.Grind.{common_steps, elements}
+use Rattle.sb_search.proofs.Words.{arith, common_steps, elements}
 use Rattle.sb_search.proofs.Places.{open_turn, open_end}
 use Rattle.sb_search.proofs.stage.open_from.Goals as goal
 

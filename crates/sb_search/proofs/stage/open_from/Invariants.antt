@@ -1,6 +1,4 @@
-use Rattle.std.proofs.Common.{◌≡◌, ◌-◌, drop, length}
-use Rattle.std.specs.List.{list_all}
-use Rattle.sb_search.specs.Found.{has_value}
+use Rattle.sb_search.proofs.Words.{◌≡◌, ◌-◌, drop, length, list_all, has_value}
 use Rattle.sb_search.proofs.stage.open_from.Given as goal
 
 abbrev pub invariant-loop-atom : goal.invariant-loop-atom

@@ -1,29 +1,38 @@
+use Rattle.sb_search.proofs.Words.{refl, IfOk-from_err, Stays}
+use Rattle.sb_search.proofs.Steps.{faults_on}
 use Rattle.sb_search.proofs.turn.ask.Goals as goal
 
-pub check-requires-clause-stands : goal.check-requires-clause-stands
-check-requires-clause-stands g c = rw c.trail.ensures c.requires.stands
+pub check-requires : goal.check-requires
+check-requires g c = record {
+  none_false = rw (c.trail.ensures, c.clauses.ensures) c.requires.settled.none_false;
+  stands = rw c.trail.ensures c.requires.stands;
+}
 
-pub returns-clause-agrees : goal.returns-clause-agrees
-returns-clause-agrees g c = rw c.trail.ensures at c.check.ensures.agrees
+pub returns : goal.returns
+returns g c =
+    let h = c.in_ok-answer.ensures in
+    let stays : Stays g.T.Theory c.args.theory.now c.check.new.self =
+    record { wanted = h.wanted; passes = h.passes; teaches = h.teaches } in
+    record {
+      answered = record {
+        stays = stays;
+        stands = rw c.trail.ensures at h.stands;
+        spends = record { limit = h.limit; spent = h.spends; within = h.within };
+        fair = rw c.trail.ensures at h.fair;
+        agrees = rw c.trail.ensures at h.agrees;
+        spent = h.spent;
+        falls = rw (c.trail.ensures, c.clauses.ensures) at h.falls;
+        puts = rw c.clauses.ensures at h.puts;
+      };
+      stays = stays;
+      counts = h.counts;
+    }
 
-pub returns-clause-counts : goal.returns-clause-counts
-returns-clause-counts g c = c.check.ensures.counts
-
-pub returns-clause-fair : goal.returns-clause-fair
-returns-clause-fair g c = rw c.trail.ensures at c.check.ensures.fair
-
-pub returns-clause-falls : goal.returns-clause-falls
-returns-clause-falls g c = rw (c.trail.ensures, c.clauses.ensures) at c.check.ensures.falls
-
-pub returns-clause-puts : goal.returns-clause-puts
-returns-clause-puts g c = rw c.clauses.ensures at c.check.ensures.puts
-
-pub returns-clause-spends : goal.returns-clause-spends
-returns-clause-spends g c =
-    record { limit = c.check.ensures.limit; spent = c.check.ensures.spends; within = c.check.ensures.within }
-
-pub returns-clause-spent : goal.returns-clause-spent
-returns-clause-spent g c = c.check.ensures.spent
-
-pub returns-clause-stands : goal.returns-clause-stands
-returns-clause-stands g c = rw c.trail.ensures at c.check.ensures.stands
+pub returns-in_err-answer : goal.returns-in_err-answer
+returns-in_err-answer g c =
+    let h = c.check.ensures in
+    record {
+      answered = IfOk-from_err c.from_residual.result _ c.from_residual.ensures.0;
+      stays = record { wanted = h.wanted; passes = h.passes; teaches = h.teaches };
+      counts = faults_on c.from_residual.result _ c.in_err-answer.was c.from_residual.ensures.1 refl h.counts;
+    }

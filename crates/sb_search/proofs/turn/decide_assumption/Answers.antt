@@ -1,8 +1,5 @@
-use Rattle.std.proofs.Common.{◌∙◌, ap, subst, arith}
-use Rattle.sb_trail.specs.Assignments.{Assignments, IsTrail, current_level}
-use Rattle.sb_clauses.specs.Propagation.{State}
+use Rattle.sb_search.proofs.Words.{◌∙◌, ap, subst, arith, Assignments, IsTrail, current_level, State, common_steps}
 use Rattle.sb_search.proofs.Turns.{searching_assumed}
-use Rattle.std.proofs.lemmas.Grind.{common_steps}
 use Rattle.sb_search.proofs.turn.decide_assumption.Goals as goal
 
 pub returns-clause-searching : goal.returns-clause-searching

@@ -1,7 +1,5 @@
-use Rattle.std.proofs.Common.{◌≡◌, ◌∙◌, ap, subst, arith}
-use Rattle.sb_trail.specs.Assignments.{Assignments, IsTrail, current_level}
+use Rattle.sb_search.proofs.Words.{◌≡◌, ◌∙◌, ap, subst, arith, Assignments, IsTrail, current_level, common_steps}
 use Rattle.sb_search.proofs.Turns.{searching_free}
-use Rattle.std.proofs.lemmas.Grind.{common_steps}
 use Rattle.sb_search.proofs.turn.decide_free.Goals as goal
 
 pub returns-clause-searching : goal.returns-clause-searching

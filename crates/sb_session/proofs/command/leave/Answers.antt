@@ -1,6 +1,6 @@
 use Rattle.std.proofs.Common.{ℕ, Option, length, ap, subst}
 use Rattle.sb_decide.specs.Laws.{LeavesKnown}
-use Rattle.sb_session.specs.Checking.{LeavesProof}
+use Rattle.sb_session.proofs.Words.{LeavesProof}
 use Rattle.sb_session.proofs.command.leave.Goals as goal
 
 pub returns-clause-knows : goal.returns-clause-knows

@@ -1,9 +1,6 @@
 use Rattle.std.proofs.Common.{◌∙◌, ap, subst}
-use Rattle.std.proofs.lemmas.Result.{err_from_is_err_and, on_err_weaker}
+use Rattle.sb_session.proofs.Words.{Cut, err_from_is_err_and, is_proved, on_err_weaker, opened}
 use Rattle.sb_reader.specs.Feeding as feed
-use Rattle.sb_session.specs.Commanding.{is_proved}
-use Rattle.sb_session.specs.Reading.{Cut}
-use Rattle.sb_session.specs.Solve.{opened}
 use Rattle.sb_session.proofs.CheckLemmas.{ok_map}
 use Rattle.sb_session.proofs.EndLemmas.{end_sofar, end_cut}
 use Rattle.sb_session.proofs.solve.answer_end.Goals as goal

@@ -1,7 +1,5 @@
 use Rattle.std.proofs.Common.{Bool, subst}
-use Rattle.std.proofs.lemmas.Result.{err_from_is_err_and}
-use Rattle.sb_session.specs.Commanding.{is_proved}
-use Rattle.sb_session.specs.Reading.{Cut}
+use Rattle.sb_session.proofs.Words.{Cut, err_from_is_err_and, is_proved}
 use Rattle.sb_session.proofs.solve.answer_entries.Goals as goal
 
 pub returns-in-Some-clause-ok : goal.returns-in-Some-clause-ok

@@ -1,14 +1,10 @@
 use Rattle.std.proofs.Common.{◌≡◌, ◌+◌, ◌≤◌, ℕ, Bool, [], ◌++◌, length, take, drop, refl, ap, subst, ◌∙◌, arith, rules}
-use Rattle.std.proofs.lemmas.Result.{err_from_is_err_and}
+use Rattle.sb_session.proofs.Words.{Cut, Pause, Pauses, err_from_is_err_and, is_proved, on_err_weaker, opened}
 use Rattle.sb_reader.specs.Feeding as feed
-use Rattle.sb_session.specs.declared.solve.Pause.{Pause}
 use Rattle.sb_session.specs.declared.solve.Pause.TheVariants.{Exited}
-use Rattle.sb_session.specs.Commanding.{is_proved}
-use Rattle.sb_session.specs.Pausing.{Pauses}
-use Rattle.sb_session.specs.Reading.{Cut}
-use Rattle.sb_session.specs.Solve.{opened}
+use Rattle.sb_session.proofs.CheckLemmas.{ok_map}
 use Rattle.sb_session.proofs.EndLemmas.{exit_cut}
-use Rattle.sb_session.proofs.ScriptLemmas.{underway_start, underway_cut, all_read, piece_front, piece_moved, longer, piece_cut, piece_exit, piece_on, stays_open, past_limit, end_ok, end_err}
+use Rattle.sb_session.proofs.ScriptLemmas.{underway_start, underway_cut, all_read, piece_front, piece_moved, longer, piece_cut, piece_exit, piece_on, stays_open, past_limit}
 use Rattle.sb_session.proofs.solve.answer_script.Goals as goal
 
 pub loop-count-init : goal.loop-count-init
@@ -43,31 +39,24 @@ returns-clause-ok g c asked old l k e =
 
 pub returns-then-read-eq0-clause-ok : goal.returns-then-read-eq0-clause-ok
 returns-then-read-eq0-clause-ok g c =
-    let before = g.W.World.outside c.loop-count.world in
-    let now = g.W.World.outside c.read.new.self in
-    end_ok c.answer_end.result (is_proved c.args.session.now) (g.W.World.outside c.args.world.now) now (g.W.World.outside c.answer_end.new.world)
-    c.loop-count.feed c.loop-count.session
-    (λ asked old l k e.
-    let way = c.loop-count.invariant.underway asked old l k e in (
-      way.0,
-      all_read asked old way.0 c.read.new.buffer c.in_ok-read.read c.loop-count.feed c.loop-count.session before now
-          c.if-read-eq0.true (let h = way.1 in omega arith) way.2 c.in_ok-read.ensures.moved c.in_ok-read.ensures.bytes,
-    ))
+    ok_map c.answer_end.result
+    (λ status run asked old l k e.
+    let way = c.loop-count.invariant.underway asked old l k e in
+    run asked old way.0
+    (all_read asked old way.0 c.read.new.buffer c.in_ok-read.read c.loop-count.feed c.loop-count.session
+    (g.W.World.outside c.loop-count.world) (g.W.World.outside c.read.new.self) c.if-read-eq0.true
+    (let h = way.1 in omega arith) way.2 c.in_ok-read.ensures.moved c.in_ok-read.ensures.bytes))
     c.answer_end.ensures.ok
 
 pub returns-then-read-eq0-clause-err : goal.returns-then-read-eq0-clause-err
 returns-then-read-eq0-clause-err g c =
-    let before = g.W.World.outside c.loop-count.world in
-    let now = g.W.World.outside c.read.new.self in
-    end_err c.answer_end.result (is_proved c.args.session.now) (g.W.World.outside c.args.world.now) now
-    (g.W.World.outside c.answer_end.new.world)
-    c.loop-count.feed c.loop-count.session
-    (λ asked old l k e.
-    let way = c.loop-count.invariant.underway asked old l k e in (
-      way.0,
-      all_read asked old way.0 c.read.new.buffer c.in_ok-read.read c.loop-count.feed c.loop-count.session before now
-          c.if-read-eq0.true (let h = way.1 in omega arith) way.2 c.in_ok-read.ensures.moved c.in_ok-read.ensures.bytes,
-    ))
+    on_err_weaker c.answer_end.result
+    (λ cut asked old l k e.
+    let way = c.loop-count.invariant.underway asked old l k e in
+    cut asked old way.0
+    (all_read asked old way.0 c.read.new.buffer c.in_ok-read.read c.loop-count.feed c.loop-count.session
+    (g.W.World.outside c.loop-count.world) (g.W.World.outside c.read.new.self) c.if-read-eq0.true
+    (let h = way.1 in omega arith) way.2 c.in_ok-read.ensures.moved c.in_ok-read.ensures.bytes))
     c.answer_end.ensures.err
 
 pub returns-in_err-answer_piece-clause-err : goal.returns-in_err-answer_piece-clause-err

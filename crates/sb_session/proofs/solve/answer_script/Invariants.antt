@@ -1,9 +1,6 @@
 -- so many bytes are read, all whole entries in them are answered, and nothing else was done
 use Rattle.std.proofs.Common.{◌≡◌, ◌≤◌, ◌-◌, ◌^◌, ℕ, false, List, length}
-use Rattle.sb_world.specs.Outside.{Outside}
-use Rattle.sb_session.specs.Solve.{Asked, opened, asks_proof}
-use Rattle.sb_session.specs.Commanding.{is_proved}
-use Rattle.sb_session.specs.Underway.{Underway}
+use Rattle.sb_session.proofs.Words.{Asked, Outside, Underway, asks_proof, is_proved, opened}
 use Rattle.sb_session.proofs.solve.answer_script.Given as goal
 
 abbrev pub invariant-loop-count : goal.invariant-loop-count

@@ -1,12 +1,8 @@
 use Rattle.std.proofs.Common.{◌≡◌, subst, rules}
-use Rattle.std.proofs.lemmas.Result.{err_from_is_err_and}
-use Rattle.sb_script.specs.Scripts.{unfinished_line}
+use Rattle.sb_session.proofs.Words.{Pause, Pauses, err_from_is_err_and, opened, unfinished_line}
 use Rattle.sb_world.specs.declared.OutPort.TheVariants.{Answers}
 use Rattle.sb_reader.specs.declared.feed.Ending.TheVariants.{Unfinished}
-use Rattle.sb_session.specs.declared.solve.Pause.{Pause}
 use Rattle.sb_session.specs.declared.solve.Pause.TheVariants.{Ended}
-use Rattle.sb_session.specs.Pausing.{Pauses}
-use Rattle.sb_session.specs.Solve.{opened}
 use Rattle.sb_session.proofs.WritingLemmas.{one_cut}
 use Rattle.sb_session.proofs.EndLemmas.{end_done, end_unfinished, end_cut_done, end_unfinished_cut, end_unfinished_proof_cut}
 use Rattle.sb_session.proofs.solve.end_script.Goals as goal

@@ -1,4 +1,4 @@
-use Rattle.std.proofs.lemmas.Result.{err_from_is_err_and}
+use Rattle.sb_session.proofs.Words.{err_from_is_err_and}
 use Rattle.sb_world.specs.declared.OutPort.TheVariants.{Faults}
 use Rattle.sb_session.proofs.WritingLemmas.{one_cut}
 use Rattle.sb_session.proofs.solve.refuse_words.Goals as goal

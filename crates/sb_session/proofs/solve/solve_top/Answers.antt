@@ -1,9 +1,6 @@
 use Rattle.std.proofs.Common.{◌≡◌, ◌⊎◌, map, string_bytes, ap₂, sym, subst}
-use Rattle.std.specs.Option.{option_copied}
-use Rattle.sb_session.specs.declared.solve.SolveStatus.{SolveStatus}
+use Rattle.sb_session.proofs.Words.{Asked, Run, SolveStatus, asked_by, asked_for, option_copied, status_by}
 use Rattle.sb_session.specs.declared.solve.SolveStatus.TheVariants.{Done, Unfinished, NoMemory}
-use Rattle.sb_session.specs.Solve.{Asked, Run, asked_for, asked_by}
-use Rattle.sb_session.specs.Progress.{status_by}
 use Rattle.sb_session.proofs.SolveLemmas.{run_by, counts_by, complete_by}
 use Rattle.sb_session.proofs.CertifyingLemmas.{certified_by}
 use Rattle.sb_session.proofs.solve.solve_top.Goals as goal

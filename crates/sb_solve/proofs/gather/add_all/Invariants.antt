@@ -1,6 +1,4 @@
-use Rattle.std.proofs.Common.{◌≡◌, nat_eq, drop}
-use Rattle.indexmap.specs.IndexSet.{insert_all}
-use Rattle.sb_solve.specs.Wanted.{atoms_of}
+use Rattle.sb_solve.proofs.Words.{◌≡◌, nat_eq, drop, insert_all, atoms_of}
 use Rattle.sb_solve.proofs.gather.add_all.Given as goal
 
 abbrev pub invariant-loop-literal : goal.invariant-loop-literal

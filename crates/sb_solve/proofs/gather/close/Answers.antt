@@ -1,5 +1,4 @@
-use Rattle.std.proofs.Common.{◌<◌, length, sym, arith}
-use Rattle.std.proofs.lemmas.Option.{get_or_from_slice_get}
+use Rattle.sb_solve.proofs.Words.{◌<◌, length, sym, arith, get_or_from_slice_get}
 use Rattle.sb_solve.proofs.Gathered.{closing_step}
 use Rattle.sb_solve.proofs.gather.close.Goals as goal
 

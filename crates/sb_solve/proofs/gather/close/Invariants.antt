@@ -1,4 +1,4 @@
-use Rattle.std.proofs.Common.{◌-◌, ◌^◌}
+use Rattle.sb_solve.proofs.Words.{◌-◌, ◌^◌}
 use Rattle.sb_solve.proofs.Gathered.{Closing}
 use Rattle.sb_solve.proofs.gather.close.Given as goal
 

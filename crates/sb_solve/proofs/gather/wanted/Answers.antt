@@ -1,6 +1,4 @@
-use Rattle.std.proofs.Common.{◌∙◌, ℕ, nat_eq, List, sym, ap, subst}
-use Rattle.indexmap.specs.IndexSet.{insert_all}
-use Rattle.sb_solve.specs.Wanted.{atoms_of, AreWanted}
+use Rattle.sb_solve.proofs.Words.{◌∙◌, ℕ, nat_eq, List, sym, ap, subst, insert_all, atoms_of, AreWanted}
 use Rattle.sb_solve.proofs.Gathered.{are_wanted, are_known_atoms}
 use Rattle.sb_solve.proofs.gather.wanted.Goals as goal
 

@@ -1,5 +1,4 @@
-use Rattle.std.proofs.Common.{◌≡◌, ◌+◌, ◌-◌, ℕ, length}
-use Rattle.sb_solve.specs.Values.{truth_in}
+use Rattle.sb_solve.proofs.Words.{◌≡◌, ◌+◌, ◌-◌, ℕ, length, truth_in}
 use Rattle.sb_solve.proofs.given.mark.Given as goal
 
 abbrev pub invariant-loop-truths : goal.invariant-loop-truths

@@ -1,5 +1,4 @@
-use Rattle.std.proofs.Common.{◌≡◌, ℕ, take}
-use Rattle.sb_solve.specs.Values.{truth_in, truth_by}
+use Rattle.sb_solve.proofs.Words.{◌≡◌, ℕ, take, truth_in, truth_by}
 use Rattle.sb_solve.proofs.given.truths.Given as goal
 
 abbrev pub invariant-loop-atom : goal.invariant-loop-atom

@@ -1,7 +1,4 @@
-use Rattle.std.proofs.Common.{ℕ, ◌+◌, List, ◌++◌, [], ◌∷◌, get_or, take, refl, sym, subst, ◌∙◌, arith}
-use Rattle.std.proofs.lemmas.List.{take_more, take_all}
-use Rattle.sb_lit.specs.declared.clause.Lit.{Lit}
-use Rattle.sb_solve.specs.Stating.{AreStated}
+use Rattle.sb_solve.proofs.Words.{ℕ, ◌+◌, List, ◌++◌, [], ◌∷◌, get_or, take, refl, sym, subst, ◌∙◌, arith, take_more, take_all, Lit, AreStated}
 use Rattle.sb_solve.proofs.Stated.{stated_none, stated_more}
 use Rattle.sb_solve.proofs.stating.literals.Goals as goal
 

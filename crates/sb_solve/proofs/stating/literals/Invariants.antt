@@ -1,7 +1,4 @@
-use Rattle.std.proofs.Common.{◌≡◌, take}
-use Rattle.sb_fragment.specs.Measures.{AreMeasures}
-use Rattle.sb_problem.specs.Known.{AreNormals}
-use Rattle.sb_solve.specs.Stating.{AreStated}
+use Rattle.sb_solve.proofs.Words.{◌≡◌, take, AreMeasures, AreNormals, AreStated}
 use Rattle.sb_solve.proofs.stating.literals.Given as goal
 
 abbrev pub invariant-loop-place : goal.invariant-loop-place

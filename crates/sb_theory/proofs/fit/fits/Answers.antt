@@ -1,6 +1,5 @@
-use Rattle.std.proofs.lemmas.Result.{IfOk-from_err}
-use Rattle.sb_regex.proofs.CallerLemmas.{extends_same}
-use Rattle.sb_theory.proofs.Standing.{true_by_word, true_by_none}
+use Rattle.sb_theory.proofs.Words.{ap, sym, IfOk-from_err, extends_same, fits_subject}
+use Rattle.sb_theory.proofs.Fitting.{true_by_word}
 use Rattle.sb_theory.proofs.fit.fits.Goals as goal
 
 pub contains-requires : goal.contains-requires
@@ -11,7 +10,8 @@ contains-requires c = record {
 
 pub returns-in_default : goal.returns-in_default
 returns-in_default c = record {
-  fits = true_by_none c.args.arena.now c.args.atoms.now c.args.words.now c.args.literal c.in_default.ensures.none;
+  fits = sym (ap (fits_subject c.args.arena.now c.args.atoms.now c.args.words.now c.args.literal)
+      c.in_default.ensures.none);
   extends = extends_same c.args.arena.now;
   right = c.requires.right;
 }

@@ -1,4 +1,4 @@
-use Rattle.std.proofs.Common.{sym, ◌∙◌}
+use Rattle.sb_theory.proofs.Words.{◌∙◌, ap, option_and_then, sym, constant_of}
 use Rattle.sb_theory.proofs.Rows.{none_about, none_wanted}
 use Rattle.sb_theory.proofs.member.asked.Goals as goal
 
@@ -19,7 +19,7 @@ returns-then-not-contains c = record {
 
 pub returns : goal.returns
 returns c = record {
-  some = c.in-Some.ensures.some;
+  some = ap (option_and_then constant_of) c.in-Some.ensures.some;
   wanted = sym c.contains.ensures ∙ c.if-not-contains.false;
   none = tt;
 }

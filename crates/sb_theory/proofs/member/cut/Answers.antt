@@ -1,10 +1,6 @@
-use Rattle.std.proofs.Common.{List, sym, ap, subst, ◌∙◌}
-use Rattle.sb_lit.specs.declared.clause.Lit.{Lit}
-use Rattle.sb_theory.specs.Memberships.{AreMembers}
-use Rattle.sb_theory.specs.Wanted.{wanted_on}
-use Rattle.sb_theory.specs.Places.{is_above}
-use Rattle.sb_theory.proofs.Standing.{wanted_push}
-use Rattle.sb_theory.proofs.Placed.{cut_step, cut_end}
+use Rattle.sb_theory.proofs.Words.{◌∙◌, List, ap, subst, sym, AreMembers, Lit, is_above, wanted_on}
+use Rattle.sb_theory.proofs.Rows.{wanted_push}
+use Rattle.sb_theory.proofs.Standing.{cut_end, cut_step}
 use Rattle.sb_theory.proofs.member.cut.Goals as goal
 
 pub loop-taken-preserved-in-Some : goal.loop-taken-preserved-in-Some

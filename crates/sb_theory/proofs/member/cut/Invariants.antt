@@ -1,7 +1,5 @@
-use Rattle.std.proofs.Common.{length}
-use Rattle.sb_theory.specs.Memberships.{AreMembers}
-use Rattle.sb_theory.specs.Wanted.{wanted_on}
-use Rattle.sb_theory.proofs.Placed.{IsCutting}
+use Rattle.sb_theory.proofs.Words.{length, AreMembers, wanted_on}
+use Rattle.sb_theory.proofs.Standing.{IsCutting}
 use Rattle.sb_theory.proofs.member.cut.Given as goal
 
 abbrev pub invariant-loop-taken : goal.invariant-loop-taken

@@ -1,5 +1,4 @@
-use Rattle.std.proofs.Common.{◌≡◌, ◌+◌, ◌-◌, ℕ, length}
-use Rattle.sb_theory.specs.Fronts.{number_at}
+use Rattle.sb_theory.proofs.Words.{◌+◌, ◌-◌, ◌≡◌, length, ℕ, number_at}
 use Rattle.sb_theory.proofs.numbers.put_number.Given as goal
 
 abbrev pub invariant-loop-numbers : goal.invariant-loop-numbers

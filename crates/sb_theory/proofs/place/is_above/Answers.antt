@@ -1,5 +1,5 @@
-use Rattle.std.proofs.Common.{nat_lt, sym, ap, ◌∙◌}
-use Rattle.sb_theory.proofs.Placed.{level_last}
+use Rattle.sb_theory.proofs.Words.{◌∙◌, ap, nat_lt, sym}
+use Rattle.sb_theory.proofs.Standing.{level_last}
 use Rattle.sb_theory.proofs.place.is_above.Goals as goal
 
 pub returns-in-Some : goal.returns-in-Some

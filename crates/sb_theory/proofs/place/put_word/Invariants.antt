@@ -1,5 +1,4 @@
-use Rattle.std.proofs.Common.{◌≡◌, ◌+◌, ◌-◌, ℕ, length}
-use Rattle.sb_theory.specs.Memberships.{word_at}
+use Rattle.sb_theory.proofs.Words.{◌+◌, ◌-◌, ◌≡◌, length, ℕ, word_at}
 use Rattle.sb_theory.proofs.place.put_word.Given as goal
 
 abbrev pub invariant-loop-words : goal.invariant-loop-words

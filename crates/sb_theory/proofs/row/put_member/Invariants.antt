@@ -1,5 +1,4 @@
-use Rattle.std.proofs.Common.{◌≡◌, ◌+◌, ◌-◌, ℕ, length}
-use Rattle.sb_theory.specs.Memberships.{row_at}
+use Rattle.sb_theory.proofs.Words.{◌+◌, ◌-◌, ◌≡◌, length, ℕ, row_at}
 use Rattle.sb_theory.proofs.row.put_member.Given as goal
 
 abbrev pub invariant-loop-alloc : goal.invariant-loop-alloc

@@ -1,5 +1,4 @@
-use Rattle.std.proofs.Common.{◌≡◌, ◌+◌, ◌-◌, ℕ, length}
-use Rattle.sb_theory.specs.Wanted.{mark_at}
+use Rattle.sb_theory.proofs.Words.{◌+◌, ◌-◌, ◌≡◌, length, ℕ, mark_at}
 use Rattle.sb_theory.proofs.wanted.mark.Given as goal
 
 abbrev pub invariant-loop-marks : goal.invariant-loop-marks

@@ -1,5 +1,4 @@
-use Rattle.std.proofs.Common.{◌≡◌, ℕ, take}
-use Rattle.sb_theory.specs.Wanted.{is_wanted, mark_at}
+use Rattle.sb_theory.proofs.Words.{◌≡◌, take, ℕ, is_wanted, mark_at}
 use Rattle.sb_theory.proofs.wanted.marks_of.Given as goal
 
 abbrev pub invariant-loop-atom : goal.invariant-loop-atom

@@ -1,25 +1,45 @@
-use Rattle.std.proofs.Common.{refl, arith, ◌∙◌}
-use Rattle.std.proofs.lemmas.Bool.Decides.{nat_tests}
-use Rattle.sb_decide.proofs.Knowledge.{knows_left}
+use Rattle.std.proofs.Common.{refl, arith}
+use Rattle.sb_decide.proofs.Words.{IfOk-from_err, nat_tests}
+use Rattle.sb_decide.proofs.Knowledge.{knows_left, same_again}
 use Rattle.sb_decide.proofs.decide.Decider.leave.Goals as goal
 
 pub loop-self-init : goal.loop-self-init
-loop-self-init c = (λ stack k. k, refl, refl, refl, refl, refl)
-
-pub returns-clause-knows : goal.returns-clause-knows
-returns-clause-knows c = λ old new e longer few words declared k.
-    knows_left c.normals_stay.ensures c.loop-self.self old new e longer
-    (grind (arith, nat_tests, few, c.loop-self-test.false, c.len.ensures, c.loop-self.self.members.ok.0)) words declared
-    (c.loop-self.invariant.0 old k)
+loop-self-init c =
+    (λ stack k. k, record { arena = refl; graph = refl; normals = refl; measures = refl; plain = refl })
 
 pub loop-self-preserved : goal.loop-self-preserved
 loop-self-preserved c =
     let before = c.loop-self.invariant in
     let back = c.in_ok-take_last_back.ensures in (
       λ stack k. back.knows stack (before.0 stack k),
-      back.arena ∙ before.1,
-      back.graph ∙ before.2,
-      back.normals ∙ before.3,
-      back.measures ∙ before.4,
-      back.plain ∙ before.5,
+      same_again c.args.self.now c.loop-self.self c.take_last_back.new.self before.1 back.same,
     )
+
+pub returns-in_err-take_last_back : goal.returns-in_err-take_last_back
+returns-in_err-take_last_back c =
+    let same = same_again c.args.self.now c.loop-self.self c.take_last_back.new.self c.loop-self.invariant.1
+    c.take_last_back.ensures.same in
+    let x = c.from_residual in
+    record {
+      knows = IfOk-from_err x.result _ x.ensures.0;
+      arena = same.arena;
+      graph = same.graph;
+      normals = same.normals;
+      measures = same.measures;
+      plain = same.plain;
+    }
+
+pub returns : goal.returns
+returns c =
+    let same = c.loop-self.invariant.1 in
+    record {
+      knows = λ old new e longer few words declared k.
+          knows_left c.normals_stay.ensures c.loop-self.self old new e longer
+          (grind (arith, nat_tests, few, c.loop-self-test.false, c.len.ensures, c.loop-self.self.members.ok.0)) words
+          declared (c.loop-self.invariant.0 old k);
+      arena = same.arena;
+      graph = same.graph;
+      normals = same.normals;
+      measures = same.measures;
+      plain = same.plain;
+    }

@@ -1,50 +1,23 @@
-use Rattle.std.proofs.Common.{refl, sym}
-use Rattle.std.proofs.lemmas.Result.{IfOk-from_err}
-use Rattle.sb_decide.proofs.LeftOpen.{left_open_measured}
-use Rattle.sb_decide.proofs.Questions.{all_others_below, question_of}
+use Rattle.std.proofs.Common.{◌++◌, ap, ◌∙◌}
+use Rattle.sb_decide.proofs.Words.{places_of_all}
+use Rattle.sb_decide.proofs.Questions.{gathered_next, gathered_done, question_of}
 use Rattle.sb_decide.proofs.decide.Decider.question.Goals as goal
 
-pub spoken-requires : goal.spoken-requires
-spoken-requires c = record {
-  numbers = rw (c.table.ensures, c.assertions.ensures.value) c.assertions.ensures.numbers;
-  below = rw (c.assertions.ensures.value, c.as_slice.ensures.value)
-      (all_others_below c.args.self.now c.args.stack.now c.requires.open.ready.knows);
-  measures = rw c.table.ensures c.requires.open.ready.knows.taken.measures;
-}
+pub loop-serial-init : goal.loop-serial-init
+loop-serial-init c =
+    ap (λ ps. ps ++ places_of_all c.args.self.now.constants.items c.as_slice-serials.result.now)
+    (c.in_ok-places.ensures.items ∙ c.as_slice.ensures.value)
 
-pub returns-in_err-serials : goal.returns-in_err-serials
-returns-in_err-serials c =
-    let x = c.from_residual in
-    record {
-      question = IfOk-from_err x.result _ x.ensures.0;
-      «open» = IfOk-from_err x.result _ x.ensures.0;
-      others = refl;
-      arena = refl;
-      graph = refl;
-    }
-
-pub returns-in_err-places : goal.returns-in_err-places
-returns-in_err-places c =
-    let x = c.from_residual-in_err-places in
-    record {
-      question = IfOk-from_err x.result _ x.ensures.0;
-      «open» = IfOk-from_err x.result _ x.ensures.0;
-      others = refl;
-      arena = refl;
-      graph = refl;
-    }
+pub loop-serial-preserved : goal.loop-serial-preserved
+loop-serial-preserved c =
+    gathered_next c.args.self.now.constants.items c.loop-serial.places.items c.extend_from_slice.new.self.items
+    c.places.result.now _ c.as_slice-serials.result.now c.loop-serial.serial-index _ c.loop-serial-test.true
+    c.places.ensures c.in_ok-extend_from_slice.ensures.items c.loop-serial.invariant
 
 pub returns : goal.returns
-returns c =
-    let e = c.in_ok-serials.ensures in
-    record {
-      question = question_of c.args.self.now c.args.stack.now c.as_slice-2.result.now c.in_ok-places.places.items
-          c.requires.open.ready
-          (rw (c.table.ensures, c.assertions.ensures.value, c.as_slice.ensures.value, sym c.as_slice-2.ensures.keys)
-          at e.speaks) c.in_ok-places.ensures;
-      «open» = left_open_measured c.args.self.now c.spoken.new.measures c.args.stack.now
-          (rw c.table.ensures at e.measures) c.requires.open;
-      others = refl;
-      arena = refl;
-      graph = refl;
-    }
+returns c = λ stack ready.
+    question_of c.args.self.now stack c.sort_unstable.new.self.items
+    (gathered_done c.args.self.now.constants.items c.loop-serial.places.items c.sort_unstable.new.self.items _
+    c.args.self.now.spoken.keys c.loop-serial.serial-index
+    (rw c.as_slice-serials.ensures.keys at c.loop-serial-test.false)
+    (rw c.as_slice-serials.ensures.keys at c.loop-serial.invariant) c.sort_unstable.ensures.permutation) ready

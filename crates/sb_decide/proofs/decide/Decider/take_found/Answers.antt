@@ -1,21 +1,13 @@
-use Rattle.std.proofs.Common.{[], length, refl, sym, ap, ◌∙◌, subst, arith}
-use Rattle.std.proofs.lemmas.Result.{IfOk-from_err}
-use Rattle.std.proofs.lemmas.List.{with_items_is}
-use Rattle.std.specs.Vec.{with_items}
-use Rattle.sb_stack.specs.Stacked.{without_words}
-use Rattle.sb_decide.specs.Taking.{IsTakingOver}
-use Rattle.sb_decide.proofs.TakingOver.{constants_long, found_within, over_of, words_long}
+use Rattle.std.proofs.Common.{[], length, refl, sym, ap, ◌∙◌, subst₂, arith}
+use Rattle.sb_decide.proofs.Words.{IfOk-from_err, IsTakingOver, with_items_is, without_words}
+use Rattle.sb_decide.proofs.TakingOver.{found_within, over_of}
 use Rattle.sb_decide.proofs.decide.Decider.take_found.Goals as goal
 
 pub fill-requires : goal.fill-requires
 fill-requires c =
-    omega (
-      arith,
-      ap length c.take_words-words.ensures.words,
-      c.declared-declared.ensures.value,
-      c.requires.ready.knows.words.few,
-      c.requires.ready.all.1,
-    )
+    let ready = c.requires.ready in
+    let words = ap length c.take_words-words.ensures.words in
+    omega (arith, words, c.declared-declared.ensures.value, ready.knows.words.few, ready.all.1)
 
 pub take_over-requires : goal.take_over-requires
 take_over-requires c =
@@ -50,24 +42,16 @@ returns c =
     c.take_words-words.ensures.words
     c.declared-declared.ensures.value c.in_ok-fill.ensures c.deref_mut.ensures.value c.deref_mut-2.ensures.value
     c.take_over.ensures in
+    let long = c.declared-declared.ensures.value in
     let words = with_items_is c.fill.new.words c.take_over.new.words
-    (words_long kept.arena kept.members.items kept.left.items kept.constants.items c.take_over.new.constants c.take_over.new.words
-    c.fill.new.words c.declared-declared.result c.take_words-words.result.items over
-    (c.declared-declared.ensures.value ∙ sym all.1) c.in_ok-fill.ensures) in
+    (omega (arith, over.long, long, all.1, c.in_ok-fill.ensures.long, c.fill.new.words.ok.0)) in
     let constants = with_items_is kept.constants c.take_over.new.constants
-    (constants_long kept.arena kept.members.items kept.left.items kept.constants c.take_over.new.constants
-    c.take_over.new.words over)
-    in
+    (omega (arith, over.same_length, kept.constants.ok.0)) in
     record {
       over = record {
-        over = subst
-            (λ cs. IsTakingOver kept.arena kept.members.items kept.left.items kept.constants.items cs
-            (with_items c.fill.new.words c.take_over.new.words).items [])
-            (sym constants)
-            (subst
-            (λ ws. IsTakingOver kept.arena kept.members.items kept.left.items kept.constants.items
-            c.take_over.new.constants ws [])
-            (sym words) over);
+        over = subst₂
+            (λ cs ws. IsTakingOver kept.arena kept.members.items kept.left.items kept.constants.items cs ws [])
+            (sym constants) (sym words) over;
         changed = c.replace.ensures.value;
         nothing = ap (λ v. v.items) c.replace.ensures.after ∙ c.new-2.ensures.items;
         same = refl;

@@ -1,7 +1,5 @@
 use Rattle.std.proofs.Common.{◌≡◌, ◌≤◌, length, ◌∙◌, arith, refl, sym, ap}
-use Rattle.std.proofs.lemmas.Result.{IfOk-from_err}
-use Rattle.std.proofs.lemmas.Bool.{false≢true}
-use Rattle.sb_regex.proofs.CallerLemmas.{extends_same, extends_more}
+use Rattle.sb_decide.proofs.Words.{extends_more, extends_same, false≢true}
 use Rattle.sb_decide.proofs.Knowledge.{taken_roomy, kept_roomy}
 use Rattle.sb_decide.proofs.MemberFacts.{members_few}
 use Rattle.sb_decide.proofs.TakingOver.{live_outside}
@@ -35,8 +33,7 @@ loop-assertions-preserved c =
         declared = omega (arith, kept.0, before.0.declared);
       },
       kept.0 ∙ before.1,
-      extends_more c.args.self.now.arena c.loop-assertions.self.arena c.take_one.new.self.arena before.2
-          c.in_ok-take_one.ensures.extends,
+      extends_more _ _ _ before.2 c.in_ok-take_one.ensures.extends,
       c.in_ok-take_one.ensures.graph ∙ before.3,
     )
 
@@ -56,8 +53,7 @@ returns-then-not-branch c =
           (c.in_ok-take_one.ensures.outside c.if-not-branch.true);
       named = c.assertions-assertions.ensures.named;
       fit = c.declared.ensures.fit;
-      extends = extends_more c.args.self.now.arena c.loop-assertions.self.arena c.take_one.new.self.arena before.2
-          c.in_ok-take_one.ensures.extends;
+      extends = extends_more _ _ _ before.2 c.in_ok-take_one.ensures.extends;
       graph = c.in_ok-take_one.ensures.graph ∙ before.3;
     }
 
@@ -74,17 +70,11 @@ returns c =
     let now = c.loop-assertions.invariant in
     let few = members_few c.loop-assertions.self.arena c.args.stack.now.table c.loop-assertions.self.members.items
     c.args.stack.now.assertions now.0.taken.members in
+    let same = ap length c.assertions-assertions.ensures.value in
     record {
       knows = now.0;
       all = λ _. (
-        omega (
-          arith,
-          few,
-          c.loop-assertions-test.false,
-          c.len.ensures,
-          ap length c.assertions-assertions.ensures.value,
-          c.loop-assertions.self.members.ok.0,
-        ),
+        omega (arith, few, c.loop-assertions-test.false, c.len.ensures, same, c.loop-assertions.self.members.ok.0),
         now.1,
       );
       outside = λ t. absurd (false≢true (sym t));
@@ -92,30 +82,4 @@ returns c =
       fit = c.declared.ensures.fit;
       extends = now.2;
       graph = now.3;
-    }
-
-pub returns-in_err-make_room : goal.returns-in_err-make_room
-returns-in_err-make_room c =
-    let x = c.from_residual in
-    record {
-      knows = IfOk-from_err x.result _ x.ensures.0;
-      all = IfOk-from_err x.result _ x.ensures.0;
-      outside = IfOk-from_err x.result _ x.ensures.0;
-      named = IfOk-from_err x.result _ x.ensures.0;
-      fit = IfOk-from_err x.result _ x.ensures.0;
-      extends = IfOk-from_err x.result _ x.ensures.0;
-      graph = IfOk-from_err x.result _ x.ensures.0;
-    }
-
-pub returns-in_err-take_one : goal.returns-in_err-take_one
-returns-in_err-take_one c =
-    let x = c.from_residual-in_err-take_one in
-    record {
-      knows = IfOk-from_err x.result _ x.ensures.0;
-      all = IfOk-from_err x.result _ x.ensures.0;
-      outside = IfOk-from_err x.result _ x.ensures.0;
-      named = IfOk-from_err x.result _ x.ensures.0;
-      fit = IfOk-from_err x.result _ x.ensures.0;
-      extends = IfOk-from_err x.result _ x.ensures.0;
-      graph = IfOk-from_err x.result _ x.ensures.0;
     }

@@ -1,6 +1,5 @@
 use Rattle.std.proofs.Common.{◌≡◌, ◌-◌, length}
-use Rattle.sb_regex.specs.Numbered.{Extends}
-use Rattle.sb_decide.specs.Knowing.{Knows}
+use Rattle.sb_decide.proofs.Words.{Extends, Knows}
 use Rattle.sb_decide.proofs.decide.Decider.take_in.Given as goal
 
 abbrev pub invariant-loop-assertions : goal.invariant-loop-assertions

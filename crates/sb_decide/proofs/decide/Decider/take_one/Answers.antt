@@ -1,22 +1,14 @@
-use Rattle.std.proofs.Common.{◌≡◌, Some, None, length, refl, sym, subst, ◌∙◌, arith, ◌∷◌, [], length-append, ap}
-use Rattle.std.proofs.lemmas.Result.{IfOk-from_err}
-use Rattle.std.proofs.lemmas.Bool.{false≢true}
-use Rattle.std.specs.Vec.{with_items}
-use Rattle.sb_regex.specs.Numbered.{Extends}
-use Rattle.sb_regex.proofs.CallerLemmas.{extends_same}
-use Rattle.sb_term.specs.Numbered.{term_at}
-use Rattle.sb_decide.specs.declared.conjuncts.Member.{Member}
-use Rattle.sb_decide.specs.Demands.{expression_in}
+use Rattle.std.proofs.Common.{◌≡◌, Some, None, length, refl, sym, subst, ◌∙◌, arith, ◌∷◌, [], length-append, ap, append-nil}
+use Rattle.sb_decide.proofs.Words.{Extends, Member, expression_in, extends_same, false≢true, term_at, with_items}
+use Rattle.sb_decide.proofs.Constants.{put_some}
 use Rattle.sb_decide.proofs.DemandFacts.{other_kind, too_large}
-use Rattle.sb_decide.proofs.Knowledge.{at_place, is_member, is_other, number_within, term_outside}
-use Rattle.sb_decide.proofs.Knowledge.{serial_within, taken_grown, taken_measured, stay_grown, stay_put, taken_more}
+use Rattle.sb_decide.proofs.Knowledge.{at_place, is_member, is_other, number_within, term_outside, serial_within, taken_grown, taken_measured, stay_grown, stay_put, taken_more}
 use Rattle.sb_decide.proofs.TakingOver.{put_here, settled_through}
 use Rattle.sb_decide.proofs.decide.Decider.take_one.Goals as goal
 
 pub returns-in_default : goal.returns-in_default
 returns-in_default c =
-    let there = at_place c.args.self.now.members c.args.assertions.now _ c.index-assertions-place.result
-    c.len-place.ensures c.index-assertions-place.is in
+    let there = at_place c.args.self.now.members _ _ _ c.len-place.ensures c.index-assertions-place.is in
     record {
       taken = c.requires.taken;
       words = λ words kept. (refl, kept);
@@ -29,79 +21,46 @@ returns-in_default c =
 
 pub demand_of-requires : goal.demand_of-requires
 demand_of-requires c =
-    number_within (length c.args.table.now) c.args.assertions.now _ c.index-assertions-place.result c.in-Some.term
-    c.requires.numbers c.requires.more
-    (at_place c.args.self.now.members c.args.assertions.now _ c.index-assertions-place.result c.len-place.ensures
-    c.index-assertions-place.is) c.in-Some.is
+    number_within _ _ _ _ _ c.requires.numbers c.requires.more
+    (at_place c.args.self.now.members _ _ _ c.len-place.ensures c.index-assertions-place.is) c.in-Some.is
 
 pub take_other-requires : goal.take_other-requires
 take_other-requires c =
     record {
-      number = number_within (length c.args.table.now) c.args.assertions.now _ c.index-assertions-place.result
-          c.in-Some.term c.requires.numbers c.requires.more
-          (at_place c.args.self.now.members c.args.assertions.now _ c.index-assertions-place.result
-          c.len-place.ensures c.index-assertions-place.is) c.in-Some.is;
+      number = number_within _ _ _ _ _ c.requires.numbers c.requires.more
+          (at_place c.args.self.now.members _ _ _ c.len-place.ensures c.index-assertions-place.is) c.in-Some.is;
       measures = c.requires.taken.measures;
-    }
-
-pub returns-in_err-decided : goal.returns-in_err-decided
-returns-in_err-decided c =
-    let x = c.from_residual in
-    record {
-      taken = IfOk-from_err x.result _ x.ensures.0;
-      words = IfOk-from_err x.result _ x.ensures.0;
-      extends = IfOk-from_err x.result _ x.ensures.0;
-      graph = IfOk-from_err x.result _ x.ensures.0;
-      further = IfOk-from_err x.result _ x.ensures.0;
-      outside = IfOk-from_err x.result _ x.ensures.0;
     }
 
 pub returns-in_default-demand_of : goal.returns-in_default-demand_of
 returns-in_default-demand_of c =
     let e = c.in_ok-decided.ensures in
-    let there = at_place c.args.self.now.members c.args.assertions.now _ c.index-assertions-place.result
-    c.len-place.ensures c.index-assertions-place.is in
+    let there = at_place c.args.self.now.members _ _ _ c.len-place.ensures c.index-assertions-place.is in
     record {
       taken = e.taken c.args.assertions.now c.index-assertions-place.result c.requires.more there
-          (λ is. is_other c.args.table.now c.args.assertions.now _ c.index-assertions-place.result c.in-Some.term
-          c.requires.numbers c.requires.more there c.in-Some.is c.in_default-demand_of.ensures.parts (sym e.ok ∙ is))
+          (λ is. is_other _ _ _ _ _ c.requires.numbers c.requires.more there c.in-Some.is
+          c.in_default-demand_of.ensures.parts (sym e.ok ∙ is))
           c.requires.taken;
       words = e.words;
-      extends = subst (Extends c.args.self.now.arena) (sym c.take_other.ensures.arena)
+      extends = subst (Extends c.args.self.now.arena) (sym e.arena)
           (extends_same c.args.self.now.arena);
-      graph = c.take_other.ensures.graph;
+      graph = e.graph;
       further = e.further;
-      outside = λ is. term_outside c.args.table.now c.args.assertions.now _ c.index-assertions-place.result
-          (Some c.in-Some.term) c.requires.more there c.in-Some.is (sym e.ok ∙ is);
-    }
-
-pub returns-in_err-is_regular : goal.returns-in_err-is_regular
-returns-in_err-is_regular c =
-    let x = c.from_residual-in_err-is_regular in
-    record {
-      taken = IfOk-from_err x.result _ x.ensures.0;
-      words = IfOk-from_err x.result _ x.ensures.0;
-      extends = IfOk-from_err x.result _ x.ensures.0;
-      graph = IfOk-from_err x.result _ x.ensures.0;
-      further = IfOk-from_err x.result _ x.ensures.0;
-      outside = IfOk-from_err x.result _ x.ensures.0;
+      outside = λ is. term_outside _ _ _ _ (Some c.in-Some.term) c.requires.more there c.in-Some.is (sym e.ok ∙ is);
     }
 
 pub returns-then-not-branch : goal.returns-then-not-branch
 returns-then-not-branch c =
     let demand = c.in-Some-demand_of in
-    let there = at_place c.args.self.now.members c.args.assertions.now _ c.index-assertions-place.result
-    c.len-place.ensures c.index-assertions-place.is in
+    let there = at_place c.args.self.now.members _ _ _ c.len-place.ensures c.index-assertions-place.is in
     record {
       taken = taken_measured c.args.self.now c.is_regular.new.self c.args.table.now c.args.assertions.now
           c.in_ok-is_regular.ensures.right c.requires.taken;
-      words = stay_grown c.args.self.now (record c.args.self.now { measures = c.is_regular.new.self }) c.args.table.now
-          c.args.assertions.now (extends_same c.args.self.now.arena) refl refl c.requires.taken;
+      words = λ words kept. (refl, kept);
       extends = extends_same c.args.self.now.arena;
       graph = refl;
       further = λ t. absurd (false≢true t);
-      outside = λ _. term_outside c.args.table.now c.args.assertions.now _ c.index-assertions-place.result
-          (Some c.in-Some.term) c.requires.more there c.in-Some.is
+      outside = λ _. term_outside _ _ _ _ (Some c.in-Some.term) c.requires.more there c.in-Some.is
           (too_large (term_at c.args.table.now c.in-Some.term)
           (demand.ensures.limits ∙ (sym c.in_ok-is_regular.ensures.ok ∙ c.if-not-branch.true)));
     }
@@ -109,66 +68,24 @@ returns-then-not-branch c =
 pub regex_of-requires-clause-normals : goal.regex_of-requires-clause-normals
 regex_of-requires-clause-normals c = c.requires.taken.normals
 
-pub returns-in_err-regex : goal.returns-in_err-regex
-returns-in_err-regex c =
-    let x = c.from_residual-in_err-regex in
-    record {
-      taken = IfOk-from_err x.result _ x.ensures.0;
-      words = IfOk-from_err x.result _ x.ensures.0;
-      extends = IfOk-from_err x.result _ x.ensures.0;
-      graph = IfOk-from_err x.result _ x.ensures.0;
-      further = IfOk-from_err x.result _ x.ensures.0;
-      outside = IfOk-from_err x.result _ x.ensures.0;
-    }
-
 pub returns-in_default-2 : goal.returns-in_default-2
 returns-in_default-2 c =
     let e = c.in_ok-regex.ensures in
     let demand = c.in-Some-demand_of in
-    let there = at_place c.args.self.now.members c.args.assertions.now _ c.index-assertions-place.result
-    c.len-place.ensures c.index-assertions-place.is in
+    let there = at_place c.args.self.now.members _ _ _ c.len-place.ensures c.index-assertions-place.is in
     record {
-      taken = taken_grown c.graph_stays.ensures c.right_stays.ensures c.args.self.now c.regex_of.new.arena
-          c.regex_of.new.normals c.is_regular.new.self c.args.table.now c.args.assertions.now e.extends e.normals
-          c.in_ok-is_regular.ensures.right c.requires.taken;
-      words = stay_grown c.args.self.now
-          (record c.args.self.now {
-            arena = c.regex_of.new.arena;
-            normals = c.regex_of.new.normals;
-            measures = c.is_regular.new.self;
-          })
-          c.args.table.now c.args.assertions.now e.extends refl refl c.requires.taken;
+      taken = taken_grown c.graph_stays.ensures c.right_stays.ensures c.args.self.now _ _ _ _ _ e.extends
+          e.normals c.in_ok-is_regular.ensures.right c.requires.taken;
+      words = λ words kept. (
+        refl,
+        stay_grown c.args.self.now _ _ _ e.extends c.requires.taken words kept,
+      );
       extends = e.extends;
       graph = refl;
       further = λ t. absurd (false≢true t);
-      outside = λ _. term_outside c.args.table.now c.args.assertions.now _ c.index-assertions-place.result
-          (Some c.in-Some.term) c.requires.more there c.in-Some.is
+      outside = λ _. term_outside _ _ _ _ (Some c.in-Some.term) c.requires.more there c.in-Some.is
           (other_kind (term_at c.args.table.now c.in-Some.term) demand.demand.serial.0
           (expression_in c.args.table.now demand.demand) demand.ensures.parts (rw c.in_default-2.is at e.number));
-    }
-
-pub returns-in_err-push : goal.returns-in_err-push
-returns-in_err-push c =
-    let x = c.from_residual-in_err-push in
-    record {
-      taken = IfOk-from_err x.result _ x.ensures.0;
-      words = IfOk-from_err x.result _ x.ensures.0;
-      extends = IfOk-from_err x.result _ x.ensures.0;
-      graph = IfOk-from_err x.result _ x.ensures.0;
-      further = IfOk-from_err x.result _ x.ensures.0;
-      outside = IfOk-from_err x.result _ x.ensures.0;
-    }
-
-pub returns-in_err-push-2 : goal.returns-in_err-push-2
-returns-in_err-push-2 c =
-    let x = c.from_residual-in_err-push-2 in
-    record {
-      taken = IfOk-from_err x.result _ x.ensures.0;
-      words = IfOk-from_err x.result _ x.ensures.0;
-      extends = IfOk-from_err x.result _ x.ensures.0;
-      graph = IfOk-from_err x.result _ x.ensures.0;
-      further = IfOk-from_err x.result _ x.ensures.0;
-      outside = IfOk-from_err x.result _ x.ensures.0;
     }
 
 pub put-requires : goal.put-requires
@@ -176,24 +93,10 @@ put-requires c =
     let demand = c.in-Some-demand_of in
     record {
       within = rw c.deref_mut.ensures.value
-          (serial_within _ c.args.table.now c.args.assertions.now _ c.index-assertions-place.result c.in-Some.term
-          demand.demand.serial.0 (expression_in c.args.table.now demand.demand) c.requires.serials c.requires.numbers
-          c.requires.more
-          (at_place c.args.self.now.members c.args.assertions.now _ c.index-assertions-place.result
-          c.len-place.ensures c.index-assertions-place.is) c.in-Some.is demand.ensures.parts);
-      listed = rw c.deref_mut.ensures.value c.requires.taken.listed;
-    }
-
-pub returns-in_err-put : goal.returns-in_err-put
-returns-in_err-put c =
-    let x = c.from_residual-in_err-put in
-    record {
-      taken = IfOk-from_err x.result _ x.ensures.0;
-      words = IfOk-from_err x.result _ x.ensures.0;
-      extends = IfOk-from_err x.result _ x.ensures.0;
-      graph = IfOk-from_err x.result _ x.ensures.0;
-      further = IfOk-from_err x.result _ x.ensures.0;
-      outside = IfOk-from_err x.result _ x.ensures.0;
+          (serial_within _ _ _ _ _ _ _ _ c.requires.serials c.requires.numbers c.requires.more
+          (at_place c.args.self.now.members _ _ _ c.len-place.ensures c.index-assertions-place.is) c.in-Some.is
+          demand.ensures.parts);
+      listed = rw c.deref_mut.ensures.value c.requires.taken.counted.listed;
     }
 
 pub returns : goal.returns
@@ -201,31 +104,36 @@ returns c =
     let demand = c.in-Some-demand_of in
     let e = c.in_ok-regex.ensures in
     let regular = sym (rw c.if-not-branch.false at c.in_ok-is_regular.ensures.ok) in
-    let there = at_place c.args.self.now.members c.args.assertions.now _ c.index-assertions-place.result
-    c.len-place.ensures c.index-assertions-place.is in
+    let there = at_place c.args.self.now.members _ _ _ c.len-place.ensures c.index-assertions-place.is in
     let member : Member = record { serial = demand.demand.serial; regex = c.in-Some-2.regex } in
     let place : c.len-place.result ≡ length c.args.self.now.members.items =
     omega (arith, c.len-place.ensures, c.args.self.now.members.ok.0) in
+    let one = length-append c.args.self.now.members.items (Some member ∷ []) in
+    let put = put_some member _ _ _
+    (put_here c.args.self.now.constants _ _ _ _ _ c.deref_mut.ensures.value place c.in_ok-put.ensures.put) in
     record {
-      taken = taken_more c.graph_stays.ensures c.right_stays.ensures c.args.self.now _ c.args.table.now
-          c.args.assertions.now c.index-assertions-place.result member c.requires.taken c.requires.more there
-          (is_member c.regex_of.new.arena c.args.table.now c.args.assertions.now _ c.index-assertions-place.result
-          member c.in-Some.term (expression_in c.args.table.now demand.demand) c.requires.numbers c.requires.more there
+      taken = taken_more
+          (record c.args.self.now {
+            arena = c.regex_of.new.arena;
+            normals = c.regex_of.new.normals;
+            measures = c.is_regular.new.self;
+          })
+          c.args.table.now c.args.assertions.now c.index-assertions-place.result (Some member) c.push.new.self
+          c.push-2.new.self c.args.self.now.others (with_items c.args.self.now.constants c.put.new.constants)
+          c.put.new.changed
+          (taken_grown c.graph_stays.ensures c.right_stays.ensures c.args.self.now _ _ _ _ _ e.extends
+          e.normals c.in_ok-is_regular.ensures.right c.requires.taken)
+          c.requires.more there
+          (is_member _ _ _ _ _ member _ _ c.requires.numbers c.requires.more there
           c.in-Some.is demand.ensures.parts (demand.ensures.limits ∙ regular)
           (rw c.in-Some-2.is at e.number))
-          (serial_within _ c.args.table.now c.args.assertions.now _ c.index-assertions-place.result c.in-Some.term
-          demand.demand.serial.0 (expression_in c.args.table.now demand.demand) c.requires.serials c.requires.numbers
-          c.requires.more there c.in-Some.is demand.ensures.parts)
-          e.extends e.normals c.in_ok-is_regular.ensures.right
-          c.in_ok-push.ensures.items c.in_ok-push-2.ensures.items
-          (put_here c.args.self.now.constants c.deref_mut.result.now c.put.new.constants demand.demand.serial.0
-          c.len-place.result (length c.args.self.now.members.items) c.deref_mut.ensures.value place
-          c.in_ok-put.ensures.put)
-          (settled_through c.args.self.now.constants c.deref_mut.result.now c.put.new.constants
-          demand.demand.serial.0 _ c.args.self.now.left.items c.put.new.changed.items c.deref_mut.ensures.value
-          c.in_ok-put.ensures.put (c.in_ok-put.ensures.settled c.args.self.now.left.items
-          (rw c.deref_mut.ensures.value c.requires.taken.settled)))
-          (rw c.deref_mut.ensures.value at c.in_ok-put.ensures.listed) refl refl refl refl refl;
+          (serial_within _ _ _ _ _ _ _ _ c.requires.serials c.requires.numbers c.requires.more
+          there c.in-Some.is demand.ensures.parts)
+          c.in_ok-push.ensures.items c.in_ok-push-2.ensures.items (sym (append-nil c.args.self.now.others.items)) put
+          (settled_through c.args.self.now.constants _ _ _ _ c.args.self.now.left.items c.put.new.changed.items
+          c.deref_mut.ensures.value c.in_ok-put.ensures.put (c.in_ok-put.ensures.settled c.args.self.now.left.items
+          (rw c.deref_mut.ensures.value c.requires.taken.counted.settled)))
+          (rw c.deref_mut.ensures.value at c.in_ok-put.ensures.listed);
       words = stay_put c.args.self.now
           (record c.args.self.now {
             arena = c.regex_of.new.arena;
@@ -236,17 +144,10 @@ returns c =
             constants = with_items c.args.self.now.constants c.put.new.constants;
             changed = c.put.new.changed;
           })
-          c.args.table.now c.args.assertions.now member (length c.args.self.now.members.items) e.extends
-          c.in_ok-push.ensures.items
-          (put_here c.args.self.now.constants c.deref_mut.result.now c.put.new.constants demand.demand.serial.0
-          c.len-place.result (length c.args.self.now.members.items) c.deref_mut.ensures.value place
-          c.in_ok-put.ensures.put) c.requires.taken;
+          (Some member) (length c.args.self.now.members.items) c.in_ok-push.ensures.items put
+          (stay_grown c.args.self.now _ _ _ e.extends c.requires.taken);
       extends = e.extends;
       graph = refl;
-      further = λ _. omega (
-        arith,
-        ap length c.in_ok-push.ensures.items,
-        length-append c.args.self.now.members.items (Some member ∷ []),
-      );
+      further = λ _. omega (arith, ap length c.in_ok-push.ensures.items, one);
       outside = λ t. absurd (false≢true (sym t));
     }

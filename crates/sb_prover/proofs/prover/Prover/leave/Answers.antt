@@ -1,10 +1,5 @@
-use Rattle.std.proofs.Common.{IfSome, take, sym, ap, subst}
-use Rattle.sb_rulebook.specs.Judging.{met}
-use Rattle.sb_refute.specs.Backing.{Backing}
-use Rattle.sb_solve.specs.Truth.{IsTrue}
-use Rattle.sb_prover.specs.Proving.{Proving, IsAbreast, HaveLevels, AreLow, leaving, GoesDown}
-use Rattle.sb_prover.proofs.TrueEvidence.{true-above, true-left_all}
-use Rattle.sb_prover.proofs.Leaving.{levels-up-to, levels-left_above, levels-left_all, left-above, left-all}
+use Rattle.sb_prover.proofs.Words.{IfSome, take, refl, sym, ap, subst, AreLow, Backing, GoesDown, HaveLevels, IsAbreast, IsTrue, Proving, leaving, met, all_dropped, dropped_above}
+use Rattle.sb_prover.proofs.Leaving.{levels-up-to, levels-left_above, none-there, left-behind}
 use Rattle.sb_prover.proofs.prover.Prover.leave.Goals as goal
 
 pub returns-in-Some-clause-left : goal.returns-in-Some-clause-left
@@ -15,8 +10,8 @@ returns-in-Some-clause-left c = λ rs memo live p h levels low.
     let now = subst (λ (w : Proving). IsAbreast rs memo w p) (sym c.self.view_is) h in
     subst (λ o. IsAbreast rs memo (record v { evidence = c.leave_above.new.self }) (met (leaving o) p))
     (sym c.in-Some.is)
-    (left-above rs memo p v c.leave_above.new.self n now
-    (ap (λ (e : Backing). e.atoms) c.leave_above.ensures.left_above)
+    (left-behind rs memo p v c.leave_above.new.self (dropped_above n p.kept) now
+    (ap (λ (e : Backing). e.atoms) c.leave_above.ensures.left_above) (ap (dropped_above n)) refl refl
     (c.leave_above.ensures.backs rs memo p.kept now.backs
     (levels-up-to live n count v.evidence
     (subst (λ (w : Proving). HaveLevels live w.evidence) (sym c.self.view_is) levels)
@@ -33,29 +28,37 @@ returns-in-None-clause-left c = λ rs memo live p h levels low.
     let v : Proving = record { evidence = c.self.inside.evidence; begun = c.self.inside.begun } in
     let now = subst (λ (w : Proving). IsAbreast rs memo w p) (sym c.self.view_is) h in
     subst (λ o. IsAbreast rs memo (record v { evidence = c.leave_all.new.self }) (met (leaving o) p)) (sym c.in-None.is)
-    (left-all rs memo p v c.leave_all.new.self now (ap (λ (e : Backing). e.atoms) c.leave_all.ensures.left_all)
+    (left-behind rs memo p v c.leave_all.new.self (all_dropped p.kept) now
+    (ap (λ (e : Backing). e.atoms) c.leave_all.ensures.left_all) (ap all_dropped) refl refl
     (c.leave_all.ensures.backs rs memo p.kept now.backs))
 
 pub returns-in-None-clause-levels : goal.returns-in-None-clause-levels
 returns-in-None-clause-levels c = λ live levels.
     subst (HaveLevels (take c.args.count live)) (sym c.leave_all.ensures.left_all)
-    (levels-left_all (take c.args.count live) c.self.inside.evidence)
+    (λ place a there. absurd (none-there place a there))
 
 pub returns-in-Some-clause-sound : goal.returns-in-Some-clause-sound
 returns-in-Some-clause-sound c = λ rs memo before now goes levels low h.
     let n = c.in-Some.level in
-    let e = c.self.inside.evidence in
     let count = c.args.count in
     let t = subst (λ (w : Proving). IsTrue before rs memo w.evidence) (sym c.self.view_is) h in
-    true-above c.dropped_stays_sound.ensures rs memo before now n e c.leave_above.new.self
-    (subst (λ o. GoesDown o before now) c.in-Some.is goes) t
-    (c.leave_above.ensures.backs rs memo t.kept t.backs
-    (levels-up-to before.live n count e
-    (subst (λ (w : Proving). HaveLevels before.live w.evidence) (sym c.self.view_is) levels)
-    (subst (λ o. IfSome o (λ m. AreLow m (take count before.live))) c.in-Some.is low)))
+    record {
+      kept = dropped_above n t.kept;
+      backs = c.leave_above.ensures.backs rs memo t.kept t.backs
+          (levels-up-to before.live n count c.self.inside.evidence
+          (subst (λ (w : Proving). HaveLevels before.live w.evidence) (sym c.self.view_is) levels)
+          (subst (λ o. IfSome o (λ m. AreLow m (take count before.live))) c.in-Some.is low));
+      sound = c.dropped_stays_sound.ensures n before now t.kept (subst (λ o. GoesDown o before now) c.in-Some.is goes)
+          t.sound;
+      counted = t.counted;
+    }
 
 pub returns-in-None-clause-sound : goal.returns-in-None-clause-sound
 returns-in-None-clause-sound c = λ rs memo before now goes levels low h.
     let t = subst (λ (w : Proving). IsTrue before rs memo w.evidence) (sym c.self.view_is) h in
-    true-left_all c.all_dropped_is_sound.ensures rs memo before now c.self.inside.evidence c.leave_all.new.self t
-    (c.leave_all.ensures.backs rs memo t.kept t.backs)
+    record {
+      kept = all_dropped t.kept;
+      backs = c.leave_all.ensures.backs rs memo t.kept t.backs;
+      sound = c.all_dropped_is_sound.ensures before now t.kept t.sound;
+      counted = t.counted;
+    }

@@ -1,9 +1,12 @@
-use Rattle.std.proofs.Common.{[], length, refl, sym, ap, ◌∙◌}
-use Rattle.sb_rulebook.specs.Kept.{nothing_kept}
-use Rattle.sb_refute.specs.Backing.{asserted_at}
-use Rattle.sb_prover.proofs.Growing.{none-below}
+use Rattle.sb_prover.proofs.Words.{◌≡◌, ℕ, List, [], ◌∷◌, length, refl, sym, ap, ◌∙◌, AtomOver, HaveRegexesBelow, Regex, asserted_at, atoms_in, no_atoms, nothing_kept}
 use Rattle.sb_prover.proofs.Leaving.{none-there}
 use Rattle.sb_prover.proofs.prover.Prover.new.Goals as goal
+
+-- where a reader keeps no atoms there are none
+none-below : (rs : List Regex) (n : ℕ) (atoms : List (AtomOver ℕ)) → [] ≡ atoms_in rs atoms
+    → HaveRegexesBelow n atoms
+none-below rs n [] h = no_atoms n
+none-below rs n (a ∷ atoms) h = absurd (cc (h))
 
 pub returns-clause-abreast : goal.returns-clause-abreast
 returns-clause-abreast c = λ rs memo. record {

@@ -1,50 +1,70 @@
-use Rattle.std.proofs.Common.{List, length, ap, refl, sym, subst}
-use Rattle.std.proofs.lemmas.Result.{IfOk-from_err, err_from_is_err_and}
-use Rattle.sb_lang.specs.Regex.{Regex}
-use Rattle.sb_graph.specs.Findings.{Findings}
-use Rattle.sb_rulebook.specs.Accepted.{asked_in}
-use Rattle.sb_stack.specs.Stacked.{state_of}
-use Rattle.sb_atoms.specs.Numbered.{HaveRegexesBelow}
-use Rattle.sb_trace.specs.Putting.{CountsTapeFault}
-use Rattle.sb_trace.proofs.CallerLemmas.{counts_none, counts_on}
-use Rattle.sb_refute.specs.Backing.{Backs}
-use Rattle.sb_solve.specs.declared.check.Solved.{Solved}
-use Rattle.sb_solve.specs.Truth.{IsTrue}
-use Rattle.sb_prover.specs.Proving.{Proving, HaveLevels}
-use Rattle.sb_prover.specs.Solving.{IsSolution}
-use Rattle.sb_prover.proofs.Refutations.{empty-known, counts-none}
-use Rattle.sb_prover.proofs.Solutions.{over, few-words, solved-again, solved-now, solved-true, says-true}
+use Rattle.sb_prover.proofs.Words.{List, length, ap, refl, sym, subst, ◌∙◌, Backs, CountsTapeFault, Decided, Findings, HaveLevels, HaveRegexesBelow, IfOk-from_err, IsDecided, IsSolution, IsTrue, Proving, Regex, Solved, asked_in, counts_none, counts_on, err_from_is_err_and, state_of}
+use Rattle.sb_prover.specs.declared.checking.Solution.TheVariants as solution
+use Rattle.sb_prover.proofs.Solutions.{over, inside-of, asked-of, empty-known, counts-none, ready-then, solved-again, solved-now, solved-true, says-true}
 use Rattle.sb_prover.proofs.prover.Prover.solution.Goals as goal
 
 pub searched-requires : goal.searched-requires
-searched-requires g c = record {
-  «open» = c.requires.open;
-  regexes = subst (λ (p : Proving). HaveRegexesBelow (length c.args.decider.now.arena) p.evidence.atoms)
-      (sym c.self.view_is) c.requires.regexes;
-}
+searched-requires g c =
+    let s = c.args.stack.now in
+    let old = c.args.decider.now in
+    let same = sym c.self.view_is in
+    record {
+      knows = c.requires.knows;
+      inside = sym (c.fragment_is_of_each.ensures (state_of s))
+          ∙ inside-of c.fragment_is_of_each.ensures old s c.args.decided c.requires.decided c.in_default.not-Outside;
+      asked = asked-of old s c.args.decided c.requires.decided c.in_default.not-Outside;
+      terms = c.requires.terms;
+      regexes = subst (λ (p : Proving). HaveRegexesBelow (length old.arena) p.evidence.atoms) same
+          c.requires.regexes;
+      sound = subst (λ (p : Proving). IsTrue (asked_in (state_of s)) old.arena old.graph.memo p.evidence) same
+          c.requires.sound;
+    }
 
 pub completed-requires : goal.completed-requires
 completed-requires g c =
     let old = c.args.decider.now in
     record {
-      «open» = c.in_ok-solved.ensures.open;
-      few = few-words c.searched.new.decider.others.items c.args.stack.now old.arena old.graph.memo c.self.inside.evidence c.searched.new.evidence
-          c.searched.new.budget c.in_ok-solved.solved c.in_ok-solved.ensures.solved;
+      knows = c.in_ok-solved.ensures.knows;
+      ready = ready-then c.searched.new.decider c.args.stack.now old.arena old.graph.memo c.self.inside.evidence
+          c.searched.new.evidence c.searched.new.budget c.in_ok-solved.solved c.in_ok-solved.ensures.solved;
+    }
+
+pub returns-in-Outside : goal.returns-in-Outside
+returns-in-Outside g c =
+    let s = c.args.stack.now in
+    let old = c.args.decider.now in
+    let knows = c.requires.knows in
+    record {
+      means = subst (λ (d : Decided). IsDecided old s d) c.in-Outside.is c.requires.decided;
+      solved = λ proves before backs counted.
+          solved-again s before old.arena old.graph.memo c.args.self.now.evidence solution.Outside
+          (g.L.Tape.told c.args.tape.now) backs tt;
+      knows = record { taken = knows.taken; words = knows.words; declared = knows.declared };
+      rest = refl;
+      sound = c.requires.sound;
+      regexes = c.requires.regexes;
+      begun = refl;
+      levels = λ h. h;
+      counts = refl;
     }
 
 pub returns-in-Some : goal.returns-in-Some
 returns-in-Some g c =
-    let known = empty-known c.self.inside.evidence c.args.self.now _ c.in-Some.empty
-    (ap (λ (p : Proving). p.evidence) c.self.view_is) c.in-Some.is c.refuted.ensures.kept in
-    let knows = c.requires.open.ready.knows in
+    let s = c.args.stack.now in
+    let old = c.args.decider.now in
+    let knows = c.requires.knows in
     record {
-      sound = c.requires.sound;
-      means = known;
+      means = (
+        inside-of c.fragment_is_of_each.ensures old s c.args.decided c.requires.decided c.in_default.not-Outside,
+        empty-known c.self.inside.evidence c.args.self.now _ c.in-Some.empty
+            (ap (λ (p : Proving). p.evidence) c.self.view_is) c.in-Some.is c.refuted.ensures.kept,
+      );
       solved = λ proves before backs counted.
-          solved-again c.args.stack.now before c.args.decider.now.arena c.args.decider.now.graph.memo
-          c.args.self.now.evidence c.in-Some.empty.clause (g.L.Tape.told c.args.tape.now) backs known;
+          solved-again s before old.arena old.graph.memo c.args.self.now.evidence
+          (solution.Unsat c.in-Some.empty.clause) (g.L.Tape.told c.args.tape.now) backs tt;
       knows = record { taken = knows.taken; words = knows.words; declared = knows.declared };
       rest = refl;
+      sound = c.requires.sound;
       regexes = c.requires.regexes;
       begun = refl;
       levels = λ h. h;
@@ -56,11 +76,11 @@ returns-in_err-solved g c =
     let x = c.from_residual in
     let p = err_from_is_err_and x.result x.ensures.1 in
     record {
-      sound = IfOk-from_err x.result _ x.ensures.0;
       means = IfOk-from_err x.result _ x.ensures.0;
       solved = IfOk-from_err x.result _ x.ensures.0;
       knows = IfOk-from_err x.result _ x.ensures.0;
       rest = refl;
+      sound = IfOk-from_err x.result _ x.ensures.0;
       regexes = IfOk-from_err x.result _ x.ensures.0;
       begun = ap (λ (p : Proving). p.begun) c.self.view_is;
       levels = IfOk-from_err x.result _ x.ensures.0;
@@ -72,11 +92,11 @@ returns-in_err-solution g c =
     let x = c.from_residual-in_err-solution in
     let p = err_from_is_err_and x.result x.ensures.1 in
     record {
-      sound = IfOk-from_err x.result _ x.ensures.0;
       means = IfOk-from_err x.result _ x.ensures.0;
       solved = IfOk-from_err x.result _ x.ensures.0;
       knows = IfOk-from_err x.result _ x.ensures.0;
       rest = c.in_err-solution.ensures.rest;
+      sound = IfOk-from_err x.result _ x.ensures.0;
       regexes = IfOk-from_err x.result _ x.ensures.0;
       begun = ap (λ (p : Proving). p.begun) c.self.view_is;
       levels = IfOk-from_err x.result _ x.ensures.0;
@@ -102,24 +122,26 @@ returns g c =
     let t = subst (λ (p : Proving). IsTrue (asked_in (state_of s)) old.arena old.graph.memo p.evidence)
     (sym c.self.view_is) c.requires.sound in
     record {
-      sound = over (λ rs ms. IsTrue (asked_in (state_of s)) rs ms f) mid.arena new.arena mid.graph.memo new.graph.memo
-          done.arena memo
-          (solved-true c.follows_by_rule.ensures c.line_stays_sound.ensures c.counted_again_stays_sound.ensures s
-          c.requires.terms c.args.proves old.arena mid.arena old.graph.memo mid.graph.memo e f _ budget told telling t
-          (counts-none s t.kept _ c.new-budget.ensures t.counted) found.puts found.sound);
-      means = says-true s c.requires.terms c.requires.open.not_plain mid old.arena old.graph.memo e f budget
-          c.in_ok-solved.solved c.in_ok-solution.solution t found.solved done.completed;
+      means = says-true mid s
+          (inside-of c.fragment_is_of_each.ensures old s c.args.decided c.requires.decided c.in_default.not-Outside)
+          c.requires.terms old.arena old.graph.memo e f budget c.in_ok-solved.solved c.in_ok-solution.solution t
+          found.solved done.completed;
       solved = λ proves before backs counted.
           let kept = subst (λ (p : Proving). Backs old.arena old.graph.memo p.evidence before) (sym c.self.view_is)
           backs in
           over (λ rs ms. IsSolution s before rs ms f c.in_ok-solution.solution told telling) mid.arena new.arena
           mid.graph.memo new.graph.memo done.arena memo
-          (solved-now s c.requires.terms c.requires.open.not_plain mid before old.arena mid.arena old.graph.memo
-          mid.graph.memo e f budget c.in_ok-solved.solved c.in_ok-solution.solution told telling kept
+          (solved-now mid s before old.arena mid.arena old.graph.memo mid.graph.memo e f budget
+          c.in_ok-solved.solved c.in_ok-solution.solution told telling
           (found.puts proves before kept (counts-none s before _ c.new-budget.ensures counted)) found.solved
           done.completed);
       knows = done.knows;
       rest = done.rest;
+      sound = over (λ rs ms. IsTrue (asked_in (state_of s)) rs ms f) mid.arena new.arena mid.graph.memo new.graph.memo
+          done.arena memo
+          (solved-true c.follows_by_rule.ensures c.line_stays_sound.ensures c.counted_again_stays_sound.ensures s
+          c.requires.terms c.args.proves old.arena mid.arena old.graph.memo mid.graph.memo e f _ budget told telling t
+          (counts-none s t.kept _ c.new-budget.ensures t.counted) found.puts found.sound);
       regexes = subst (λ (rs : List Regex). HaveRegexesBelow (length rs) f.atoms) (sym done.arena) found.regexes;
       begun = ap (λ (p : Proving). p.begun) c.self.view_is;
       levels = λ h.

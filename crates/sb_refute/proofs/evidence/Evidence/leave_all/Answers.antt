@@ -1,32 +1,24 @@
-use Rattle.std.proofs.Common.{None, sym, ap, ap₂, subst, ◌∙◌, List, Option}
-use Rattle.sb_clauses.specs.Propagation.{State}
-use Rattle.sb_rulebook.specs.Kept.{all_dropped}
-use Rattle.sb_refute.specs.declared.evidence.Asserted.{Asserted}
-use Rattle.sb_refute.specs.Backing.{Backing, Backs, left_all}
+use Rattle.sb_refute.proofs.Words.{None, ap, ap₂, subst, sym, ◌∙◌, List, Option, State, all_dropped, Asserted, Backing, Backs, backing_of, left_all, Stand}
 use Rattle.sb_refute.proofs.Backs.{backs-left_all}
 use Rattle.sb_refute.proofs.Holding.{stand-left_all}
 use Rattle.sb_refute.proofs.evidence.Evidence.leave_all.Goals as goal
 
-pub invariant_of-self : goal.invariant_of-self
-invariant_of-self c =
-    let i = c.self.inside in (
-      stand-left_all i.atoms i.engine.kept c.leave_all.new.self.kept i.asserted.items c.clear.new.self.items i.refuted i.gates
-          (ap (λ (s : State). s.kept) c.leave_all.ensures) c.clear.ensures.items c.self.invariant.0,
-      ap (λ (s : State). s.trail.literals) c.leave_all.ensures ∙ c.self.invariant.1,
-    )
-
 pub returns-clause-left_all : goal.returns-clause-left_all
 returns-clause-left_all c =
-    let i = c.self.inside in
-    ap₂ (λ (xs : List (Option Asserted)) (s : State). record {
-      trace = i.trace;
-      atoms = i.atoms;
+    ap₂ (λ (xs : List (Option Asserted)) (s : State). record (backing_of c.self.inside.parts) {
       kept = s.kept;
       asserted = xs;
       refuted = None;
       gates = 0;
     }) c.clear.ensures.items c.leave_all.ensures
     ∙ ap left_all c.self.view_is
+
+pub invariant_of-self : goal.invariant_of-self
+invariant_of-self c = (
+  subst Stand (sym (returns-clause-left_all c))
+      (stand-left_all c.args.self.now (subst Stand c.self.view_is c.self.invariant.0)),
+  ap (λ (s : State). s.trail.literals) c.leave_all.ensures ∙ c.self.invariant.1,
+)
 
 pub returns-clause-backs : goal.returns-clause-backs
 returns-clause-backs c = λ rs memo kept b.

@@ -1,20 +1,10 @@
-use Rattle.std.proofs.Common.{◌≡◌, ℕ, List, [], None, refl, sym, ap, subst, ◌∙◌}
-use Rattle.std.proofs.lemmas.Option.{none-some}
-use Rattle.sb_atoms.specs.Numbered.{atoms_in}
-use Rattle.sb_rulebook.specs.Atoms.{AtomOver}
-use Rattle.sb_clauses.specs.Propagation.{State}
-use Rattle.sb_refute.specs.Backing.{asserted_at}
-use Rattle.sb_refute.specs.Standing.{Stand}
-use Rattle.sb_refute.proofs.Places.{none-at}
+use Rattle.sb_refute.proofs.Words.{refl, sym, ap, ◌∙◌, none-some, atoms_in, State, asserted_at}
+use Rattle.sb_refute.proofs.Clauses.{none-at}
 use Rattle.sb_refute.proofs.Holding.{stand-none}
 use Rattle.sb_refute.proofs.evidence.Evidence.new.Goals as goal
 
 pub invariant_of-result : goal.invariant_of-result
-invariant_of-result c =
-    subst (λ (atoms : List (AtomOver ℕ)). Stand atoms c.new-3.result.kept c.new-4.result.items None 0
-    × (c.new-3.result.trail.literals ≡ [])) (sym c.new-2.ensures)
-    (subst (λ (s : State). Stand [] s.kept c.new-4.result.items None 0 × (s.trail.literals ≡ [])) (sym c.new-3.ensures)
-    (stand-none c.new-4.result.items c.new-4.ensures.items, refl))
+invariant_of-result c = rw (c.new-2.ensures, c.new-3.ensures, c.new-4.ensures.items) (stand-none c.new.result, refl)
 
 pub returns-clause-backs : goal.returns-clause-backs
 returns-clause-backs c = λ rs memo format. record {

@@ -1,120 +1,81 @@
-use Rattle.std.proofs.Common.{◌≡◌, ◌<◌, length, None, IfSome, Option, option_map, sym, ap, subst, ◌∙◌}
-use Rattle.std.proofs.lemmas.Result.{on_ok_weaker, IfOk-from_err, err_from_is_err_and}
-use Rattle.sb_facts.proofs.CallerLemmas.{ok_more}
-use Rattle.sb_term.specs.Numbered.{term_at}
-use Rattle.sb_atoms.specs.Numbered.{atoms_in, Extends, HaveRegexesBelow}
-use Rattle.sb_atoms.specs.Translated.{brought_translation, HasNoLiteral}
-use Rattle.sb_refute.specs.declared.evidence.Asserted.{Asserted}
-use Rattle.sb_refute.specs.Backing.{Backing, Backs, HasGates, asserted_at}
-use Rattle.sb_refute.proofs.Backs.{backs-more}
+use Rattle.sb_refute.proofs.Words.{◌≡◌, length, ℕ, Some, IfSome, List, option_map, sym, ap, subst, ◌∙◌, IfOk-weaker, IfOk-from_err, err_from_is_err_and, AtomOver, atoms_in, Extends, HaveRegexesBelow, brought_translation, StaysNumbered, stays_same, counts_none, Asserted, Backing, Backs, HasGates, asserted_at, backing_of, term_at}
+use Rattle.sb_refute.proofs.Backs.{backs-grown}
 use Rattle.sb_refute.proofs.Holding.{stand-atoms}
-use Rattle.sb_refute.proofs.Asserting.{due-stated, added-defined, is-statement, both-put}
-use Rattle.sb_refute.proofs.Standing.{stays-after}
-use Rattle.sb_trace.proofs.CallerLemmas.{stays_same, counts_none, counts_on}
-use Rattle.sb_trace.specs.Tracking.{StaysNumbered}
-use Rattle.sb_trace.specs.Putting.{CountsTapeFault}
+use Rattle.sb_refute.proofs.Asserting.{due-stated, is-statement}
+use Rattle.sb_refute.proofs.DefinedAtoms.{front-of}
 use Rattle.sb_refute.proofs.evidence.Evidence.statement.Goals as goal
 
 pub invariant_of-self : goal.invariant_of-self
-invariant_of-self g c =
-    let i = c.self.inside in (
-      stand-atoms i.atoms c.translate.new.self i.engine.kept i.asserted.items i.refuted i.gates
-          c.translate.ensures.extends c.translate.ensures.earlier c.self.invariant.0,
-      c.self.invariant.1,
-    )
+invariant_of-self g c = (
+  stand-atoms (backing_of c.self.inside.parts) c.translate.new.self c.translate.ensures.extends
+      c.translate.ensures.earlier c.self.invariant.0,
+  c.self.invariant.1,
+)
 
 pub invariant_of-self-2 : goal.invariant_of-self-2
-invariant_of-self-2 g c =
-    let i = c.self.inside in (
-      stand-atoms i.atoms c.translate.new.self i.engine.kept i.asserted.items i.refuted i.gates
-          c.translate.ensures.extends c.translate.ensures.earlier c.self.invariant.0,
-      c.self.invariant.1,
-    )
+invariant_of-self-2 g c = (
+  stand-atoms (backing_of c.self.inside.parts) c.translate.new.self c.translate.ensures.extends
+      c.translate.ensures.earlier c.self.invariant.0,
+  c.self.invariant.1,
+)
 
-pub stated-requires : goal.stated-requires
-stated-requires g c =
-    subst (λ atoms. IfSome c.in_ok-found.found (λ l. l.atom < length atoms)) (sym (c.put_gates.ensures.atoms ∙ ap (λ (f : Backing). f.atoms) c.in_ok-define.ensures.others))
-    (c.in_ok-found.ensures.known)
-
-pub returns-clause-puts : goal.returns-clause-puts
-returns-clause-puts g c =
-    let i = c.self.inside in
-    let t = term_at c.args.table.now c.args.term in
-    let more = c.translate.new.arena in
+pub returns : goal.returns
+returns g c =
+    let old = c.args.self.now in
+    let w = backing_of c.self.inside.parts in
     let atoms = c.translate.new.self in
-    let mid = c.define.new.self in
+    let more = c.translate.new.arena in
+    let t = term_at c.args.table.now c.args.term in
+    let known = c.len-known.result in
     let translated = c.in_ok-found.ensures in
-    let w : Backing = record {
-      trace = i.trace;
-      atoms = i.atoms;
-      kept = i.engine.kept;
-      asserted = i.asserted.items;
-      refuted = i.refuted;
-      gates = i.gates;
+    let same = c.lines.ensures.rest.1 in
+    let literal = translated.ok ∙ ap (λ (ts : List (AtomOver ℕ)). brought_translation (atoms_in more ts) t)
+    (sym same) in
+    record {
+      puts = IfOk-weaker c.lines.result _ _
+          (λ found h asked memo before b live.
+          h.0.puts asked memo
+          (due-stated asked w.atoms atoms known c.args.place c.args.level t live translated.defined c.len-known.ensures)
+          (is-statement asked (atoms_in more atoms) c.args.place t c.in_ok-found.found c.args.level live translated.ok)
+          before
+          (subst (λ (ts : List (AtomOver ℕ)). Backs more memo (record w { atoms = ts }) before)
+          (sym (front-of w.atoms atoms known translated.extends c.len-known.ensures))
+          (subst (λ (e : Backing). Backs more memo e before) (sym c.self.view_is)
+          (backs-grown c.args.arena.now more memo memo old before translated.arena (λ n pieces h. h) c.requires.regexes
+          b))))
+          c.lines.ensures.ok;
+      asserted = IfOk-weaker c.lines.result _ _ (λ found h. h.0.asserted) c.lines.ensures.ok;
+      literal = IfOk-weaker c.lines.result _ _ (λ found h. h.0.literal_is ∙ literal) c.lines.ensures.ok;
+      level = IfOk-weaker c.lines.result _ _ (λ found h. h.0.level_is) c.lines.ensures.ok;
+      none = IfOk-weaker c.lines.result _ _
+          (λ found h none. translated.none (sym h.0.literal_is ∙ ap (option_map (λ (a : Asserted). a.literal)) none))
+          c.lines.ensures.ok;
+      gates = IfOk-weaker c.lines.result _ _
+          (λ found h. subst (λ n. HasGates n c.lines.new.self.atoms c.lines.new.self.kept) h.1 h.0.gated)
+          c.lines.ensures.ok;
+      stays = IfOk-weaker c.lines.result _ _
+          (λ found h own q b there.
+          h.0.stays
+          (subst (λ (e : Backing). IfSome (asserted_at e.asserted c.args.place)
+          (λ a. (a.level ≡ c.args.level) × (Some a.literal ≡ c.in_ok-found.found))) (sym c.self.view_is)
+          (subst (λ o. IfSome (asserted_at old.asserted c.args.place)
+          (λ a. (a.level ≡ c.args.level) × (Some a.literal ≡ o))) (sym literal) own)) q b
+          (ap (λ (e : Backing). asserted_at e.asserted q) c.self.view_is ∙ there))
+          c.lines.ensures.ok;
+      others = IfOk-weaker c.lines.result _ _
+          (λ found h other apart.
+          h.0.others other apart ∙ ap (λ (e : Backing). asserted_at e.asserted other) c.self.view_is)
+          c.lines.ensures.ok;
+      numbers_stay = subst (λ (e : Backing). StaysNumbered e.trace c.lines.new.self.trace) c.self.view_is
+          c.lines.ensures.rest.0;
+      extends = subst (Extends old.atoms) (sym same)
+          (subst (λ (e : Backing). Extends e.atoms atoms) c.self.view_is c.translate.ensures.extends);
+      regexes = subst (HaveRegexesBelow (length more)) (sym same) c.translate.ensures.regexes;
+      right = c.translate.ensures.right;
+      normals = c.translate.ensures.normals;
+      arena = c.translate.ensures.arena;
+      counts = c.lines.ensures.counts;
     }
-    in
-    on_ok_weaker c.stated.result
-    (λ put asked memo before b live.
-    both-put asked before more memo c.put_gates.new.self c.stated.new.self (g.L.Tape.told c.args.tape.now)
-    (g.L.Tape.told c.put_gates.new.tape) (g.L.Tape.told c.stated.new.tape)
-    (both-put asked before more memo mid c.put_gates.new.self (g.L.Tape.told c.args.tape.now)
-    (g.L.Tape.told c.define.new.tape) (g.L.Tape.told c.put_gates.new.tape)
-    (added-defined asked before more memo w mid i.atoms atoms c.len-known.result (g.L.Tape.told c.args.tape.now)
-    (g.L.Tape.told c.define.new.tape)
-    (due-stated asked i.atoms atoms c.len-known.result c.args.place c.args.level t live translated.defined
-    c.len-known.ensures)
-    translated.extends c.len-known.ensures
-    (subst (λ (f : Backing). Backs more memo f before) (sym c.self.view_is)
-    (backs-more c.args.arena.now more memo c.args.self.now before translated.arena c.requires.regexes b))
-    (c.in_ok-define.ensures.puts asked memo before))
-    (λ after next. c.in_ok-put_gates.ensures.puts asked more memo after next))
-    (λ after next. put asked more memo after next
-    (is-statement asked more memo c.put_gates.new.self after c.args.place t c.in_ok-found.found c.args.level live
-    (translated.ok ∙ ap (λ atoms. brought_translation (atoms_in more atoms) t) (sym (c.put_gates.ensures.atoms ∙ ap (λ (f : Backing). f.atoms) c.in_ok-define.ensures.others))) next)))
-    c.stated.ensures.puts
-
-pub returns-clause-literal : goal.returns-clause-literal
-returns-clause-literal g c =
-    let t = term_at c.args.table.now c.args.term in
-    let more = c.translate.new.arena in
-    ok_more (λ (found : Option Asserted). option_map (λ (a : Asserted). a.literal) found ≡ c.in_ok-found.found)
-    (λ (found : Option Asserted). option_map (λ (a : Asserted). a.literal) found
-    ≡ brought_translation (atoms_in more c.stated.new.self.atoms) t) c.stated.result
-    (λ found h. h ∙ c.in_ok-found.ensures.ok
-    ∙ ap (λ atoms. brought_translation (atoms_in more atoms) t) (sym (c.stated.ensures.atoms ∙ (c.put_gates.ensures.atoms ∙ ap (λ (f : Backing). f.atoms) c.in_ok-define.ensures.others))))
-    c.stated.ensures.literal
-
-pub returns-clause-none : goal.returns-clause-none
-returns-clause-none g c =
-    ok_more (λ (found : Option Asserted). option_map (λ (a : Asserted). a.literal) found ≡ c.in_ok-found.found)
-    (λ (found : Option Asserted). found ≡ None → HasNoLiteral (term_at c.args.table.now c.args.term)) c.stated.result
-    (λ found h none. c.in_ok-found.ensures.none (sym h ∙ ap (option_map (λ (a : Asserted). a.literal)) none))
-    c.stated.ensures.literal
-
-pub returns-clause-stays : goal.returns-clause-stays
-returns-clause-stays g c =
-    let t = term_at c.args.table.now c.args.term in
-    let more = c.translate.new.arena in
-    on_ok_weaker c.stated.result
-    (λ keep. stays-after c.args.self.now.asserted c.put_gates.new.self.asserted c.stated.new.self.asserted c.args.place
-    c.args.level c.in_ok-found.found (brought_translation (atoms_in more c.stated.new.self.atoms) t)
-    (c.put_gates.ensures.asserted ∙ ap (λ (f : Backing). f.asserted) c.in_ok-define.ensures.others ∙ ap (λ (f : Backing). f.asserted) c.self.view_is)
-    (c.in_ok-found.ensures.ok
-    ∙ ap (λ atoms. brought_translation (atoms_in more atoms) t) (sym (c.stated.ensures.atoms ∙ (c.put_gates.ensures.atoms ∙ ap (λ (f : Backing). f.atoms) c.in_ok-define.ensures.others)))) keep)
-    c.stated.ensures.stays
-
-pub returns-clause-others : goal.returns-clause-others
-returns-clause-others g c =
-    on_ok_weaker c.stated.result
-    (λ stay other apart. stay other apart ∙ ap (λ xs. asserted_at xs other) (c.put_gates.ensures.asserted ∙ ap (λ (f : Backing). f.asserted) c.in_ok-define.ensures.others ∙ ap (λ (f : Backing). f.asserted) c.self.view_is))
-    c.stated.ensures.others
-
-pub returns-clause-gates : goal.returns-clause-gates
-returns-clause-gates g c =
-    on_ok_weaker c.stated.result
-    (λ has. subst (λ n. HasGates n c.stated.new.self.atoms c.stated.new.self.kept)
-    (c.in_ok-put_gates.ensures.all ∙ ap length (sym c.stated.ensures.atoms)) has)
-    c.stated.ensures.gates
 
 pub returns-in_err-found : goal.returns-in_err-found
 returns-in_err-found g c =
@@ -129,100 +90,13 @@ returns-in_err-found g c =
       gates = IfOk-from_err x.result _ x.ensures.0;
       stays = IfOk-from_err x.result _ x.ensures.0;
       others = IfOk-from_err x.result _ x.ensures.0;
-      numbers_stay = subst (λ (f : Backing). StaysNumbered f.trace c.self.inside.trace) c.self.view_is
-          (stays_same c.self.inside.trace);
-      extends = subst (λ (f : Backing). Extends f.atoms c.translate.new.self) c.self.view_is c.translate.ensures.extends;
+      numbers_stay = subst (λ (f : Backing). StaysNumbered f.trace c.self.inside.parts.trace) c.self.view_is
+          (stays_same c.self.inside.parts.trace);
+      extends = subst (λ (f : Backing). Extends f.atoms c.translate.new.self) c.self.view_is
+          c.translate.ensures.extends;
       regexes = c.translate.ensures.regexes;
       right = c.translate.ensures.right;
       normals = c.translate.ensures.normals;
       arena = c.translate.ensures.arena;
       counts = counts_none x.result p.0 _ p.1 p.2;
     }
-
-pub returns-in_err-define : goal.returns-in_err-define
-returns-in_err-define g c =
-    let x = c.from_residual-in_err-define in
-    let p = err_from_is_err_and x.result x.ensures.1 in
-    record {
-      puts = IfOk-from_err x.result _ x.ensures.0;
-      asserted = IfOk-from_err x.result _ x.ensures.0;
-      literal = IfOk-from_err x.result _ x.ensures.0;
-      level = IfOk-from_err x.result _ x.ensures.0;
-      none = IfOk-from_err x.result _ x.ensures.0;
-      gates = IfOk-from_err x.result _ x.ensures.0;
-      stays = IfOk-from_err x.result _ x.ensures.0;
-      others = IfOk-from_err x.result _ x.ensures.0;
-      numbers_stay = subst (λ (f : Backing). StaysNumbered f.trace c.define.new.self.trace) c.self.view_is
-          c.define.ensures.numbers_stay;
-      extends = subst (Extends c.args.self.now.atoms) (sym (ap (λ (f : Backing). f.atoms) c.define.ensures.others))
-          (subst (λ (f : Backing). Extends f.atoms c.translate.new.self) c.self.view_is c.translate.ensures.extends);
-      regexes = subst (HaveRegexesBelow (length c.translate.new.arena)) (sym (ap (λ (f : Backing). f.atoms) c.define.ensures.others))
-          c.translate.ensures.regexes;
-      right = c.translate.ensures.right;
-      normals = c.translate.ensures.normals;
-      arena = c.translate.ensures.arena;
-      counts = counts_on (Unit {0}) x.result p.0 _ _ _ p.1 p.2 c.in_err-define.ensures.counts;
-    }
-
-pub returns-in_err-put_gates : goal.returns-in_err-put_gates
-returns-in_err-put_gates g c =
-    let x = c.from_residual-in_err-put_gates in
-    let p = err_from_is_err_and x.result x.ensures.1 in
-    record {
-      puts = IfOk-from_err x.result _ x.ensures.0;
-      asserted = IfOk-from_err x.result _ x.ensures.0;
-      literal = IfOk-from_err x.result _ x.ensures.0;
-      level = IfOk-from_err x.result _ x.ensures.0;
-      none = IfOk-from_err x.result _ x.ensures.0;
-      gates = IfOk-from_err x.result _ x.ensures.0;
-      stays = IfOk-from_err x.result _ x.ensures.0;
-      others = IfOk-from_err x.result _ x.ensures.0;
-      numbers_stay = subst (StaysNumbered c.args.self.now.trace) (sym c.put_gates.ensures.trace)
-          (subst (λ (f : Backing). StaysNumbered f.trace c.define.new.self.trace) c.self.view_is
-          c.define.ensures.numbers_stay);
-      extends = subst (Extends c.args.self.now.atoms) (sym (c.put_gates.ensures.atoms ∙ ap (λ (f : Backing). f.atoms) c.define.ensures.others))
-          (subst (λ (f : Backing). Extends f.atoms c.translate.new.self) c.self.view_is c.translate.ensures.extends);
-      regexes = subst (HaveRegexesBelow (length c.translate.new.arena)) (sym (c.put_gates.ensures.atoms ∙ ap (λ (f : Backing). f.atoms) c.define.ensures.others))
-          c.translate.ensures.regexes;
-      right = c.translate.ensures.right;
-      normals = c.translate.ensures.normals;
-      arena = c.translate.ensures.arena;
-      counts = subst (λ old. CountsTapeFault x.result old (g.L.Tape.faults c.put_gates.new.tape)) c.in_ok-define.ensures.counts
-          (counts_on (Unit {0}) x.result p.0 _ _ _ p.1 p.2 c.in_err-put_gates.ensures.counts);
-    }
-
-pub returns-clause-asserted : goal.returns-clause-asserted
-returns-clause-asserted g c = c.stated.ensures.asserted
-
-pub returns-clause-level : goal.returns-clause-level
-returns-clause-level g c = c.stated.ensures.level
-
-pub returns-clause-right : goal.returns-clause-right
-returns-clause-right g c = c.translate.ensures.right
-
-pub returns-clause-normals : goal.returns-clause-normals
-returns-clause-normals g c = c.translate.ensures.normals
-
-pub returns-clause-arena : goal.returns-clause-arena
-returns-clause-arena g c = c.translate.ensures.arena
-
-pub returns-clause-numbers_stay : goal.returns-clause-numbers_stay
-returns-clause-numbers_stay g c =
-    subst (StaysNumbered c.args.self.now.trace) (sym (c.stated.ensures.trace ∙ c.put_gates.ensures.trace))
-    (subst (λ (f : Backing). StaysNumbered f.trace c.define.new.self.trace) c.self.view_is
-    c.define.ensures.numbers_stay)
-
-pub returns-clause-extends : goal.returns-clause-extends
-returns-clause-extends g c =
-    subst (Extends c.args.self.now.atoms) (sym (c.stated.ensures.atoms ∙ c.put_gates.ensures.atoms ∙ ap (λ (f : Backing). f.atoms) c.define.ensures.others))
-    (subst (λ (f : Backing). Extends f.atoms c.translate.new.self) c.self.view_is c.translate.ensures.extends)
-
-pub returns-clause-regexes : goal.returns-clause-regexes
-returns-clause-regexes g c =
-    subst (HaveRegexesBelow (length c.translate.new.arena)) (sym (c.stated.ensures.atoms ∙ c.put_gates.ensures.atoms ∙ ap (λ (f : Backing). f.atoms) c.define.ensures.others))
-    c.translate.ensures.regexes
-
-pub returns-clause-counts : goal.returns-clause-counts
-returns-clause-counts g c =
-    subst (λ old. CountsTapeFault c.stated.result old (g.L.Tape.faults c.stated.new.tape))
-    (c.in_ok-put_gates.ensures.counts ∙ c.in_ok-define.ensures.counts) c.stated.ensures.counts

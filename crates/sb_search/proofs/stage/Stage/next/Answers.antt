@@ -1,8 +1,4 @@
-use Rattle.std.proofs.Common.{◌≡◌, ◌≤◌, ◌<◌, ◌∙◌, true, sym, ap, subst, arith}
-use Rattle.sb_trail.specs.Assignments.{Assignments, held, current_level, up_to}
-use Rattle.sb_clauses.specs.Propagation.{are_reserved}
-use Rattle.sb_search.specs.Found.{are_true}
-use Rattle.sb_search.specs.Searching.{have_places}
+use Rattle.sb_search.proofs.Words.{◌≡◌, ◌≤◌, ◌<◌, ◌∙◌, true, sym, ap, subst, arith, Assignments, held, current_level, up_to, are_reserved, are_true, have_places}
 use Rattle.sb_search.proofs.Truths.{all_true, true_up_to}
 use Rattle.sb_search.proofs.stage.Stage.next.Goals as goal
 

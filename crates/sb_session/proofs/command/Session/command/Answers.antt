@@ -1,7 +1,5 @@
-use Rattle.sb_stack.specs.Steps.{entry_of}
+use Rattle.sb_session.proofs.Words.{entry_of, proof_of, session_of}
 use Rattle.std.proofs.Common.{sym, ◌∙◌}
-use Rattle.sb_session.specs.Commanding.{proof_of}
-use Rattle.sb_session.specs.Checking.{session_of}
 use Rattle.sb_session.proofs.CheckLemmas.{is_kind}
 use Rattle.sb_session.proofs.CommandLemmas.{answers_regardless}
 use Rattle.sb_session.proofs.command.Session.command.Goals as goal

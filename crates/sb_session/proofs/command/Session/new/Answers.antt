@@ -1,10 +1,6 @@
 use Rattle.std.proofs.Common.{false, length, refl, sym, subst}
 use Rattle.sb_session.proofs.CheckLemmas.{is_kind, tracked_if}
-use Rattle.sb_rulebook.specs.Accepted.{asked_in}
-use Rattle.sb_rulebook.specs.Judging.{beginning}
-use Rattle.sb_sound.specs.ScriptLaws.{IsFit}
-use Rattle.sb_stack.specs.Stacked.{state_of}
-use Rattle.sb_session.specs.Commanding.{proof_of}
+use Rattle.sb_session.proofs.Words.{IsFit, asked_in, beginning, proof_of, state_of}
 use Rattle.sb_session.proofs.command.Session.new.Goals as goal
 
 pub returns-clause-tracked : goal.returns-clause-tracked
@@ -22,10 +18,10 @@ pub returns-clause-kind : goal.returns-clause-kind
 returns-clause-kind c = is_kind c.args.proved c.new-3.result
 
 pub invariant_of-result : goal.invariant_of-result
-invariant_of-result c = λ goes. (
-  c.new-2.ensures c.new.result c.new.ensures.words,
-  c.new-3.ensures.regexes (length c.new-2.result.arena),
-  c.new-3.ensures.levels (asked_in (state_of c.new.result)).live,
-  subst IsFit (sym c.new.ensures.state) c.entries_lead_on.ensures.start,
-  c.new-3.ensures.sound (asked_in (state_of c.new.result)) c.new-2.result.arena c.new-2.result.graph.memo,
-)
+invariant_of-result c = λ goes. record {
+  knows = c.new-2.ensures c.new.result c.new.ensures.words;
+  regexes = c.new-3.ensures.regexes (length c.new-2.result.arena);
+  levels = c.new-3.ensures.levels (asked_in (state_of c.new.result)).live;
+  fit = subst IsFit (sym c.new.ensures.state) c.entries_lead_on.ensures.start;
+  sound = c.new-3.ensures.sound (asked_in (state_of c.new.result)) c.new-2.result.arena c.new-2.result.graph.memo;
+}

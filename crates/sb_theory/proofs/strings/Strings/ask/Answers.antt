@@ -1,18 +1,7 @@
-use Rattle.std.proofs.Common.{List, length, take, refl, sym, ap, subst, ◌∙◌, arith}
-use Rattle.std.proofs.lemmas.Bool.{true≢false}
-use Rattle.std.proofs.lemmas.Result.{IfOk-from_err}
-use Rattle.sb_lit.specs.declared.clause.Lit.{Lit}
-use Rattle.sb_lang.specs.Language.{language}
-use Rattle.sb_graph.specs.declared.graph.Explored.{Explored}
-use Rattle.sb_graph.specs.Witness.{IsFinding}
-use Rattle.sb_atoms.proofs.CallerLemmas.{regexes_kept}
-use Rattle.sb_clash.specs.Literals.{AreClashing, asked_by_all}
-use Rattle.sb_theory.specs.Memberships.{row_at}
-use Rattle.sb_theory.specs.Wanted.{wanted_on}
-use Rattle.sb_theory.proofs.Standing.{holds_grown, fitting_grown}
-use Rattle.sb_theory.proofs.Fitting.{fitting_put, rises_set, set_here}
-use Rattle.sb_theory.proofs.Denied.{front_about, front_is}
-use Rattle.sb_theory.proofs.Answering.{keeps_on, looks_on}
+use Rattle.sb_theory.proofs.Words.{◌∙◌, List, ap, arith, refl, subst, take, AreClashing, IfOk-from_err, Lit, asked_by_all, false≢true, language, number_at, regexes_kept, row_at, true≢false, wanted_on, IsFinding, Explored}
+use Rattle.sb_theory.proofs.Fitting.{rises_set, rows_grown, rows_put}
+use Rattle.sb_theory.proofs.Moving.{looks_explored}
+use Rattle.sb_theory.proofs.Rows.{front_about, put_at}
 use Rattle.sb_theory.proofs.strings.Strings.ask.Goals as goal
 
 pub least_word-requires : goal.least_word-requires
@@ -20,9 +9,9 @@ least_word-requires c =
     let x = c.args.self.now in
     let h = c.requires.holds in
     record {
-      about = front_about x.atoms c.args.serial.0 c.args.long (wanted_on x.wanted x.taken.items) c.front_of.result.now
-          (front_is x.atoms c.args.serial.0 c.args.long x.members.items c.deref.result.now
-          (wanted_on x.wanted x.taken.items) c.front_of.result.now h.members c.deref.ensures.value c.front_of.ensures);
+      about = front_about x.atoms c.args.serial.0 c.args.long x.members.items c.deref.result.now
+          (wanted_on x.wanted x.taken.items) c.front_of.result.now c.deref.ensures.value c.front_of.ensures
+          h.rows.members;
       regexes = h.regexes;
       graph = h.graph;
     }
@@ -30,43 +19,25 @@ least_word-requires c =
 pub returns-in_err-explored : goal.returns-in_err-explored
 returns-in_err-explored c =
     let r = c.from_residual in
-    let e = c.in_err-explored.ensures in
     record {
-      holds = IfOk-from_err r.result _ r.ensures.0;
-      fits = IfOk-from_err r.result _ r.ensures.0;
-      clash = IfOk-from_err r.result _ r.ensures.0;
-      rises = IfOk-from_err r.result _ r.ensures.0;
-      looks = looks_on c.args.self.now _
-          (keeps_on c.args.self.now _ refl refl refl refl c.requires.holds.regexes e.extends e.derivatives_stay)
-          refl refl refl;
+      ok = IfOk-from_err r.result _ r.ensures.0;
+      looks = looks_explored c.requires.holds c.in_err-explored.ensures.explores refl refl refl;
     }
 
 pub returns-in_err-put_word-in-Alive : goal.returns-in_err-put_word-in-Alive
 returns-in_err-put_word-in-Alive c =
     let r = c.from_residual-in_err-put_word-in-Alive in
-    let e = c.in_ok-explored.ensures in
     record {
-      holds = IfOk-from_err r.result _ r.ensures.0;
-      fits = IfOk-from_err r.result _ r.ensures.0;
-      clash = IfOk-from_err r.result _ r.ensures.0;
-      rises = IfOk-from_err r.result _ r.ensures.0;
-      looks = looks_on c.args.self.now _
-          (keeps_on c.args.self.now _ refl refl refl refl c.requires.holds.regexes e.extends e.derivatives_stay)
-          refl refl refl;
+      ok = IfOk-from_err r.result _ r.ensures.0;
+      looks = looks_explored c.requires.holds c.in_ok-explored.ensures.explores refl refl refl;
     }
 
 pub returns-in_err-put_number-in-Alive : goal.returns-in_err-put_number-in-Alive
 returns-in_err-put_number-in-Alive c =
     let r = c.from_residual-in_err-put_number-in-Alive in
-    let e = c.in_ok-explored.ensures in
     record {
-      holds = IfOk-from_err r.result _ r.ensures.0;
-      fits = IfOk-from_err r.result _ r.ensures.0;
-      clash = IfOk-from_err r.result _ r.ensures.0;
-      rises = IfOk-from_err r.result _ r.ensures.0;
-      looks = looks_on c.args.self.now _
-          (keeps_on c.args.self.now _ refl refl refl refl c.requires.holds.regexes e.extends e.derivatives_stay)
-          refl refl refl;
+      ok = IfOk-from_err r.result _ r.ensures.0;
+      looks = looks_explored c.requires.holds c.in_ok-explored.ensures.explores refl refl refl;
     }
 
 pub returns-in_ok-put_number-in-Alive : goal.returns-in_ok-put_number-in-Alive
@@ -76,30 +47,29 @@ returns-in_ok-put_number-in-Alive c =
     let n = c.args.serial.0 in
     let e = c.in_ok-explored.ensures in
     let rs = c.least_word.new.arena in
-    let front = front_is x.atoms n c.args.long x.members.items c.deref.result.now (wanted_on x.wanted x.taken.items)
-    c.front_of.result.now h.members c.deref.ensures.value c.front_of.ensures in
+    let set = c.in_ok-put_number-in-Alive.ensures in
+    let row = c.front_of.ensures
+    ∙ ap (λ (rows : List (List Lit)). take c.args.long (row_at rows n)) c.deref.ensures.value in
     let found = (subst (λ (w : Explored). IsFinding (language (asked_by_all rs x.atoms c.front_of.result.now)) w)
     c.in-Alive.is e.found).member in
     record {
-      holds = record {
-        graph = e.graph;
-        plain = c.right_stays.ensures x.arena rs x.plain e.extends h.plain;
-        regexes = regexes_kept x.arena rs x.atoms e.extends h.regexes;
-        members = h.members;
-        fit = fitting_put c.mkand_keeps_language.ensures c.mknot_keeps_language.ensures rs x.atoms x.words.items
-            c.put_word.new.words.items (wanted_on x.wanted x.taken.items) c.front_of.result.now x.fitting.items
-            c.put_number.new.numbers.items x.changed n c.args.long c.in-Alive.word c.in_ok-put_word-in-Alive.ensures
-            c.in_ok-put_number-in-Alive.ensures c.requires.more
-            (omega (arith, c.requires.within, ap length (h.members n))) front found
-            (fitting_grown x.arena rs x.atoms x.words.items (wanted_on x.wanted x.taken.items) x.fitting.items x.changed
-            e.extends h.regexes h.fit);
+      ok = record {
+        holds = record {
+          graph = e.explores.graph;
+          plain = c.right_stays.ensures x.arena rs x.plain e.explores.extends h.plain;
+          regexes = regexes_kept x.arena rs x.atoms e.explores.extends h.regexes;
+          rows = rows_put c.mkand_keeps_language.ensures c.mknot_keeps_language.ensures c.put_word.new.words.items
+              c.put_number.new.numbers.items c.front_of.result.now n c.args.long c.in-Alive.word
+              c.in_ok-put_word-in-Alive.ensures set c.requires.more c.requires.within row found
+              (rows_grown e.explores.extends h.regexes h.rows);
+        };
+        fits = λ alive. put_at (number_at c.put_number.new.numbers.items) (number_at x.fitting.items) (λ y. c.args.long) n
+            set;
+        clash = λ dead. absurd (true≢false dead);
+        rises = rises_set x.fitting.items c.put_number.new.numbers.items n c.args.long set
+            (omega (arith, c.requires.more));
       };
-      fits = λ alive. set_here x.fitting.items c.put_number.new.numbers.items n c.args.long
-          c.in_ok-put_number-in-Alive.ensures;
-      clash = λ dead. absurd (true≢false dead);
-      rises = rises_set x.fitting.items c.put_number.new.numbers.items n c.args.long c.in_ok-put_number-in-Alive.ensures
-          (omega (arith, c.requires.more));
-      looks = looks_on x _ (keeps_on x _ refl refl refl refl h.regexes e.extends e.derivatives_stay) refl refl refl;
+      looks = looks_explored h e.explores refl refl refl;
     }
 
 pub returns-in-Dead : goal.returns-in-Dead
@@ -109,14 +79,20 @@ returns-in-Dead c =
     let e = c.in_ok-explored.ensures in
     let rs = c.least_word.new.arena in
     record {
-      holds = holds_grown x _ e.extends e.graph (c.right_stays.ensures x.arena rs x.plain e.extends h.plain) refl refl
-          refl refl refl refl refl h;
-      fits = λ alive. absurd (true≢false (sym alive));
-      clash = λ dead. subst (λ (ls : List Lit). AreClashing rs x.atoms ls)
-          (c.front_of.ensures
-          ∙ ap (λ (rows : List (List Lit)). take c.args.long (row_at rows c.args.serial.0)) c.deref.ensures.value)
-          (subst (λ (w : Explored). IsFinding (language (asked_by_all rs x.atoms c.front_of.result.now)) w) c.in-Dead.is
-          e.found);
-      rises = λ y. omega arith;
-      looks = looks_on x _ (keeps_on x _ refl refl refl refl h.regexes e.extends e.derivatives_stay) refl refl refl;
+      ok = record {
+        holds = record {
+          graph = e.explores.graph;
+          plain = c.right_stays.ensures x.arena rs x.plain e.explores.extends h.plain;
+          regexes = regexes_kept x.arena rs x.atoms e.explores.extends h.regexes;
+          rows = rows_grown e.explores.extends h.regexes h.rows;
+        };
+        fits = λ alive. absurd (false≢true alive);
+        clash = λ dead. subst (λ (ls : List Lit). AreClashing rs x.atoms ls)
+            (c.front_of.ensures
+            ∙ ap (λ (rows : List (List Lit)). take c.args.long (row_at rows c.args.serial.0)) c.deref.ensures.value)
+            (subst (λ (w : Explored). IsFinding (language (asked_by_all rs x.atoms c.front_of.result.now)) w)
+            c.in-Dead.is e.found);
+        rises = λ y. omega arith;
+      };
+      looks = looks_explored h e.explores refl refl refl;
     }

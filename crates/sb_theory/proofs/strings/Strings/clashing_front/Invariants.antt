@@ -1,6 +1,4 @@
-use Rattle.std.proofs.Common.{◌≡◌, ◌-◌}
-use Rattle.sb_theory.specs.Fronts.{number_at}
-use Rattle.sb_theory.specs.Strings.{Holds, Looks}
+use Rattle.sb_theory.proofs.Words.{◌-◌, ◌≡◌, Holds, Looks, number_at}
 use Rattle.sb_theory.proofs.strings.Strings.clashing_front.Given as goal
 
 abbrev pub invariant-loop-long : goal.invariant-loop-long

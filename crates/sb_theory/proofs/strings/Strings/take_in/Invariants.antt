@@ -1,5 +1,4 @@
-use Rattle.std.proofs.Common.{◌-◌, length}
-use Rattle.sb_theory.specs.Strings.{Stands, Keeps}
+use Rattle.sb_theory.proofs.Words.{◌-◌, length, Keeps, Stands}
 use Rattle.sb_theory.proofs.strings.Strings.take_in.Given as goal
 
 abbrev pub invariant-loop-self : goal.invariant-loop-self

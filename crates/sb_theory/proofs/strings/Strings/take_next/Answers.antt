@@ -1,38 +1,28 @@
-use Rattle.std.proofs.Common.{[], ◌∷◌, List, Option, ℕ, length, refl, sym, ap, subst, ◌∙◌}
-use Rattle.std.proofs.lemmas.List.{length-append}
-use Rattle.std.proofs.lemmas.Result.{IfOk-from_err}
-use Rattle.sb_lit.specs.declared.clause.Lit.{Lit}
-use Rattle.sb_atoms.proofs.CallerLemmas.{regexes_kept}
-use Rattle.sb_theory.specs.Memberships.{AreMembers}
-use Rattle.sb_theory.specs.Wanted.{wanted_on}
-use Rattle.sb_theory.specs.Fronts.{AreFitting}
-use Rattle.sb_theory.proofs.Standing.{stands_pushed, next_of, fitting_taken}
-use Rattle.sb_theory.proofs.Answering.{keeps_on}
+use Rattle.sb_theory.proofs.Words.{[], ◌∙◌, ◌∷◌, ap, length, refl, IfOk-from_err, explores_arena, length-append, regexes_kept, wanted_of, wanted_on}
+use Rattle.sb_theory.proofs.Fitting.{rows_taken}
+use Rattle.sb_theory.proofs.Moving.{keeps_explored}
+use Rattle.sb_theory.proofs.Rows.{wanted_push}
+use Rattle.sb_theory.proofs.Standing.{stands_next}
 use Rattle.sb_theory.proofs.strings.Strings.take_next.Goals as goal
 
-pub note-requires : goal.note-requires
-note-requires c = record { regexes = c.requires.stands.holds.regexes; right = c.requires.stands.holds.plain }
-
-pub returns-in_err-note : goal.returns-in_err-note
-returns-in_err-note c =
-    let x = c.from_residual in
+pub returns-in_err-take_literal : goal.returns-in_err-take_literal
+returns-in_err-take_literal c =
+    let r = c.from_residual in
+    let h = c.requires.stands.holds in
     record {
-      stands = IfOk-from_err x.result _ x.ensures.0;
-      more = IfOk-from_err x.result _ x.ensures.0;
-      keeps = keeps_on c.args.self.now _ refl refl refl refl c.requires.stands.holds.regexes
-          c.in_err-note.ensures.extends
-          (λ n pieces h. h);
+      ok = IfOk-from_err r.result _ r.ensures.0;
+      keeps = keeps_explored h (explores_arena c.graph_stays.ensures c.in_err-take_literal.ensures.extends h.graph) refl
+          refl;
     }
 
-pub returns-in_err-keep : goal.returns-in_err-keep
-returns-in_err-keep c =
-    let x = c.from_residual-in_err-keep in
+pub returns-in_err-push : goal.returns-in_err-push
+returns-in_err-push c =
+    let r = c.from_residual-in_err-push in
+    let h = c.requires.stands.holds in
     record {
-      stands = IfOk-from_err x.result _ x.ensures.0;
-      more = IfOk-from_err x.result _ x.ensures.0;
-      keeps = keeps_on c.args.self.now _ refl refl refl refl c.requires.stands.holds.regexes
-          c.in_ok-note.ensures.extends
-          (λ n pieces h. h);
+      ok = IfOk-from_err r.result _ r.ensures.0;
+      keeps = keeps_explored h (explores_arena c.graph_stays.ensures c.in_ok-take_literal.ensures.extends h.graph) refl
+          refl;
     }
 
 pub returns : goal.returns
@@ -40,30 +30,24 @@ returns c =
     let x = c.args.self.now in
     let h = c.requires.stands.holds in
     let e = c.index-literals-len.result in
-    let noted = c.in_ok-note.ensures in
-    let kept = c.in_ok-keep.ensures in
-    let n = next_of x c.args.trail.now.literals c.literals.result.now c.len.result e c.requires.stands
-    c.literals.ensures.value (c.len.ensures ∙ x.taken.ok.0) c.requires.more c.index-literals-len.is in
+    let took = c.in_ok-take_literal.ensures in
+    let pushed = c.in_ok-push.ensures.items in
+    let explored = explores_arena c.graph_stays.ensures took.extends h.graph in
     record {
-      stands = stands_pushed _ x.taken.items c.args.trail.now.literals e n.0 n.1 c.literals.ensures.trail.levelled
-          kept.taken
-          (record {
-            graph = c.graph_stays.ensures x.arena c.note.new.arena x.graph noted.extends h.graph;
-            plain = noted.right;
-            regexes = regexes_kept x.arena c.note.new.arena x.atoms noted.extends h.regexes;
-            members = kept.members h.members;
-            fit = fitting_taken c.note.new.arena x.atoms x.wanted x.words.items c.deref.result.now x.taken.items
-                c.keep.new.taken.items e c.literal.result c.note.new.fitting.items c.note.new.changed
-                c.deref.ensures.value
-                kept.taken c.literal.ensures
-                (noted.fit (wanted_on x.wanted x.taken.items)
-                (subst (λ (rows : List (List Lit)). AreMembers x.atoms rows (wanted_on x.wanted x.taken.items))
-                (sym c.deref-2.ensures.value) h.members)
-                (subst (λ (ws : List (Option (List ℕ))).
-                AreFitting x.arena x.atoms ws (wanted_on x.wanted x.taken.items) x.fitting.items x.changed)
-                (sym c.deref.ensures.value)
-                h.fit));
-          });
-      more = ap length kept.taken ∙ length-append x.taken.items (e ∷ []);
-      keeps = keeps_on x _ refl refl refl refl h.regexes noted.extends (λ n pieces k. k);
+      ok = (
+        stands_next c.literals.result.now c.len.result e c.requires.stands c.literals.ensures.value
+            (c.len.ensures ∙ x.taken.ok.0) c.requires.more c.index-literals-len.is c.literals.ensures.trail.levelled
+            pushed
+            (record {
+              graph = explored.graph;
+              plain = took.right;
+              regexes = regexes_kept x.arena c.take_literal.new.arena x.atoms took.extends h.regexes;
+              rows = rows_taken x.words.items c.deref.result.now (wanted_of x.wanted (c.literal.result ∷ []))
+                  c.deref.ensures.value
+                  (wanted_push x.wanted x.taken.items c.push.new.self.items e c.literal.result pushed c.literal.ensures)
+                  (took.rows (wanted_on x.wanted x.taken.items)) h.rows;
+            }),
+        ap length pushed ∙ length-append x.taken.items (e ∷ []),
+      );
+      keeps = keeps_explored h explored refl refl;
     }

@@ -1,18 +1,23 @@
-use Rattle.std.proofs.Common.{refl}
-use Rattle.sb_theory.specs.Laws.{writes_same}
-use Rattle.sb_theory.proofs.Placed.{stands_cut}
+use Rattle.sb_theory.proofs.Words.{refl, extends_same, wanted_on, writes_grown}
+use Rattle.sb_theory.proofs.Fitting.{rows_cut}
+use Rattle.sb_theory.proofs.Rows.{wanted_front}
+use Rattle.sb_theory.proofs.Standing.{stands_cut}
 use Rattle.sb_theory.proofs.strings.StringsTheory.backtrack.Goals as goal
 
 pub returns-clause-stands : goal.returns-clause-stands
-returns-clause-stands c = λ entries.
-    stands_cut c.args.self.now _ c.args.level entries refl refl refl refl refl refl refl refl c.cut.ensures.taken
-    c.cut.ensures.members
-
-pub returns-clause-passes : goal.returns-clause-passes
-returns-clause-passes c = λ atom h. h
-
-pub returns-clause-teaches : goal.returns-clause-teaches
-returns-clause-teaches c = λ clause taught. taught
+returns-clause-stands c = λ entries h.
+    let x = c.args.self.now in
+    let cut = c.cut.ensures.taken h.levelled in
+    stands_cut c.args.level cut
+    (record {
+      graph = h.holds.graph;
+      plain = h.holds.plain;
+      regexes = h.holds.regexes;
+      rows = rows_cut c.cut.new.rows.items (wanted_on x.wanted c.cut.new.taken.items) (wanted_on x.wanted cut.more)
+          (wanted_front x.wanted x.taken.items c.cut.new.taken.items cut.more cut.front)
+          (c.cut.ensures.members h.holds.rows.members) h.holds.rows;
+    }) h
 
 pub returns-clause-puts : goal.returns-clause-puts
-returns-clause-puts c = λ proof. writes_same c.args.self.now _ proof refl refl refl refl refl
+returns-clause-puts c = λ proof.
+    writes_grown c.args.self.now _ proof refl refl refl refl (extends_same c.args.self.now.arena) (λ n pieces h. h)

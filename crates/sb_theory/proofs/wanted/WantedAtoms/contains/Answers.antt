@@ -1,5 +1,4 @@
-use Rattle.std.proofs.Common.{ℕ, List, Bool, ap, ◌∙◌}
-use Rattle.sb_theory.specs.Wanted.{is_wanted, mark_at}
+use Rattle.sb_theory.proofs.Words.{◌∙◌, Bool, List, ap, ℕ, is_wanted, mark_at}
 use Rattle.sb_theory.proofs.wanted.WantedAtoms.contains.Goals as goal
 
 pub returns : goal.returns

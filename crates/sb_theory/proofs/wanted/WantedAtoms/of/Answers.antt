@@ -1,5 +1,4 @@
-use Rattle.std.proofs.Common.{ℕ, List, subst}
-use Rattle.sb_theory.specs.Wanted.{AreMarked}
+use Rattle.sb_theory.proofs.Words.{List, subst, ℕ, AreMarked}
 use Rattle.sb_theory.proofs.wanted.WantedAtoms.of.Goals as goal
 
 pub invariant_of-result : goal.invariant_of-result

@@ -1,8 +1,0 @@
-use Rattle.std.proofs.Common.{◌≡◌, ◌++◌, drop}
-use Rattle.sb_decide.specs.Speaking.{places_of_all}
-use Rattle.sb_decide.proofs.decide.Decider.asked.Given as goal
-
-abbrev pub invariant-loop-serial : goal.invariant-loop-serial
-invariant-loop-serial l =
-    l.places.items ++ places_of_all l.fn.self.constants.items (drop l.serial-index l.serials)
-    ≡ l.fn.self.others.items ++ places_of_all l.fn.self.constants.items l.serials

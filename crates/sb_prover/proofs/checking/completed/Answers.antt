@@ -1,0 +1,77 @@
+use Rattle.sb_prover.proofs.Words.{ℕ, Bool, List, Option, refl, subst, sym, AreTruthsOf, IfOk-from_err, IsClosed, IsCompleted, IsReadyThen, Serial}
+use Rattle.sb_prover.specs.declared.checking.Solution.TheVariants as solution
+use Rattle.sb_prover.proofs.checking.completed.Goals as goal
+
+pub close-requires : goal.close-requires
+close-requires c = subst (IsReadyThen c.args.decider.now c.args.stack.now) c.in-Sat.is c.requires.ready
+
+pub returns-in_err-others-in-Sat : goal.returns-in_err-others-in-Sat
+returns-in_err-others-in-Sat c =
+    let x = c.from_residual in
+    record {
+      completed = IfOk-from_err x.result _ x.ensures.0;
+      knows = IfOk-from_err x.result _ x.ensures.0;
+      rest = refl;
+      arena = refl;
+      graph = refl;
+    }
+
+pub returns-in_err-full-in-Sat : goal.returns-in_err-full-in-Sat
+returns-in_err-full-in-Sat c =
+    let x = c.from_residual-in_err-full-in-Sat in
+    let e = c.in_err-full-in-Sat.ensures in
+    record {
+      completed = IfOk-from_err x.result _ x.ensures.0;
+      knows = IfOk-from_err x.result _ x.ensures.0;
+      rest = e.rest;
+      arena = e.arena;
+      graph = e.graph;
+    }
+
+pub returns-in_ok-full-in-Sat : goal.returns-in_ok-full-in-Sat
+returns-in_ok-full-in-Sat c =
+    let e = c.in_ok-full-in-Sat.ensures in
+    let full = c.in_ok-full-in-Sat.full in
+    let others = c.in_ok-others-in-Sat.others in
+    let closed = subst (λ (found : List (Option (List ℕ))).
+    IsClosed c.args.decider.now c.args.stack.now found full.items) c.deref-in-Sat.ensures.value e.closed in
+    record {
+      completed = subst (λ solved. IsCompleted c.args.decider.now c.args.stack.now solved (solution.Sat full others))
+          (sym c.in-Sat.is) (
+            closed,
+            subst (λ (truths : List Bool). AreTruthsOf c.args.decider.now.spoken.keys truths others.items)
+                c.deref.ensures.value
+                (subst (λ (serials : List Serial). AreTruthsOf serials c.deref.result.now others.items)
+                c.as_slice.ensures.keys c.in_ok-others-in-Sat.ensures),
+            c.declared-count.ensures.fit full.items others.items closed.characters,
+          );
+      knows = e.knows others;
+      rest = e.rest;
+      arena = e.arena;
+      graph = e.graph;
+    }
+
+pub returns-in-Unsat : goal.returns-in-Unsat
+returns-in-Unsat c =
+    let e = c.requires.knows in
+    record {
+      completed = subst
+          (λ solved. IsCompleted c.args.decider.now c.args.stack.now solved (solution.Unsat c.in-Unsat.id))
+          (sym c.in-Unsat.is) refl;
+      knows = record { taken = e.taken; words = e.words; declared = e.declared };
+      rest = refl;
+      arena = refl;
+      graph = refl;
+    }
+
+pub returns-in-Spent : goal.returns-in-Spent
+returns-in-Spent c =
+    let e = c.requires.knows in
+    record {
+      completed = subst (λ solved. IsCompleted c.args.decider.now c.args.stack.now solved solution.Spent)
+          (sym c.in-Spent.is) tt;
+      knows = record { taken = e.taken; words = e.words; declared = e.declared };
+      rest = refl;
+      arena = refl;
+      graph = refl;
+    }

@@ -1,0 +1,48 @@
+use Rattle.sb_solve.proofs.Words.{◌≡◌, List, ℕ, length, true, sym, ap, subst, IfOk-from_err, err_from_is_err_and, Kept, has_room_for, AtomOver, AreDistinct, Backing, IsLowestEmpty, counts_none, AreAmong, HasCore, AreWanted}
+use Rattle.sb_solve.proofs.Ended.{core_of, done, room_left, stand_left}
+use Rattle.sb_solve.proofs.searching.search_for.Goals as goal
+
+pub run-requires : goal.run-requires
+run-requires g c =
+    let t = c.taken-tables.ensures in
+    record {
+      stands = t.stands;
+      trail = t.trail;
+      known = subst (λ (e : Backing). has_room_for (length e.atoms) e.kept ≡ true) (sym t.backing) t.stand.known;
+    }
+
+pub put_back-requires : goal.put_back-requires
+put_back-requires g c = record {
+  known = room_left _ _ _ _ _ _ _ _ _ _ _ _ _ c.taken-tables.ensures c.in-Ok.ensures.runs;
+  stands = stand_left _ _ _ _ _ _ _ _ _ _ _ _ _ c.taken-tables.ensures c.in-Ok.ensures.runs;
+}
+
+pub numbered-requires : goal.numbered-requires
+numbered-requires g c =
+    let kept = ap (λ (e : Backing). e.kept) c.put_back.ensures.evidence in
+    record {
+      core = subst (λ (k : Kept). HasCore k c.in-Ok.solved) (sym kept)
+          (core_of _ _ _ _ _ _ _ c.in-Ok.ensures.runs.answers);
+      lowest = subst (λ (k : Kept). IsLowestEmpty k c.put_back.new.evidence.refuted) (sym kept)
+          c.put_back.ensures.lowest;
+    }
+
+pub returns-in-Ok : goal.returns-in-Ok
+returns-in-Ok g c =
+    let w = c.in_ok-wanted.ensures in
+    record {
+      done = rw (c.put_back.ensures.arena, c.put_back.ensures.graph, c.put_back.ensures.plain)
+          (done _ _ _ _ _ _ _ _ _ _ _ _ _ c.taken-tables.ensures c.in-Ok.ensures.runs c.args.literals.now _ _
+          (subst AreDistinct c.atoms.ensures c.wanted_of.ensures.distinct)
+          (subst (λ (ts : List (AtomOver ℕ)). AreWanted ts c.args.literals.now c.in_ok-wanted.wanted) c.atoms.ensures
+          w.wanted)
+          (subst (λ (ts : List (AtomOver ℕ)). AreAmong ts c.args.literals.now c.in_ok-wanted.wanted) c.atoms.ensures
+          w.among) c.put_back.ensures.evidence c.numbered.ensures);
+      counts = c.in-Ok.ensures.counts;
+    }
+
+pub returns-in_err-wanted : goal.returns-in_err-wanted
+returns-in_err-wanted g c =
+    let x = c.from_residual in
+    let p = err_from_is_err_and x.result x.ensures.1 in
+    record { done = IfOk-from_err x.result _ x.ensures.0; counts = counts_none x.result p.0 _ p.1 p.2 }
