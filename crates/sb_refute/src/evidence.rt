@@ -26,6 +26,7 @@ use sb_lit::{Clause, ClauseId, Lit};
 use sb_problem::Normals;
 use sb_proof::{Line, Tape, TapeFault};
 use sb_regex::Arena;
+use sb_search::Choices;
 use sb_sound::clauses::assertion_lines_are_exact;
 use sb_term::{Table, TermId};
 use sb_trace::Trace;
@@ -68,6 +69,8 @@ pub struct Parts {
     pub refuted: Option<EmptyClause>,
     /// Of so many atoms, the first ones, the clauses of their gates stand in the proof.
     pub gates: usize,
+    /// What a search goes by where it decides.
+    pub choices: Choices,
 }
 
 impl Model for Evidence {
@@ -95,6 +98,7 @@ impl Evidence {
             asserted: Vec::new(alloc),
             refuted: None,
             gates: 0,
+            choices: Choices::new(alloc),
         };
         Evidence { alloc, parts }
     }

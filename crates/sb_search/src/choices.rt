@@ -11,14 +11,17 @@ use sb_trail::{CompactLit, Entry, Trail};
 use std::alloc::{AllocError, Global};
 
 /// Which atom is decided next, and how: of the wanted atoms without a value the one that was met most in conflicts of
-/// late, as a hint says, or else as it was last. No answer rests on it.
+/// late, as a hint says, or else as it was last. How often an atom was met, and the value that it had last, stay from
+/// search to search. No answer rests on it.
 #[derive(Drop)]
-pub(crate) struct Choices {
+pub struct Choices {
     /// The wanted atoms that wait: all that have no value, and some that have one.
     order: Order,
     phases: Phases,
-    /// By atom whether it is wanted.
-    wanted: Vec<bool>,
+    /// By atom the number of the search in which it was wanted last, 0 where it was in none.
+    wanted: Vec<u32>,
+    /// The number of this search.
+    search: u32,
 }
 
 impl Choices {
@@ -28,11 +31,22 @@ impl Choices {
             order: Order::new(alloc),
             phases: Phases::new(alloc),
             wanted: Vec::new(alloc),
+            search: 0,
         }
     }
 
-    /// An atom is wanted.
-    pub fn want(&mut self, atom: u64) -> Result<(), AllocError> {
+    /// A search begins, for which no atom is wanted yet. Takes no memory; linear in the atoms that wait.
+    pub(crate) fn begin(&mut self) {
+        self.search = self.search.wrapping_add(1);
+        for _ in 0..self.order.len() {
+            if self.order.pop().is_none() {
+                return;
+            }
+        }
+    }
+
+    /// An atom is wanted. Takes memory for each atom up to it where that was not there.
+    pub(crate) fn want(&mut self, atom: u64) -> Result<(), AllocError> {
         let Some(atoms) = atom.checked_add(1) else {
             return Err(AllocError);
         };
@@ -40,15 +54,15 @@ impl Choices {
         self.order.reserve(atoms)?;
         self.phases.reserve(atoms)?;
         if self.wanted.len() < atoms {
-            self.wanted.resize(atoms, false)?;
+            self.wanted.resize(atoms, 0)?;
         }
-        mark(&mut self.wanted, atom);
+        mark(&mut self.wanted, atom, self.search);
         self.order.insert(atom);
         Ok(())
     }
 
     /// A wanted atom without a value; none where no atom waits that has none.
-    pub fn next(&mut self, trail: &Trail) -> Option<u64>
+    pub(crate) fn next(&mut self, trail: &Trail) -> Option<u64>
         ensures { IfSome result (λ atom. (value_of trail.now.literals atom ≡ None) × (atom < trail.now.reserved)) }
     {
         for _ in 0..self.order.len() {
@@ -63,7 +77,7 @@ impl Choices {
 
     /// The literal of an atom that is decided: as the hint says, if there is one, or else as the atom was last, and
     /// negative at first.
-    pub fn literal(&self, atom: u64, hint: Option<bool>) -> Lit
+    pub(crate) fn literal(&self, atom: u64, hint: Option<bool>) -> Lit
         ensures { result.atom ≡ atom }
     {
         Lit {
@@ -73,7 +87,7 @@ impl Choices {
     }
 
     /// The levels above this one are taken back: their atoms wait again. Takes no memory.
-    pub fn backtrack(&mut self, entries: &[Entry], level: usize) {
+    pub(crate) fn backtrack(&mut self, entries: &[Entry], level: usize) {
         for entry in entries.iter().rev() {
             if entry.level() <= level {
                 return;
@@ -84,14 +98,28 @@ impl Choices {
 
     /// An atom is about to lose its value.
     fn open(&mut self, literal: Lit) {
-        if is_marked(&self.wanted, literal.atom) {
+        if is_marked(&self.wanted, literal.atom, self.search) {
             self.phases.save(literal.atom, literal.positive);
             self.order.insert(literal.atom);
         }
     }
 
+    /// A search ends: its wanted atoms had these values last. Takes no memory.
+    pub(crate) fn end(&mut self, entries: &[Entry]) {
+        for entry in entries {
+            self.save(entry.literal());
+        }
+    }
+
+    /// The value that an atom had last.
+    fn save(&mut self, literal: Lit) {
+        if is_marked(&self.wanted, literal.atom, self.search) {
+            self.phases.save(literal.atom, literal.positive);
+        }
+    }
+
     /// The atoms of the clauses that were resolved in a conflict were met.
-    pub fn learn(&mut self, clauses: &Clauses, lesson: &Learned) {
+    pub(crate) fn learn(&mut self, clauses: &Clauses, lesson: &Learned) {
         for id in lesson.hints.ids() {
             if let Some(literals) = clauses.literals(*id) {
                 self.meet(literals);
@@ -116,14 +144,17 @@ fn is_open(trail: &Trail, atom: u64) -> bool
     (atom as usize) < trail.reserved() && trail.value(atom).is_none()
 }
 
-/// Marks an atom.
-fn mark(marks: &mut [bool], atom: u64) {
+/// Marks an atom with the number of a search.
+fn mark(marks: &mut [u32], atom: u64, search: u32) {
     if let Some(mark) = marks.get_mut(atom as usize) {
-        *mark = true;
+        *mark = search;
     }
 }
 
-/// Whether an atom is marked.
-fn is_marked(marks: &[bool], atom: u64) -> bool {
-    marks.get(atom as usize).copied().unwrap_or(false)
+/// Whether an atom is marked with the number of a search.
+fn is_marked(marks: &[u32], atom: u64, search: u32) -> bool {
+    match marks.get(atom as usize) {
+        Some(mark) => *mark == search,
+        None => false,
+    }
 }

@@ -22,6 +22,7 @@ mod stage;
 mod theory;
 mod turn;
 
+pub use choices::Choices;
 pub use found::Found;
 pub use rounds::search;
 pub use theory::{Checked, Theory};

@@ -25,6 +25,7 @@ use sb_clauses::Engine;
 use sb_lit::{Budget, Lit};
 use sb_proof::{Tape, TapeFault};
 use std::alloc::{AllocError, Global};
+use std::mem;
 
 /// Searches for a trail on which all wanted atoms have values, no kept clause is false, all assumptions are true, and
 /// with which the theory agrees; or for a kept clause of negated assumptions alone.
@@ -40,11 +41,16 @@ use std::alloc::{AllocError, Global};
 /// What is kept behind the clauses that were there follows from them and from what the theory teaches, level by level.
 /// So the clause of an `Unsat` refutes the assumptions.
 ///
-/// After an error nothing is said of the clauses and the trail. `NoMemory` only for want of memory.
+/// How the atoms were met in conflicts, and which value each had last, stay in the choices, for the next search. Beside
+/// what is propagated and the turns, the time is linear in the wanted atoms and in the atoms that are new to the engine or
+/// to the choices.
+///
+/// After an error nothing is said of the clauses and the trail, and the choices may be new ones. `NoMemory` only for want of memory.
 pub fn search<T: Theory, L: Tape>(
     alloc: Global,
     theory: &mut T,
     engine: &mut Engine,
+    choices: &mut Choices,
     tape: &mut L,
     assumptions: &[Lit],
     budget: &mut Budget,
@@ -77,10 +83,13 @@ pub fn search<T: Theory, L: Tape>(
         levels: 0,
         next: 0,
         at: 0,
-        choices: Choices::new(alloc),
+        choices: mem::replace(choices, Choices::new(alloc)),
         restarts: Restarts::new(),
     };
-    run(alloc, theory, engine, &mut stage, assumptions, tape, budget)
+    let found = run(alloc, theory, engine, &mut stage, assumptions, tape, budget)?;
+    stage.choices.end(engine.trail().literals());
+    drop(mem::replace(choices, stage.choices));
+    Ok(found)
 }
 
 /// Begins, and takes turns until the search ends. Each round of the outermost loop spends a step; each round of the
@@ -142,6 +151,7 @@ fn begin<T: Theory>(
     let _before = trail.literals();
     backtrack(theory, engine, stage, 0);
     make_room(engine)?;
+    stage.choices.begin();
     place_wanted(theory, engine, &mut stage.choices)?;
     place_all(engine, assumptions)?;
     Ok(())

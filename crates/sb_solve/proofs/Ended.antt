@@ -1,5 +1,5 @@
 -- What a search leaves, and what comes of it.
-use Rattle.sb_solve.proofs.Words.{◌≡◌, ℕ, zero, suc, Bool, true, List, [], ◌∷◌, ◌++◌, length, take, Option, Some, None, refl, sym, ap, subst, ◌∙◌, take-append_seam, Asserted, false≢true, Global, Vec, Lit, Spending, Kept, KeptClause, kept_at, Regex, has_room_for, Findings, AtomOver, Stacked, AreDistinct, Backing, IsLowestEmpty, unit_at, Stand, each-reserved, room-for-each, stand-traced, FollowsByLevel, GrowsTo, HaveAtoms, IsValid, IsTaught, AreWanted, AreAmong, AreTaken, Answers, HasCore, IsDone, IsNumbered, IsSearched, Runs, backing_in, Solved, State, IsKeptCore, are_negated, Traced, EmptyClause, written, Strings, Tables}
+use Rattle.sb_solve.proofs.Words.{◌≡◌, ℕ, zero, suc, Bool, true, List, [], ◌∷◌, ◌++◌, length, take, Option, Some, None, refl, sym, ap, subst, ◌∙◌, take-append_seam, Asserted, false≢true, Global, Vec, Lit, Spending, Kept, KeptClause, kept_at, Regex, has_room_for, Findings, AtomOver, Stacked, AreDistinct, Backing, IsLowestEmpty, unit_at, Stand, each-reserved, room-for-each, stand-traced, FollowsByLevel, GrowsTo, HaveAtoms, IsValid, IsTaught, AreWanted, AreAmong, AreTaken, Answers, HasCore, IsDone, IsNumbered, IsSearched, Runs, backing_in, Solved, State, IsKeptCore, are_negated, Traced, EmptyClause, written, Strings, Tables, Choices}
 use Rattle.sb_theory.specs.Strings as theory
 use Rattle.sb_solve.specs.declared.check.Solved.TheVariants as solved
 
@@ -61,14 +61,14 @@ searched_over b y z before after old new refuted room stands grows follows write
     have = each-reserved (length b.strings.atoms) b.engine.kept room
 
 -- the theory's words may be taken then
-pub runs_to : (s : Stacked) (b c : Tables) (y : Strings) (z : State) (words : Vec (Option (List ℕ)) Global)
-    (before after : Spending) (old new : Option (List ℕ)) (answer : Solved)
-    → c ≡ record b { strings = record y { words = words }; engine = z } → y.wanted ≡ b.strings.wanted
+pub runs_to : (s : Stacked) (b c : Tables) (y : Strings) (z : State) (choices : Choices)
+    (words : Vec (Option (List ℕ)) Global) (before after : Spending) (old new : Option (List ℕ)) (answer : Solved)
+    → c ≡ record b { strings = record y { words = words }; engine = z; choices = choices } → y.wanted ≡ b.strings.wanted
     → has_room_for (length b.strings.atoms) b.engine.kept ≡ true → theory.Stands y z.trail.literals
     → GrowsTo b.engine.kept z.kept → FollowsByLevel (IsTaught y.arena y.atoms y.wanted) b.engine.kept z.kept
     → theory.Writes b.strings y (written b.engine.kept before old) (written z.kept after new)
     → Answers s y.arena y.atoms z.kept y.wanted after answer → Runs s b before old c after new answer
-runs_to s b c y z words before after old new answer is same room stands grows follows writes answers =
+runs_to s b c y z choices words before after old new answer is same room stands grows follows writes answers =
     subst (λ (t : Tables). Runs s b before old t after new answer) (sym is) (record {
       searched = λ refuted.
           searched_over b y z before after old new refuted room stands grows

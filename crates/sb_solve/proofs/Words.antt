@@ -49,6 +49,7 @@ pub use Rattle.sb_analyze.specs.Cores.{IsKeptCore, are_negated}
 pub use Rattle.sb_search.specs.Following.{place_holds}
 pub use Rattle.sb_search.specs.Found.{GrowsTo, IsFound, has_value}
 pub use Rattle.sb_search.specs.Writing.{written}
+pub use Rattle.sb_search.specs.declared.choices.Choices.{Choices}
 pub use Rattle.sb_search.specs.declared.found.Found.{Found}
 pub use Rattle.sb_atoms.proofs.CallerLemmas.{all_say, atoms_kept, atoms_more, earlier_table}
 pub use Rattle.sb_atoms.specs.GateClauses.{all_hold, are_alike, atom_at, clauses_of, gate, is_as_it_says}

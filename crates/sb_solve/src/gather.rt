@@ -15,16 +15,16 @@ use std::alloc::{AllocError, Global};
 /// whatever stands in the table. Each is an atom of the table where the literals' atoms are and the table is one.
 ///
 /// Linear in these atoms and the literals that they speak of. `AllocError` only for want of memory.
-pub fn wanted(alloc: Global, atoms: &Atoms, literals: &[Lit]) -> Result<Vec<u64>, AllocError>
-    ensures wanted { IfOk result (λ found. AreWanted atoms.now literals.now found.items) }
+pub fn wanted(alloc: Global, atoms: &Atoms, literals: &[Lit]) -> Result<IndexSet<u64>, AllocError>
+    ensures wanted { IfOk result (λ found. AreWanted atoms.now literals.now found.keys) }
     ensures known { IfOk result (λ found. (rs : List Regex) → is_table (atoms_in rs atoms.now) ≡ true
-        → are_atoms atoms.now literals.now ≡ true → list_all (is_atom atoms.now) found.items ≡ true) }
+        → are_atoms atoms.now literals.now ≡ true → list_all (is_atom atoms.now) found.keys ≡ true) }
 {
     let mut found = IndexSet::new(alloc);
     add_all(&mut found, literals)?;
     close(atoms, &mut found)?;
-    let listed = Vec::from_slice(alloc, found.as_slice())?;
-    Ok(listed)
+    let _each_once = found.as_slice();
+    Ok(found)
 }
 
 /// Adds the atoms of literals that are not there.

@@ -18,7 +18,7 @@ use sb_plain::Plain;
 use sb_proof::{Tape, TapeFault};
 use sb_refute::{Asserted, EmptyClause, Evidence, Parts};
 use sb_regex::Arena;
-use sb_search::{Found, search};
+use sb_search::{Choices, Found, search};
 use sb_stack::Stack;
 use sb_theory::{Strings, WantedAtoms};
 use std::alloc::{AllocError, Global};
@@ -32,6 +32,7 @@ pub(crate) struct Tables {
     pub asserted: Vec<Option<Asserted>>,
     pub refuted: Option<EmptyClause>,
     pub gates: usize,
+    pub choices: Choices,
     /// So many clauses were kept before it.
     pub before: usize,
 }
@@ -79,7 +80,7 @@ fn wanted_of(alloc: Global, atoms: &Atoms, literals: &[Lit]) -> Result<WantedAto
 {
     atoms.atoms_each_once();
     let found = wanted(alloc, atoms, literals)?;
-    WantedAtoms::of(alloc, found)
+    Ok(WantedAtoms::of(found))
 }
 
 /// Takes the evidence and the tables out of their places, where empty ones are left.
@@ -104,6 +105,7 @@ fn taken(
         asserted,
         refuted,
         gates,
+        choices,
     } = mem::replace(evidence, Evidence::new(alloc)).into_parts();
     let arena = mem::replace(arena, Arena::new(alloc));
     let graph = mem::replace(graph, Graph::new(alloc));
@@ -116,6 +118,7 @@ fn taken(
         asserted,
         refuted,
         gates,
+        choices,
         before,
     }
 }
@@ -140,6 +143,7 @@ fn run<L: Tape>(
         alloc,
         &mut tables.strings,
         &mut tables.engine,
+        &mut tables.choices,
         tape,
         &[],
         budget,
@@ -198,6 +202,7 @@ fn put_back(
         asserted,
         refuted,
         gates,
+        choices,
         before,
     } = tables;
     let parts = Parts {
@@ -207,6 +212,7 @@ fn put_back(
         asserted,
         refuted,
         gates,
+        choices,
     };
     drop(mem::replace(evidence, Evidence::from_parts(parts, before)));
     drop(mem::replace(arena, strings.arena));

@@ -5,6 +5,7 @@ ghost use Rattle.sb_atoms.specs.Numbered.{HasRegexBelow, HaveRegexesBelow, atom_
 ghost use Rattle.sb_theory.specs.Strings.{Stands};
 
 use crate::regexes::regex;
+use indexmap::IndexSet;
 use sb_atoms::{Atom, AtomId, Atoms, gate_clauses};
 use sb_clauses::Engine;
 use sb_graph::Graph;
@@ -12,7 +13,7 @@ use sb_lit::{Budget, Clause, Lit};
 use sb_plain::Plain;
 use sb_proof::{MemTape, TapeFault};
 use sb_regex::{Arena, RegexId};
-use sb_search::{Found, search};
+use sb_search::{Choices, Found, search};
 use sb_term::Serial;
 use sb_theory::{Strings, WantedAtoms};
 use sb_trace::Trace;
@@ -268,11 +269,11 @@ fn regex_of(alloc: Global, arena: &mut Arena, says: &Says) -> Result<RegexId, Al
 
 /// So many first atoms.
 fn first_atoms(alloc: Global, count: u64) -> Result<WantedAtoms, AllocError> {
-    let mut atoms = Vec::new(alloc);
+    let mut atoms = IndexSet::new(alloc);
     for atom in 0..count {
-        atoms.push(atom)?;
+        atoms.insert(atom)?;
     }
-    WantedAtoms::of(alloc, atoms)
+    Ok(WantedAtoms::of(atoms))
 }
 
 /// Puts the regexes of what is said.
@@ -430,7 +431,8 @@ fn search_case(
         return Err(TapeFault::NoMemory);
     }
     let mut budget = Budget::new(case.limit);
-    let found = search(alloc, theory, engine, tape, &[], &mut budget)?;
+    let mut choices = Choices::new(alloc);
+    let found = search(alloc, theory, engine, &mut choices, tape, &[], &mut budget)?;
     assert!(rt; budget.spent() == case.steps);
     expect_end(rt, found, &case.end);
     expect_left(rt, theory, engine, tape, case);

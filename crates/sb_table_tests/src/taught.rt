@@ -7,7 +7,7 @@ use crate::searches::{NOT_ONE, NOT_TWO, ONE, TWO};
 use sb_clauses::{Clauses, Engine};
 use sb_lit::{Budget, Clause, Lit};
 use sb_proof::{MemTape, Tape, TapeFault};
-use sb_search::{Checked, Found, Theory, search};
+use sb_search::{Checked, Choices, Found, Theory, search};
 use sb_trail::Trail;
 use std::alloc::{AllocError, Global};
 use std::process::Abort;
@@ -154,7 +154,8 @@ fn search_case(
     requires { engine.old.trail.literals ≡ [] }
 {
     let mut budget = Budget::new(9);
-    let found = search(alloc, theory, engine, tape, &[], &mut budget)?;
+    let mut choices = Choices::new(alloc);
+    let found = search(alloc, theory, engine, &mut choices, tape, &[], &mut budget)?;
     assert!(rt; matches!(found, Found::Sat));
     assert!(rt; budget.spent() == 0);
     assert!(rt; tape.bytes().is_empty());

@@ -46,6 +46,6 @@ pub use Rattle.sb_theory.specs.Laws.{have_more, writes_both, writes_grown}
 pub use Rattle.sb_theory.specs.Memberships.{AreMembers, HaveAtoms, IsPut, IsValid, are_atoms, constant_of, fits_subject, is_about, is_atom, is_subject, is_true_by, is_true_of, literals_about, row_at, subject_of, word_at}
 pub use Rattle.sb_theory.specs.Places.{IsAdded, IsCut, IsDropped, is_above}
 pub use Rattle.sb_theory.specs.Strings.{Agrees, Answers, AreFew, Frame, Grows, HasClash, Holds, Intake, IsAsked, IsDenied, IsLook, IsPaid, IsSettled, Keeps, Looks, Stands, Writes, frame_of, intake_of}
-pub use Rattle.sb_theory.specs.Wanted.{AreMarked, IsTaught, is_of_wanted, is_wanted, mark_at, wanted_of, wanted_on}
+pub use Rattle.sb_theory.specs.Wanted.{IsTaught, is_of_wanted, is_wanted, wanted_of, wanted_on}
 pub use Rattle.sb_theory.specs.Words.{AllKept, AreLevelled, Ask, Assigned, Atom, AtomOver, Extends, Fine, HaveRegexesBelow, IsGraph, IsRight, KeepsEntries, Kept, KeptClause, Lemma, Lit, Names, Regex, Serial, Spent, Written, atoms_in, bool_atom, clause_holds, constant_piece, current_level, held, in_atom, kept_behind, list_all, regex_at, up_to, written}
 pub use Rattle.sb_theory.specs.declared.strings.Strings.{Strings}

@@ -1,5 +1,5 @@
 -- The atoms that are to have values, and the literals of these.
-use Rattle.std.specs.Prelude.{◌≡◌, ℕ, Bool, true, false, nat_eq, List, filter, get_or}
+use Rattle.std.specs.Prelude.{◌≡◌, ℕ, Bool, true, nat_eq, List, filter}
 use Rattle.sb_theory.specs.Words.{Assigned, AtomOver, Lit, Regex, held, list_all, list_any}
 use Rattle.sb_theory.specs.Memberships.{IsValid}
 
@@ -18,14 +18,6 @@ wanted_of wanted ls = filter (is_of_wanted wanted) ls
 -- those on a trail
 abbrev pub wanted_on : List ℕ → List Assigned → List Lit
 wanted_on wanted entries = wanted_of wanted (held entries)
-
--- the mark of an atom, none past the last one
-abbrev pub mark_at : List Bool → ℕ → Bool
-mark_at marks atom = get_or marks atom false
-
--- those that are wanted are marked, and no others
-abbrev pub AreMarked : List ℕ → List Bool → Type 0
-AreMarked wanted marks = (atom : ℕ) → mark_at marks atom ≡ is_wanted wanted atom
 
 -- a clause of wanted atoms alone that is true whatever the values are
 abbrev pub IsTaught : List Regex → List (AtomOver ℕ) → List ℕ → List Lit → Type 0

@@ -34,7 +34,7 @@ use sb_clauses::{Clauses, Engine};
 use sb_hints::KeptClauses;
 use sb_lit::{Budget, Clause, ClauseId, Lit};
 use sb_proof::MemTape;
-use sb_search::{Found, search};
+use sb_search::{Choices, Found, search};
 use sb_trail::{CompactLit, Trail};
 use std::alloc::{AllocError, Global};
 use std::io::Write;
@@ -438,7 +438,16 @@ fn search_case(
     case.engine.clear();
     let mut budget = Budget::new(limit);
     let (theory, engine) = (&mut case.theory, &mut case.engine);
-    let found = search(alloc, theory, engine, tape, assumptions, &mut budget)?;
+    let mut choices = Choices::new(alloc);
+    let found = search(
+        alloc,
+        theory,
+        engine,
+        &mut choices,
+        tape,
+        assumptions,
+        &mut budget,
+    )?;
     Ok((found, budget.spent()))
 }
 

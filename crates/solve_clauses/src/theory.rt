@@ -13,7 +13,7 @@ use crate::search::Verdict;
 use sb_clauses::{Clauses, Engine};
 use sb_lit::{Budget, Clause, Lit};
 use sb_proof::{Line, Rule, Tape, TapeFault};
-use sb_search::{Checked, Found, Theory, search};
+use sb_search::{Checked, Choices, Found, Theory, search};
 use sb_trail::Trail;
 use std::alloc::{AllocError, Global};
 
@@ -221,7 +221,16 @@ fn search_over(
     requires { engine.old.trail.literals ≡ [] }
 {
     add_atoms(0, engine.atoms() as u64, &mut theory.atoms)?;
-    match search(alloc, theory, engine, &mut Silent, &[], budget)? {
+    let mut choices = Choices::new(alloc);
+    match search(
+        alloc,
+        theory,
+        engine,
+        &mut choices,
+        &mut Silent,
+        &[],
+        budget,
+    )? {
         Found::Sat => Ok(Verdict::Satisfiable),
         Found::Unsat(_) => Ok(Verdict::Unsatisfiable),
         Found::Spent => Err(Failure::Lost),

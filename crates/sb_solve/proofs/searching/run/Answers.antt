@@ -21,8 +21,8 @@ returns-in-Unsat g c =
     let h = c.in_ok-found.ensures in
     let y = c.search.new.theory in
     record {
-      runs = runs_to c.args.stack.now c.args.tables.now _ y c.search.new.engine y.words _ _ _ _ _ refl
-          c.search.ensures.wanted c.requires.known h.stands h.kept h.follows_by_level h.puts
+      runs = runs_to c.args.stack.now c.args.tables.now _ y c.search.new.engine c.search.new.choices y.words
+          _ _ _ _ _ refl c.search.ensures.wanted c.requires.known h.stands h.kept h.follows_by_level h.puts
           (subst (IsFound y.wanted [] c.search.new.engine c.search.new.budget) c.in-Unsat.is h.found);
       counts = h.counts;
     }
@@ -32,8 +32,8 @@ returns-in-Spent g c =
     let h = c.in_ok-found.ensures in
     let y = c.search.new.theory in
     record {
-      runs = runs_to c.args.stack.now c.args.tables.now _ y c.search.new.engine y.words _ _ _ _ _ refl
-          c.search.ensures.wanted c.requires.known h.stands h.kept h.follows_by_level h.puts
+      runs = runs_to c.args.stack.now c.args.tables.now _ y c.search.new.engine c.search.new.choices y.words
+          _ _ _ _ _ refl c.search.ensures.wanted c.requires.known h.stands h.kept h.follows_by_level h.puts
           (subst (IsFound y.wanted [] c.search.new.engine c.search.new.budget) c.in-Spent.is h.found);
       counts = h.counts;
     }
@@ -44,8 +44,9 @@ returns-in_ok-values-in-Sat g c =
     let y = c.search.new.theory in
     let v = c.in_ok-values-in-Sat.ensures in
     record {
-      runs = runs_to c.args.stack.now c.args.tables.now c.values_of.new.tables y c.search.new.engine _ _ _ _ _ _ v.rest
-          c.search.ensures.wanted c.requires.known h.stands h.kept h.follows_by_level h.puts
+      runs = runs_to c.args.stack.now c.args.tables.now c.values_of.new.tables y c.search.new.engine
+          c.search.new.choices _ _ _ _ _ _ v.rest c.search.ensures.wanted c.requires.known h.stands h.kept
+          h.follows_by_level h.puts
           (record {
             search = c.search.new.engine;
             theory = y.words.items;

@@ -1,4 +1,4 @@
-use Rattle.sb_solve.proofs.Words.{ℕ, List, sym, subst, IfOk-from_err, IfOk-weaker, AreAmong, AreWanted}
+use Rattle.sb_solve.proofs.Words.{ℕ, List, sym, subst, IfOk-from_err, AreAmong, AreWanted}
 use Rattle.sb_solve.proofs.searching.wanted_of.Goals as goal
 
 pub returns-in_err-found : goal.returns-in_err-found
@@ -15,10 +15,8 @@ returns c =
     let table = c.args.atoms.now in
     record {
       distinct = c.atoms_each_once.ensures;
-      wanted = IfOk-weaker c.of.result _ _
-          (λ found is. subst (λ (ns : List ℕ). AreWanted table c.args.literals.now ns) (sym is)
-          c.in_ok-found.ensures.wanted) c.of.ensures;
-      among = IfOk-weaker c.of.result _ _
-          (λ found is. subst (λ (ns : List ℕ). AreAmong table c.args.literals.now ns) (sym is)
-          c.in_ok-found.ensures.known) c.of.ensures;
+      wanted = subst (λ (ns : List ℕ). AreWanted table c.args.literals.now ns) (sym c.of.ensures)
+          c.in_ok-found.ensures.wanted;
+      among = subst (λ (ns : List ℕ). AreAmong table c.args.literals.now ns) (sym c.of.ensures)
+          c.in_ok-found.ensures.known;
     }
