@@ -111,12 +111,6 @@ signed_nothing distinct found e = ap (signed distinct) e ∙ signed_none distinc
 
 -- What asks something of one constant's word.
 
-asked_none : (t : Term) (serial : ℕ) (R : Term) → asked t ≡ Some (serial, R) → is_regular R ≡ false
-    → (atoms : List Atom) → translation atoms t ≡ None
-asked_none t serial R h past atoms =
-    asked_translation t serial R h atoms
-    ∙ ap (λ (m : Bool). membership atoms (constant serial text) (if m then regex_meant (meaning_of [] R) else None)) past
-
 asked_is : (rs : List Regex) (t : Term) (serial id : ℕ) (R : Term) → asked t ≡ Some (serial, R)
     → is_regular R ≡ true → IsRegexOf rs R id → (atoms : List Atom)
     → translation atoms t ≡ positive atoms (in_atom (constant_piece serial ∷ []) (regex_at rs id))

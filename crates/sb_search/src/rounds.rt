@@ -45,7 +45,8 @@ use std::mem;
 /// what is propagated and the turns, the time is linear in the wanted atoms and in the atoms that are new to the engine or
 /// to the choices.
 ///
-/// After an error nothing is said of the clauses and the trail, and the choices may be new ones. `NoMemory` only for want of memory.
+/// After an error nothing is said of the clauses and the trail, and the choices may be new ones. `NoMemory` only for want
+/// of memory.
 pub fn search<T: Theory, L: Tape>(
     alloc: Global,
     theory: &mut T,
