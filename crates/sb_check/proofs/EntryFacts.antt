@@ -39,6 +39,20 @@ behind-more s t (first ∷ entries) entry h =
     step (Some next) h rest = rest next h
     step None h rest = absurd cc
 
+-- behind entries of which one ends the run no state stands
+pub behind-ended : (s : State) (entries others : List Entry) → behind s entries ≡ None
+    → behind s (entries ++ others) ≡ None
+behind-ended s [] others h = absurd cc
+behind-ended s (first ∷ entries) others h =
+    step (state_behind (step_of first s) s) h (λ next. behind-ended next entries others)
+  where
+    step : (o : Option State)
+        → elim o as (λ _. Option State) [ Some next ↦ behind next entries | None ↦ None ] ≡ None
+        → ((next : State) → behind next entries ≡ None → behind next (entries ++ others) ≡ None)
+        → elim o as (λ _. Option State) [ Some next ↦ behind next (entries ++ others) | None ↦ None ] ≡ None
+    step (Some next) h rest = rest next h
+    step None h rest = refl
+
 -- the events of one more entry
 pub events-more : (s t : State) (entries : List Entry) (entry : Entry) → behind s entries ≡ Some t
     → events s (entries ++ entry ∷ []) ≡ events s entries ++ events_of (step_of entry t) t

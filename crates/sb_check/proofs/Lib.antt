@@ -5,10 +5,12 @@ mod Entering
 mod EntryFacts
 mod FinishLemmas
 mod GoingLemmas
+mod LineFacts
 mod Growing
 mod MoveLemmas
 mod Opening
 mod ReadingOn
+mod RunFacts
 mod ScriptLemmas
 mod StopLemmas
 mod Taking

@@ -1,12 +1,17 @@
--- One read of a proof after another.
-use Rattle.std.proofs.Common.{◌≡◌, ℕ, ◌+◌, List, drop, refl, sym, ap, ◌∙◌, subst, arith}
+-- One read of a proof after another, up to the limit.
+use Rattle.std.proofs.Common.{◌≡◌, ℕ, ◌+◌, List, [], ◌++◌, drop, refl, sym, ap, ◌∙◌, subst, arith, append_assoc}
 use Rattle.std.proofs.lemmas.List.{length-drop, drop-drop}
 use Rattle.sb_world.specs.Outside.{Outside}
 use Rattle.sb_world.specs.Moved.{Moved, moved_by, reading}
 use Rattle.sb_world.specs.declared.InPort.TheVariants as in_port
 use Rattle.sb_world.proofs.CallerLemmas.{moved_by-both, moved_by-nothing, reading-add, reading-zero}
-use Rattle.sb_input.specs.TakingLines.{LinesState, ReadsOn, IsLeft}
-use Rattle.sb_check.specs.Going.{Reads, ReadsProof, IsPast}
+use Rattle.sb_rulebook.specs.Judging.{Phase, Progress}
+use Rattle.sb_sound.proofs.CallerLemmas.{whole_none}
+use Rattle.sb_input.specs.declared.lines.Found.{Found}
+use Rattle.sb_input.specs.declared.lines.Found.TheVariants.{Limit}
+use Rattle.sb_input.specs.TakingLines.{LinesState, ReadsOn, IsLeft, Advances}
+use Rattle.sb_check.specs.declared.judge.Judge.{Judge}
+use Rattle.sb_check.specs.Going.{Taking, Reads, ReadsProof, IsPast}
 use Rattle.sb_check.specs.Through.{Leaves}
 
 moved_none : (o : Outside) → o ≡ moved_by (reading in_port.Proof 0) o
@@ -60,20 +65,47 @@ leaves_more m n s t u o p q first second left is =
       subst (λ (rest : List ℕ). IsLeft u q rest) (drop-drop n m left) y.1,
     )
 
-pub proof_none : (o : Outside) → ReadsProof o o
-proof_none o = (0, moved_none o)
+pub proof_none : (s : LinesState) (o : Outside) → ReadsProof s o o
+proof_none s o = record { count = 0; moved = moved_none o; within = λ h. omega (arith, h) }
 
-pub proof_more : (m : ℕ) (s t : LinesState) (o p q : Outside) → Reads m s t o p → ReadsProof p q → ReadsProof o q
-proof_more m s t o p q first second = (m + second.0, moved_more m second.0 o p q first.moved second.1)
+pub proof_of : (n : ℕ) (s t : LinesState) (o p : Outside) → ReadsOn n s t o p → ReadsProof s o p
+proof_of n s t o p r =
+    record { count = n; moved = r.moved; within = λ _. omega (arith, r.read, r.limit, r.within) }
 
-pub past_more : (m : ℕ) (s t u : LinesState) (o p q : Outside) → Reads m s t o p → Leaves m s t o p
-    → IsPast t u p q → IsPast s u o q
-past_more m s t u o p q first leaves past = record {
-  count = m + past.count;
-  reads = reads_then m past.count s t u o p q first past.reads;
-  at_limit = past.at_limit;
-  not_ended = past.not_ended;
-  within = λ left is.
-      let x = leaves left is in
-      omega (arith, x.0, past.within (drop m left) x.1, length-drop m left);
+pub proof_more : (m : ℕ) (s t : LinesState) (o p q : Outside) → Reads m s t o p → ReadsProof t p q → ReadsProof s o q
+proof_more m s t o p q first second = record {
+  count = m + second.count;
+  moved = moved_more m second.count o p q first.moved second.moved;
+  within = λ h. omega (arith, first.read, first.limit, second.within (first.within h));
 }
+
+-- two fronts, one behind the other
+pub split_more : (m n : ℕ) (whole front between more last left : List ℕ)
+    → whole ≡ front ++ (between ++ drop m left) → between ++ drop m left ≡ more ++ (last ++ drop n (drop m left))
+    → whole ≡ (front ++ more) ++ (last ++ drop (m + n) left)
+split_more m n whole front between more last left first second =
+    first ∙ ap (λ (xs : List ℕ). front ++ xs) second
+    ∙ sym (append_assoc front more (last ++ drop n (drop m left)))
+    ∙ ap (λ (xs : List ℕ). (front ++ more) ++ (last ++ xs)) (drop-drop n m left)
+
+-- where nothing was taken before the limit
+pub limit_met : (Takes : Taking) (phase : Phase) (found : Found) (j : Judge) (s t : LinesState) (o q : Outside)
+    → found ≡ Limit → Advances found s t o q → ((p : Progress) → p.phase ≡ phase → Takes p [] p)
+    → IsPast Takes phase j s t o q
+limit_met Takes phase found j s t o q is advances takes =
+    let a = subst (λ (f : Found). Advances f s t o q) is advances in
+    record {
+      count = a.count;
+      reads = a.reads;
+      at_limit = a.leaves.1.0;
+      part = a.leaves.1.1.0;
+      came = λ p left at l. record {
+        within = a.within left l;
+        front = [];
+        whole = whole_none;
+        split = (a.finds left l).1;
+        progress = p;
+        said_is = refl;
+        takes = takes p at.is;
+      };
+    }

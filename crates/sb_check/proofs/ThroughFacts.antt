@@ -1,10 +1,11 @@
 -- What comes of a proof where a check waits, where the end is due, and where a line is refused.
-use Rattle.std.proofs.Common.{◌≡◌, Bool, false, cond, List, [], ◌∷◌, ◌++◌, Result, Ok, Err, refl, ap, ◌∙◌}
-use Rattle.sb_rulebook.specs.Refusals.{Refusal, missing_line}
+use Rattle.std.proofs.Common.{◌≡◌, ℕ, Bool, true, false, cond, List, [], ◌∷◌, ◌++◌, Result, Ok, Err, refl, sym, ap, ◌∙◌}
+use Rattle.std.proofs.lemmas.Bool.{false≢true}
+use Rattle.sb_rulebook.specs.Refusals.{Refusal, unended, missing_line}
 use Rattle.sb_rulebook.specs.Lines.{Line}
-use Rattle.sb_rulebook.specs.Reading.{LineText, read}
+use Rattle.sb_rulebook.specs.Reading.{LineText, line_of, if_ended, read}
 use Rattle.sb_rulebook.specs.Verdicts.{Question}
-use Rattle.sb_rulebook.specs.Judging.{Event, asks, ends, Phase, at_rest, at_check, at_end, behind_end, stopped, Progress, met, meets, stop, takes_read, takes, takes_all, is_at_check, through, along, along_all, accepted, refused, outcome_in, outcome_of, closed, closed_in}
+use Rattle.sb_rulebook.specs.Judging.{Event, asks, ends, Phase, at_rest, at_check, at_end, behind_end, stopped, Progress, met, meets, stop, takes_lines, takes_read, takes, takes_all, is_at_check, through, along, along_all, accepted, refused, outcome_in, outcome_of, closed, closed_in}
 use Rattle.sb_rulebook.specs.JudgingLaws.{RefusalIsFinal}
 use Rattle.sb_script.specs.Steps.{Leaving, above, all}
 use Rattle.sb_rulebook.specs.Accepted.{event_of_leaving}
@@ -13,21 +14,16 @@ use Rattle.sb_check.specs.Through.{goes_through}
 
 -- Where no check waits no line is due, and where one waits the next line is.
 
-none_due : (phase : Phase) (p : Progress) (texts : List LineText) → is_at_check phase ≡ false → p.phase ≡ phase
+pub none_due : (phase : Phase) (p : Progress) (texts : List LineText) → is_at_check phase ≡ false → p.phase ≡ phase
     → through p texts ≡ (p, texts)
 none_due phase p [] idle is = refl
 none_due phase p (text ∷ texts) idle is =
     ap (λ b. cond b (through (takes text p) texts) (p, text ∷ texts)) (ap is_at_check is ∙ idle)
 
-pub line_due : (q : Question) (p : Progress) (text : LineText) (texts : List LineText) (es : List Event)
-    → p.phase ≡ at_check q → goes_through p (text ∷ texts) es ≡ goes_through (takes text p) texts es
-line_due q p text texts es is =
-    ap (λ (b : Bool). let r = cond b (through (takes text p) texts) (p, text ∷ texts) in along_all r.0 es r.1)
-    (ap is_at_check is)
-
-pub no_check_due : (p : Progress) (texts : List LineText) (es : List Event) → p.phase ≡ at_rest
-    → goes_through p texts es ≡ along_all p es texts
-no_check_due p texts es is = ap (λ r. along_all r.0 es r.1) (none_due at_rest p texts refl is)
+pub line_due : (q : Question) (p : Progress) (text : LineText) (texts : List LineText) → p.phase ≡ at_check q
+    → through p (text ∷ texts) ≡ through (takes text p) texts
+line_due q p text texts is =
+    ap (λ (b : Bool). cond b (through (takes text p) texts) (p, text ∷ texts)) (ap is_at_check is)
 
 -- Events.
 
@@ -59,12 +55,11 @@ leaving_said : (what : Leaving) (p : Progress) → (met (event_of_leaving what) 
 leaving_said (above n) p = refl
 leaving_said all p = refl
 
-pub leaving_due : (what : Leaving) (p : Progress) (es : List Event) (texts : List LineText) → p.phase ≡ at_rest
-    → along_all p (event_of_leaving what ∷ es) texts ≡ along_all (behind (event_of_leaving what ∷ []) p) es texts
-leaving_due what p es texts is =
-    ap (λ r. let s = along r.0 (es ++ ends ∷ []) r.1 in takes_all s.1 s.0)
-    (none_due at_rest (meets (event_of_leaving what) p) texts refl
-    (ap (λ (q : Progress). q.phase) (meets_at_rest (event_of_leaving what) p is) ∙ leaving_rests what p is))
+pub leaving_due : (what : Leaving) (p : Progress) (texts : List LineText) → p.phase ≡ at_rest
+    → along p (event_of_leaving what ∷ []) texts ≡ (behind (event_of_leaving what ∷ []) p, texts)
+leaving_due what p texts is =
+    none_due at_rest (meets (event_of_leaving what) p) texts refl
+    (ap (λ (q : Progress). q.phase) (meets_at_rest (event_of_leaving what) p is) ∙ leaving_rests what p is)
 
 pub said_at_leaving : (what : Leaving) (p : Progress) → p.phase ≡ at_rest
     → (behind (event_of_leaving what ∷ []) p).said ≡ p.said
@@ -72,6 +67,11 @@ said_at_leaving what p is =
     ap (λ (q : Progress). q.said) (meets_at_rest (event_of_leaving what) p is) ∙ leaving_said what p
 
 -- a check takes its lines
+
+pub asked_due : (q : Question) (p : Progress) (texts : List LineText) → p.phase ≡ at_rest
+    → along p (asks q ∷ []) texts ≡ through (record p { phase = at_check q }) texts
+asked_due q p texts is = ap (λ (x : Progress). through x texts) (meets_at_rest (asks q) p is)
+
 pub check_due : (q : Question) (p : Progress) (es : List Event) (texts : List LineText) → p.phase ≡ at_rest
     → along_all p (asks q ∷ es) texts ≡ goes_through (record p { phase = at_check q }) texts es
 check_due q p es texts is =
@@ -111,11 +111,37 @@ pub refused_at_check : (q : Question) (refusal : Refusal) (p : Progress) (text :
     (es : List Event) → RefusalIsFinal → p.phase ≡ at_check q → takes text p ≡ stop refusal p
     → outcome_of (closed (goes_through p (text ∷ texts) es)) ≡ refused p.said p.next refusal
 refused_at_check q refusal p text texts es final is stops =
-    ap (λ x. outcome_of (closed x)) (line_due q p text texts es is)
+    ap (λ (r : Progress × List LineText). outcome_of (closed (along_all r.0 es r.1))) (line_due q p text texts is)
     ∙ ap (λ x. outcome_of (closed (goes_through x texts es))) stops
     ∙ ap (λ r. outcome_of (closed (along_all r.0 es r.1)))
     (none_due (stopped p.next refusal) (stop refusal p) texts refl refl)
     ∙ ap outcome_of (final (stop refusal p) p.next refusal es texts refl)
+
+-- a line without a line feed is refused where lines are due
+unended-stops : (text : List ℕ) (p : Progress) → takes_lines p.phase ≡ true
+    → (refusal : Refusal) × (takes (text, false) p ≡ stop refusal p)
+unended-stops text p due = step (line_of text)
+  where
+    step : (r : Result Line Refusal) → (refusal : Refusal)
+        × (takes_read (elim r as (λ _. Result Line Refusal) [
+          | Ok line ↦ if_ended false line
+          | Err other ↦ Err other
+        ]) p ≡ stop refusal p)
+    step (Ok line) = (unended, ap (λ b. cond b (stop unended p) p) due)
+    step (Err other) = (other, ap (λ b. cond b (stop other p) p) due)
+
+abbrev pub is_stopped : Phase → Bool
+is_stopped at_rest = false
+is_stopped (at_check q) = false
+is_stopped at_end = false
+is_stopped behind_end = false
+is_stopped (stopped n refusal) = true
+
+pub never_unended : (phase : Phase) (text : List ℕ) (p : Progress) → takes_lines p.phase ≡ true
+    → is_stopped phase ≡ false → (takes (text, false) p).phase ≡ phase → ⊥
+never_unended phase text p due goes is =
+    let stops = unended-stops text p due in
+    false≢true (sym goes ∙ sym (ap is_stopped is) ∙ ap (λ (q : Progress). is_stopped q.phase) stops.1)
 
 takes-stopped : (refusal : Refusal) (p : Progress) (r : Result Line Refusal)
     → takes_read r (stop refusal p) ≡ stop refusal p

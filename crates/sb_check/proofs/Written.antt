@@ -28,39 +28,43 @@ more_written script proof text more old before now b h =
     (omega arith))))
 
 -- the text of another outcome, if it is the text so far and more
-pub writes_on : (script proof : List ℕ) (outcome other : Outcome) (text more whole : List ℕ) (old before now : Outside)
-    → Writes script proof outcome text old before → IsOutcome script proof other
-    → now ≡ write_at Answers more before → text ++ more ≡ whole → Writes script proof other whole old now
-writes_on script proof outcome other text more whole old before now w is h same = record {
+pub writes_on : (limit : ℕ) (script proof : List ℕ) (outcome other : Outcome) (text more whole : List ℕ) (old before now : Outside)
+    → Writes limit script proof outcome text old before → IsOutcome script proof other
+    → now ≡ write_at Answers more before → text ++ more ≡ whole → Writes limit script proof other whole old now
+writes_on limit script proof outcome other text more whole old before now w is h same = record {
   is = is;
   script_read = w.script_read;
   proof_read = w.proof_read;
+  script_within = w.script_within;
+  proof_within = w.proof_within;
   moved = more_written w.script_read w.proof_read text more old before now w.moved h
       ∙ ap (λ t. moved_by (record nothing { script = w.script_read; proof = w.proof_read; answers = t }) old) same;
 }
 
 -- a front of it, if it is the text so far and a front of more
-pub writes_front : (script proof : List ℕ) (outcome other : Outcome) (text more : List ℕ) (out : ℕ)
-    (old before now : Outside) → Writes script proof outcome text old before → IsOutcome script proof other
-    → now ≡ write_at Answers (take out more) before → answer other ≡ text ++ more → CutShort script proof old now
-writes_front script proof outcome other text more out old before now w is h same = (
+pub writes_front : (limit : ℕ) (script proof : List ℕ) (outcome other : Outcome) (text more : List ℕ) (out : ℕ)
+    (old before now : Outside) → Writes limit script proof outcome text old before → IsOutcome script proof other
+    → now ≡ write_at Answers (take out more) before → answer other ≡ text ++ more → CutShort limit script proof old now
+writes_front limit script proof outcome other text more out old before now w is h same = (
   other,
   length text + out,
-  writes_on script proof outcome other text (take out more) (take (length text + out) (answer other)) old before now w
+  writes_on limit script proof outcome other text (take out more) (take (length text + out) (answer other)) old before now w
       is h
       (sym (take-append-add text more out) ∙ ap (take (length text + out)) (sym same)),
 )
 
 -- the verdicts of an outcome are written, which is a front of its text
-pub writes_verdicts : (script proof : List ℕ) (outcome : Outcome) (text line : List ℕ) (old now : Outside)
-    → Writes script proof outcome text old now → answer outcome ≡ text ++ line → CutShort script proof old now
-writes_verdicts script proof outcome text line old now w same = (
+pub writes_verdicts : (limit : ℕ) (script proof : List ℕ) (outcome : Outcome) (text line : List ℕ) (old now : Outside)
+    → Writes limit script proof outcome text old now → answer outcome ≡ text ++ line → CutShort limit script proof old now
+writes_verdicts limit script proof outcome text line old now w same = (
   outcome,
   length text,
   record {
     is = w.is;
     script_read = w.script_read;
     proof_read = w.proof_read;
+    script_within = w.script_within;
+    proof_within = w.proof_within;
     moved = w.moved ∙ ap (λ t. moved_by (record nothing {
       script = w.script_read;
       proof = w.proof_read;
@@ -74,37 +78,39 @@ abbrev pub IsWritten : Result (Unit {0}) WorldError → List ℕ → Outside →
 IsWritten r line before now = OnOk r (now ≡ write_at Answers line before)
     × OnErr r ((out : ℕ) × (out < length line) × (now ≡ write_at Answers (take out line) before))
 
-pub accepted_written : (r : Result (Unit {0}) WorldError) (script proof : List ℕ) (old before now : Outside)
-    → IsWritten r accepted_line before now → HasAccepted script proof old before
-    → RunOf (status_by r status.Accepted) script proof old now
-accepted_written (Ok _) script proof old before now h has = (
+pub accepted_written : (r : Result (Unit {0}) WorldError) (limit : ℕ) (script proof : List ℕ) (old before now : Outside)
+    → IsWritten r accepted_line before now → HasAccepted limit script proof old before
+    → RunOf (status_by r status.Accepted) limit script proof old now
+accepted_written (Ok _) limit script proof old before now h has = (
   has.0,
-  writes_on script proof (accepted has.0) (accepted has.0) (verdict_lines 1 has.0) accepted_line
+  writes_on limit script proof (accepted has.0) (accepted has.0) (verdict_lines 1 has.0) accepted_line
       (answer (accepted has.0)) old before now has.1 has.1.is h.0 refl,
+  has.2,
+  has.3,
 )
-accepted_written (Err Failed) script proof old before now h has =
-    writes_front script proof (accepted has.0) (accepted has.0) (verdict_lines 1 has.0) accepted_line h.1.0 old before
+accepted_written (Err Failed) limit script proof old before now h has =
+    writes_front limit script proof (accepted has.0) (accepted has.0) (verdict_lines 1 has.0) accepted_line h.1.0 old before
     now has.1 has.1.is h.1.2 refl
-accepted_written (Err NoMemory) script proof old before now h has =
-    writes_front script proof (accepted has.0) (accepted has.0) (verdict_lines 1 has.0) accepted_line h.1.0 old before
+accepted_written (Err NoMemory) limit script proof old before now h has =
+    writes_front limit script proof (accepted has.0) (accepted has.0) (verdict_lines 1 has.0) accepted_line h.1.0 old before
     now has.1 has.1.is h.1.2 refl
 
-pub refusal_written : (r : Result (Unit {0}) WorldError) (script proof : List ℕ) (n : ℕ) (refusal : Refusal)
+pub refusal_written : (r : Result (Unit {0}) WorldError) (limit : ℕ) (script proof : List ℕ) (n : ℕ) (refusal : Refusal)
     (old before now : Outside) → IsWritten r (refusal_line n refusal) before now
-    → ((said : List Said) × Writes script proof (refused said n refusal) (verdict_lines 1 said) old before)
-    → RunOf (status_by r status.Refused) script proof old now
-refusal_written (Ok _) script proof n refusal old before now h has = (
+    → ((said : List Said) × Writes limit script proof (refused said n refusal) (verdict_lines 1 said) old before)
+    → RunOf (status_by r status.Refused) limit script proof old now
+refusal_written (Ok _) limit script proof n refusal old before now h has = (
   has.0,
   n,
   refusal,
-  writes_on script proof (refused has.0 n refusal) (refused has.0 n refusal) (verdict_lines 1 has.0)
+  writes_on limit script proof (refused has.0 n refusal) (refused has.0 n refusal) (verdict_lines 1 has.0)
       (refusal_line n refusal) (answer (refused has.0 n refusal)) old before now has.1 has.1.is h.0 refl,
 )
-refusal_written (Err Failed) script proof n refusal old before now h has =
-    writes_front script proof (refused has.0 n refusal) (refused has.0 n refusal) (verdict_lines 1 has.0)
+refusal_written (Err Failed) limit script proof n refusal old before now h has =
+    writes_front limit script proof (refused has.0 n refusal) (refused has.0 n refusal) (verdict_lines 1 has.0)
     (refusal_line n refusal) h.1.0 old before now has.1 has.1.is h.1.2 refl
-refusal_written (Err NoMemory) script proof n refusal old before now h has =
-    writes_front script proof (refused has.0 n refusal) (refused has.0 n refusal) (verdict_lines 1 has.0)
+refusal_written (Err NoMemory) limit script proof n refusal old before now h has =
+    writes_front limit script proof (refused has.0 n refusal) (refused has.0 n refusal) (verdict_lines 1 has.0)
     (refusal_line n refusal) h.1.0 old before now has.1 has.1.is h.1.2 refl
 
 -- The text on words that are not taken is written, or less than all of it.

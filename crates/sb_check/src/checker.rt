@@ -1,6 +1,6 @@
 //! A script and its proof, entry by entry.
 
-ghost use Rattle.std.specs.Prelude.{◌≡◌, ◌+◌, ◌^◌, ◌<◌, ◌≤◌, true, [], Some, IfOk, IfErr, OnOk};
+ghost use Rattle.std.specs.Prelude.{◌≡◌, ◌+◌, ◌<◌, ◌≤◌, true, [], Some, IfOk, IfErr, OnOk};
 ghost use Rattle.sb_world.specs.Outside.{Rose};
 ghost use Rattle.sb_script.specs.State.{start};
 ghost use Rattle.sb_script.specs.Replies.{step_of};
@@ -10,7 +10,7 @@ ghost use Rattle.sb_stack.specs.Stacked.{state_of};
 ghost use Rattle.sb_stack.specs.Steps.{IsEntry, entry_of};
 ghost use Rattle.sb_input.specs.TakingLines.{most_to_come};
 ghost use Rattle.sb_check.specs.Standing.{IsStanding, IsAt};
-ghost use Rattle.sb_check.specs.Going.{said_by, LeadsTo, Goes, Fails, Finishes, IsRefusedAlong, IsRefusedAtEnd, CountsCheckerFault};
+ghost use Rattle.sb_check.specs.Going.{said_by, LeadsTo, Goes, Fails, Finishes, IsRefusedAlong, IsRefusedAtEnd, WaitsAlong, WaitsAtEnd, CountsCheckerFault};
 ghost use Rattle.sb_check.specs.Through.{GoesThrough, StopsThrough, GoesLast, StopsLast, IsBehindEnd};
 
 use crate::entry::Entered;
@@ -67,9 +67,9 @@ impl Checker {
 
     /// Takes the next entry of the script, and at a check the lines of the proof up to its verdict. `Refused` comes
     /// where a line is refused by the rules of proofs, whatever entries come behind this one; `Limit` where as many
-    /// bytes of the proof as the limit of `lines` were read, and not its end; `Fault` only where the world's count of
-    /// faults rose. After an error nothing more may be checked. The cost is that of `Judge::enter`, and that of
-    /// each line.
+    /// bytes of the proof as the limit of `lines` were read, and not its end, the whole lines among them are taken, and
+    /// the check waits for more; `Fault` only where the world's count of faults rose. After an error nothing more may be
+    /// checked. The cost is that of `Judge::enter`, and that of each line.
     pub fn command<W: World>(
         &mut self,
         entry: &Next,
@@ -78,7 +78,6 @@ impl Checker {
     ) -> Result<Checked, CheckerFault>
         requires entry { IsEntry entry.now }
         requires standing { IsStanding self.old.judge }
-        requires room { self.old.judge.next + most_to_come lines.old < 2 ^ 64 }
         ensures ok { IfOk result (λ checked. Goes (said_by checked)
             (events_of (step_of (entry_of entry.now) (state_of self.old.judge.stack)) (state_of self.old.judge.stack))
             self.old.judge self.new.judge lines.old lines.new (W.outside world.old) (W.outside world.new)) }
@@ -90,6 +89,8 @@ impl Checker {
             (self.new.judge.next + most_to_come lines.new ≤ self.old.judge.next + most_to_come lines.old) }
         ensures err { IfErr result (λ fault. Fails fault
             (IsRefusedAlong
+            (events_of (step_of (entry_of entry.now) (state_of self.old.judge.stack)) (state_of self.old.judge.stack)))
+            (WaitsAlong
             (events_of (step_of (entry_of entry.now) (state_of self.old.judge.stack)) (state_of self.old.judge.stack)))
             self.old.judge lines.old lines.new (W.outside world.old) (W.outside world.new)) }
         ensures faults { CountsCheckerFault result (W.faults world.old) (W.faults world.new) }
@@ -106,10 +107,9 @@ impl Checker {
     /// errors are those of `command`.
     pub fn finish<W: World>(&mut self, lines: &mut Lines, world: &mut W) -> Result<(), CheckerFault>
         requires standing { IsStanding self.old.judge }
-        requires room { self.old.judge.next + most_to_come lines.old < 2 ^ 64 }
         ensures ok { OnOk result
             (Finishes self.old.judge lines.old lines.new (W.outside world.old) (W.outside world.new)) }
-        ensures err { IfErr result (λ fault. Fails fault IsRefusedAtEnd self.old.judge lines.old lines.new
+        ensures err { IfErr result (λ fault. Fails fault IsRefusedAtEnd WaitsAtEnd self.old.judge lines.old lines.new
             (W.outside world.old) (W.outside world.new)) }
         ensures faults { CountsCheckerFault result (W.faults world.old) (W.faults world.new) }
     {
@@ -120,7 +120,6 @@ impl Checker {
     /// Takes the lines of a check that waits, up to its verdict.
     fn verdict<W: World>(&mut self, lines: &mut Lines, world: &mut W) -> Result<Said, CheckerFault>
         requires standing { IsStanding self.old.judge }
-        requires room { self.old.judge.next + most_to_come lines.old < 2 ^ 64 }
         ensures ok { IfOk result (λ said. GoesThrough (Some said) self.old.judge self.new.judge lines.old lines.new
             (W.outside world.old) (W.outside world.new)) }
         ensures stack { self.new.judge.stack ≡ self.old.judge.stack }
@@ -145,7 +144,6 @@ impl Checker {
         world: &mut W,
     ) -> Result<Option<Said>, CheckerFault>
         requires standing { IsStanding self.old.judge }
-        requires room { self.old.judge.next + most_to_come lines.old < 2 ^ 64 }
         ensures ok { IfOk result (λ said. GoesThrough said self.old.judge self.new.judge lines.old lines.new
             (W.outside world.old) (W.outside world.new)) }
         ensures stack { self.new.judge.stack ≡ self.old.judge.stack }
@@ -175,7 +173,6 @@ impl Checker {
     /// Takes the lines that are due at the end, up to the last one.
     fn last_line<W: World>(&mut self, lines: &mut Lines, world: &mut W) -> Result<(), CheckerFault>
         requires standing { IsStanding self.old.judge }
-        requires room { self.old.judge.next + most_to_come lines.old < 2 ^ 64 }
         ensures ok { OnOk result (GoesLast true self.old.judge self.new.judge lines.old lines.new
             (W.outside world.old) (W.outside world.new)) }
         ensures err { IfErr result (λ fault. StopsLast fault at_end self.old.judge lines.old lines.new
@@ -196,12 +193,9 @@ impl Checker {
         world: &mut W,
     ) -> Result<bool, CheckerFault>
         requires standing { IsStanding self.old.judge }
-        requires room { self.old.judge.next + most_to_come lines.old < 2 ^ 64 }
         ensures ok { IfOk result (λ last. GoesLast last self.old.judge self.new.judge lines.old lines.new
             (W.outside world.old) (W.outside world.new)) }
         ensures standing { OnOk result (IsStanding self.new.judge) }
-        ensures room { OnOk result
-            (self.new.judge.next + most_to_come lines.new ≤ self.old.judge.next + most_to_come lines.old) }
         ensures fewer { OnOk result (most_to_come lines.new < most_to_come lines.old) }
         ensures err { IfErr result (λ fault. StopsLast fault at_end self.old.judge lines.old lines.new
             (W.outside world.old) (W.outside world.new)) }

@@ -58,10 +58,10 @@ impl Judge {
 
     /// Judges a line where a check waits: the text in front of a line feed, or, where the proof ends without one, what
     /// stands behind the last line feed, and `ended` is false. Answers the verdict, where the line is one. Its cost is
-    /// that of the line's kind. After an error nothing more may be judged.
+    /// that of the line's kind. After an error nothing more may be judged. A line whose number is the last one of 64 bits
+    /// is want of memory.
     pub fn take(&mut self, text: &[u8], ended: bool) -> Result<Option<Said>, JudgeFault>
-        requires standing { IsStanding self.old }
-        requires room { self.old.next + 1 < 2 ^ 64 }
+        requires { IsStanding self.old }
         ensures ok { IfOk result (λ said. (p : Progress) → IsAt (waiting_in (state_of self.old.stack)) self.old p
             → Took said self.new p.said (takes (text.now, ended) p)) }
         ensures err { IfErr result (λ fault. (p : Progress) → IsAt (waiting_in (state_of self.old.stack)) self.old p
@@ -70,6 +70,9 @@ impl Judge {
         ensures next { OnOk result (self.new.next ≡ self.old.next + 1) }
         ensures standing { IsStanding self.new }
     {
+        if self.next == u64::MAX {
+            return Err(JudgeFault::NoMemory);
+        }
         match read_line(self.alloc, text, ended)? {
             Ok(line) => {
                 if self.take_line(&line)? {
@@ -84,8 +87,7 @@ impl Judge {
     /// Judges a line where the end of the proof is due, and says whether it is the last line. The text is as `take` has
     /// it. After an error nothing more may be judged.
     pub fn take_last(&mut self, text: &[u8], ended: bool) -> Result<bool, JudgeFault>
-        requires standing { IsStanding self.old }
-        requires room { self.old.next + 1 < 2 ^ 64 }
+        requires { IsStanding self.old }
         ensures ok { IfOk result (λ last. (p : Progress) → IsAt at_end self.old p
             → TookLast last self.new p.said (takes (text.now, ended) p)) }
         ensures err { IfErr result (λ fault. (p : Progress) → IsAt at_end self.old p
@@ -94,6 +96,9 @@ impl Judge {
         ensures next { OnOk result (self.new.next ≡ self.old.next + 1) }
         ensures standing { IsStanding self.new }
     {
+        if self.next == u64::MAX {
+            return Err(JudgeFault::NoMemory);
+        }
         match read_line(self.alloc, text, ended)? {
             Ok(line) => self.take_end(&line),
             Err(fault) => Err(JudgeFault::Refused(self.next, of_text(fault))),

@@ -1,6 +1,6 @@
 -- What is known of the assertions so far, as more of it becomes known.
 use Rattle.std.proofs.Common.{◌≡◌, ℕ, zero, suc, ◌<◌, ◌≤◌, Bool, true, false, ◌&&◌, ◌==◌, nat_lt, List, [], ◌∷◌, ◌++◌, length, get_or, slice_get, map, take, refl, sym, ap, ◌∙◌, arith, Option, Some, None, IfSome, if◌then◌else◌, subst, subst₂, vec_len, append-nil, length-append, ◌-◌}
-use Rattle.sb_decide.proofs.Words.{All, All-nil, All-pop, All-push, All-same, AreHeard, AreKept, AreMeasures, AreMembers, AreNormals, AreRooted, Assertion, Conjoined, Contains, Decider, Extends, Findings, Found, Global, GraphStays, HasNumberBelow, HasRegexBelow, HasRoom, HasSerialBelow, IsChangedAt, IsEmptyAt, IsGraph, IsLeastOf, IsLonger, IsMember, IsOther, IsRegexOf, IsRight, IsSameElsewhere, IsTaken, IsTakenAs, Known, Knows, Measure, Member, Memory, NormalsStay, Regex, RestSettled, RightStays, Serial, Stacked, StayKept, Term, Vec, a_mark, all_below, and-false, asserted, assertion_in, assertion_of, conjoined_at, demanded, eqb-false, extends_same, fits, has_serials_below, ids_in, is_decided, is_settled, list_all, measures_kept, nat_tests, nil_from_length, no_measures, other_dead, other_places, places_in, places_of, slice_get_within, take-append-le, term_at, without_last, without_place, word_at}
+use Rattle.sb_decide.proofs.Words.{All, All-nil, All-pop, All-push, All-same, AreHeard, AreKept, AreMembers, AreRooted, Assertion, Conjoined, Contains, Decider, Extends, Found, Global, Grows, HasNumberBelow, HasRegexBelow, HasRoom, HasSerialBelow, IsChangedAt, IsEmptyAt, IsLeastOf, IsLonger, IsMember, IsOther, IsRegexOf, IsStoreOf, IsTaken, IsTakenAs, Knows, KnowsGrown, Member, NormalsStay, Regex, RestSettled, Serial, Stacked, StayKept, Store, Term, Vec, a_mark, all_below, and-false, asserted, assertion_in, assertion_of, conjoined_at, demanded, eqb-false, extends_same, fits, has_serials_below, ids_in, is_decided, is_settled, list_all, nat_tests, nil_from_length, other_dead, other_places, places_in, places_of, slice_get_within, take-append-le, term_at, without_last, without_place, word_at}
 use Rattle.sb_term.specs.declared.assertion.Assertion as code
 use Rattle.sb_term.specs.Numbered as table
 use Rattle.sb_term.proofs.CallerLemmas as table_facts
@@ -10,6 +10,7 @@ use Rattle.sb_decide.proofs.Hearing.{heard_none, heard_same, heard_told}
 use Rattle.sb_decide.proofs.KeptWords.{ids_long, known_fewer, least_fewer, least_grown, least_more, least_of_none}
 use Rattle.sb_decide.proofs.MemberFacts.{by_number, same_left, members_moved, members_told, members_few, members_pushed, members_popped, ids_below, ids_here, ids_other, places_here, others_below, empty_grown, empty_pushed, empty_same, ids_append, places_append, others_append, regex_below}
 use Rattle.sb_decide.proofs.RootFacts.{rooted_grown, rooted_pushed, rooted_popped}
+use Rattle.sb_store.proofs.CallerLemmas.{more_terms}
 
 -- of a constant, if there is one
 pub some_more : (P Q : ℕ → Type 0) → ((n : ℕ) → P n → Q n) → (dead : Option Serial) → IfSome dead (λ s. P s.0)
@@ -32,51 +33,41 @@ kept_grown rs new ms cs words e known kept = record {
 }
 
 -- more becomes known of regexes and of terms
-pub taken_known : (kept : Decider) (rs : List Regex) (g : Findings) (ks : List Known) (ms : List Measure)
-    (p : Memory) (roots : Vec (Option ℕ) Global) (fs : Vec Found Global) (ts : List Term) (xs : List code.Assertion) →
-    Extends kept.arena rs → IsGraph rs g → AreNormals ts rs ks → AreMeasures ts ms → IsRight rs p →
-    AreRooted rs kept.members.items roots.items → IsTaken kept ts xs → IsTaken
-    (record kept { arena = rs; graph = g; normals = ks; measures = ms; plain = p; roots = roots; found = fs }) ts xs
-taken_known kept rs g ks ms p roots fs ts xs e graph normals measures plain rooted t = record {
-  graph = graph;
-  normals = normals;
-  measures = measures;
-  plain = plain;
-  members = members_moved kept.arena rs ts ts kept.members.items xs e (table_facts.extends_same ts) t.members;
+taken_known : (kept : Decider) (store : Store) (roots : Vec (Option ℕ) Global) (fs : Vec Found Global)
+    (ts : List Term) (xs : List code.Assertion) → Grows ts kept.store store →
+    AreRooted store.arena kept.members.items roots.items → IsTaken kept ts xs →
+    IsTaken (record kept { store = store; roots = roots; found = fs }) ts xs
+taken_known kept store roots fs ts xs grows rooted t = record {
+  store = grows.right t.store;
+  members = members_moved kept.store.arena store.arena ts ts kept.members.items xs grows.extends
+      (table_facts.extends_same ts) t.members;
   rooted = rooted;
   counted = t.counted;
-  dead = dead_kept kept.arena rs kept.members.items kept.dead e t.rooted.numbers t.dead;
+  dead = dead_kept kept.store.arena store.arena kept.members.items kept.dead grows.extends t.rooted.numbers t.dead;
   heard = t.heard;
 }
 
-pub knows_known : (kept : Decider) (rs : List Regex) (g : Findings) (ks : List Known) (ms : List Measure)
-    (p : Memory) (roots : Vec (Option ℕ) Global) (fs : Vec Found Global) (stack : Stacked) → Extends kept.arena rs →
-    IsGraph rs g → AreNormals stack.table rs ks → AreMeasures stack.table ms → IsRight rs p →
-    AreRooted rs kept.members.items roots.items → Knows kept stack → Knows
-    (record kept { arena = rs; graph = g; normals = ks; measures = ms; plain = p; roots = roots; found = fs }) stack
-knows_known kept rs g ks ms p roots fs stack e graph normals measures plain rooted k = record {
-  taken = taken_known kept rs g ks ms p roots fs stack.table stack.assertions e graph normals measures plain rooted
-      k.taken;
-  words = kept_grown kept.arena rs kept.members.items kept.constants.items stack.words e k.taken.rooted.numbers
-      k.words;
+pub knows_known : (kept : Decider) (store : Store) (roots : Vec (Option ℕ) Global) (fs : Vec Found Global)
+    (stack : Stacked) → Grows stack.table kept.store store → AreRooted store.arena kept.members.items roots.items →
+    Knows kept stack → Knows (record kept { store = store; roots = roots; found = fs }) stack
+knows_known kept store roots fs stack grows rooted k = record {
+  taken = taken_known kept store roots fs stack.table stack.assertions grows rooted k.taken;
+  words = kept_grown kept.store.arena store.arena kept.members.items kept.constants.items stack.words grows.extends
+      k.taken.rooted.numbers k.words;
   declared = k.declared;
 }
 
--- of terms and their regexes alone
-pub taken_grown : GraphStays → RightStays → (kept : Decider) (rs : List Regex) (ks : List Known) (ms : List Measure)
-    (ts : List Term) (xs : List code.Assertion) → Extends kept.arena rs → AreNormals ts rs ks → AreMeasures ts ms →
-    IsTaken kept ts xs → IsTaken (record kept { arena = rs; normals = ks; measures = ms }) ts xs
-taken_grown stays right kept rs ks ms ts xs e normals measures t =
-    taken_known kept rs kept.graph ks ms kept.plain kept.roots kept.found ts xs e
-    (stays kept.arena rs kept.graph e t.graph) normals measures (right kept.arena rs kept.plain e t.plain)
-    (rooted_grown kept.arena rs kept.members.items kept.roots.items e t.rooted) t
+-- and nothing else
+pub taken_grown : (kept : Decider) (store : Store) (ts : List Term) (xs : List code.Assertion)
+    → Grows ts kept.store store → IsTaken kept ts xs → IsTaken (record kept { store = store }) ts xs
+taken_grown kept store ts xs grows t =
+    taken_known kept store kept.roots kept.found ts xs grows
+    (rooted_grown kept.store.arena store.arena kept.members.items kept.roots.items grows.extends t.rooted) t
 
--- of sizes alone
-pub taken_measured : (kept : Decider) (ms : List Measure) (ts : List Term) (xs : List code.Assertion)
-    → AreMeasures ts ms → IsTaken kept ts xs → IsTaken (record kept { measures = ms }) ts xs
-taken_measured kept ms ts xs measures t =
-    taken_known kept kept.arena kept.graph kept.normals ms kept.plain kept.roots kept.found ts xs
-    (extends_same kept.arena) t.graph t.normals measures t.plain t.rooted t
+pub knows_grown : KnowsGrown
+knows_grown kept store stack grows k =
+    knows_known kept store kept.roots kept.found stack grows
+    (rooted_grown kept.store.arena store.arena kept.members.items kept.roots.items grows.extends k.taken.rooted) k
 
 -- there is room for more constants
 serial_more : (n k : ℕ) (o : Option Member) → n ≤ k → HasSerialBelow n o → HasSerialBelow k o
@@ -87,10 +78,7 @@ pub taken_roomy : (kept : Decider) (constants : Vec Conjoined Global) (count : �
     (xs : List code.Assertion) → HasRoom count kept.constants.items constants.items →
     length kept.constants.items ≤ count → IsTaken kept ts xs → IsTaken (record kept { constants = constants }) ts xs
 taken_roomy kept constants count ts xs room l t = record {
-  graph = t.graph;
-  normals = t.normals;
-  measures = t.measures;
-  plain = t.plain;
+  store = t.store;
   members = t.members;
   rooted = t.rooted;
   counted = record {
@@ -127,25 +115,26 @@ kept_more rs ms o place old new words put kept = record {
 
 pub stay_put : (old new : Decider) (o : Option Member) (place : ℕ) → new.members.items ≡ old.members.items ++ o ∷ []
     → IsPut o place old.constants.items new.constants.items
-    → ((words : List (List ℕ)) → AreKept old.arena old.members.items old.constants.items words
-    → AreKept new.arena old.members.items old.constants.items words) → StayKept old new
+    → ((words : List (List ℕ)) → AreKept old.store.arena old.members.items old.constants.items words
+    → AreKept new.store.arena old.members.items old.constants.items words) → StayKept old new
 stay_put old new o place members put grown words k = (
   put.long,
-  rw members (kept_more new.arena old.members.items o place old.constants.items new.constants.items words put
+  rw members (kept_more new.store.arena old.members.items o place old.constants.items new.constants.items words put
       (grown words k)),
 )
 
-pub stay_grown : (old : Decider) (rs : List Regex) (ts : List Term) (xs : List code.Assertion) → Extends old.arena rs
-    → IsTaken old ts xs → (words : List (List ℕ)) → AreKept old.arena old.members.items old.constants.items words
+pub stay_grown : (old : Decider) (rs : List Regex) (ts : List Term) (xs : List code.Assertion)
+    → Extends old.store.arena rs → IsTaken old ts xs → (words : List (List ℕ))
+    → AreKept old.store.arena old.members.items old.constants.items words
     → AreKept rs old.members.items old.constants.items words
 stay_grown old rs ts xs e t words k =
-    kept_grown old.arena rs old.members.items old.constants.items words e t.rooted.numbers k
+    kept_grown old.store.arena rs old.members.items old.constants.items words e t.rooted.numbers k
 
 pub taken_more : (kept : Decider) (ts : List Term) (xs : List code.Assertion) (x : code.Assertion)
     (o : Option Member) (members : Vec (Option Member) Global) (roots : Vec (Option ℕ) Global)
     (others : Vec ℕ Global) (constants : Vec Conjoined Global) (changed : Vec Serial Global) → IsTaken kept ts xs →
     length kept.members.items < length xs → x ≡ get_or xs (length kept.members.items) x →
-    IsTakenAs kept.arena ts o x → HasSerialBelow (length kept.constants.items) o →
+    IsTakenAs kept.store.arena ts o x → HasSerialBelow (length kept.constants.items) o →
     members.items ≡ kept.members.items ++ o ∷ [] → roots.items ≡ kept.roots.items ++ None ∷ [] →
     others.items ≡ kept.others.items ++ other_places (length kept.members.items) (o ∷ []) →
     IsPut o (length kept.members.items) kept.constants.items constants.items →
@@ -154,14 +143,11 @@ pub taken_more : (kept : Decider) (ts : List Term) (xs : List code.Assertion) (x
     (record kept { members = members; roots = roots; others = others; constants = constants; changed = changed }) ts xs
 taken_more kept ts xs x o members roots others constants changed t low is one within more none apart put settled listed
     = record {
-      graph = t.graph;
-      normals = t.normals;
-      measures = t.measures;
-      plain = t.plain;
-      members = subst (λ os. AreMembers kept.arena ts os xs) (sym more)
-          (members_pushed kept.arena ts ms xs o x low is one t.members);
-      rooted = subst₂ (AreRooted kept.arena) (sym more) (sym none)
-          (rooted_pushed kept.arena ms o kept.roots.items (regex_below kept.arena ts o x one) t.rooted);
+      store = t.store;
+      members = subst (λ os. AreMembers kept.store.arena ts os xs) (sym more)
+          (members_pushed kept.store.arena ts ms xs o x low is one t.members);
+      rooted = subst₂ (AreRooted kept.store.arena) (sym more) (sym none)
+          (rooted_pushed kept.store.arena ms o kept.roots.items (regex_below kept.store.arena ts o x one) t.rooted);
       counted = rw more (record {
         within = rw put.long (All-push (HasSerialBelow (length kept.constants.items)) ms o t.counted.within within);
         places = λ n. put.places n
@@ -174,9 +160,9 @@ taken_more kept ts xs x o members roots others constants changed t low is one wi
         left_listed = rw put.long t.counted.left_listed;
         listed = rw put.long listed;
       });
-      dead = subst (λ os. IfSome kept.dead (λ s. IsEmptyAt kept.arena os s.0)) (sym more)
-          (some_more (IsEmptyAt kept.arena ms) (IsEmptyAt kept.arena (ms ++ o ∷ []))
-          (λ n h. empty_pushed kept.arena ms (o ∷ []) n h) kept.dead t.dead);
+      dead = subst (λ os. IfSome kept.dead (λ s. IsEmptyAt kept.store.arena os s.0)) (sym more)
+          (some_more (IsEmptyAt kept.store.arena ms) (IsEmptyAt kept.store.arena (ms ++ o ∷ []))
+          (λ n h. empty_pushed kept.store.arena ms (o ∷ []) n h) kept.dead t.dead);
       heard =
           let last = other_places (length ms) (o ∷ []) in
           let long = length-append kept.others.items last in
@@ -258,13 +244,10 @@ pub knows_back : (kept : Decider) (m : Member) (members : Vec (Option Member) Gl
     (record kept { members = members; roots = roots; constants = constants; changed = changed; dead = dead }) stack
 knows_back kept m members roots constants changed dead stack was front gone put settled listed k = record {
   taken = record {
-    graph = t.graph;
-    normals = t.normals;
-    measures = t.measures;
-    plain = t.plain;
-    members = members_popped kept.arena stack.table ms stack.assertions (Some m) (rw was at t.members);
-    rooted = subst (AreRooted kept.arena ms) (sym front)
-        (rooted_popped kept.arena ms (Some m) kept.roots.items (rw was at t.rooted));
+    store = t.store;
+    members = members_popped kept.store.arena stack.table ms stack.assertions (Some m) (rw was at t.members);
+    rooted = subst (AreRooted kept.store.arena ms) (sym front)
+        (rooted_popped kept.store.arena ms (Some m) kept.roots.items (rw was at t.rooted));
     counted = record {
       within = rw put.same_length
           (All-pop (HasSerialBelow (length kept.constants.items)) kept.members.items ms (Some (Some m)) was
@@ -276,11 +259,12 @@ knows_back kept m members roots constants changed dead stack was front gone put 
       left_listed = rw put.same_length t.counted.left_listed;
       listed = rw put.same_length (listed t.counted.listed);
     };
-    dead = subst (λ d. IfSome d (λ s. IsEmptyAt kept.arena ms s.0)) (sym gone)
-        (dead_back kept.arena ms m kept.dead (rw was at t.dead));
+    dead = subst (λ d. IfSome d (λ s. IsEmptyAt kept.store.arena ms s.0)) (sym gone)
+        (dead_back kept.store.arena ms m kept.dead (rw was at t.dead));
     heard = t.heard;
   };
-  words = kept_back kept.arena ms kept.constants.items constants.items m stack.words places put (rw was at k.words);
+  words = kept_back kept.store.arena ms kept.constants.items constants.items m stack.words places put
+      (rw was at k.words);
   declared = omega (arith, k.declared, put.same_length);
 }
   where
@@ -302,13 +286,10 @@ pub knows_back_other : (kept d : Decider) (stack : Stacked) → kept.members.ite
     (record kept { members = d.members; roots = d.roots; others = d.others; spoken = d.spoken; heard = d.heard }) stack
 knows_back_other kept d stack was front rest fewer k = record {
   taken = record {
-    graph = t.graph;
-    normals = t.normals;
-    measures = t.measures;
-    plain = t.plain;
-    members = members_popped kept.arena stack.table ms stack.assertions None (rw was at t.members);
-    rooted = subst (AreRooted kept.arena ms) (sym (front ∙ ap (λ n. take n kept.roots.items) few))
-        (rooted_popped kept.arena ms None kept.roots.items (rw was at t.rooted));
+    store = t.store;
+    members = members_popped kept.store.arena stack.table ms stack.assertions None (rw was at t.members);
+    rooted = subst (AreRooted kept.store.arena ms) (sym (front ∙ ap (λ n. take n kept.roots.items) few))
+        (rooted_popped kept.store.arena ms None kept.roots.items (rw was at t.rooted));
     counted = record {
       within = (All-pop (HasSerialBelow (length kept.constants.items)) kept.members.items ms (Some None) was
           t.counted.within).0;
@@ -322,11 +303,11 @@ knows_back_other kept d stack was front rest fewer k = record {
       left_listed = t.counted.left_listed;
       listed = t.counted.listed;
     };
-    dead = some_more (IsEmptyAt kept.arena (ms ++ None ∷ [])) (IsEmptyAt kept.arena ms)
-        (λ n h. empty_same kept.arena (ms ++ None ∷ []) ms n (sym (same n)) h) kept.dead (rw was at t.dead);
+    dead = some_more (IsEmptyAt kept.store.arena (ms ++ None ∷ [])) (IsEmptyAt kept.store.arena ms)
+        (λ n h. empty_same kept.store.arena (ms ++ None ∷ []) ms n (sym (same n)) h) kept.dead (rw was at t.dead);
     heard = fewer t.heard;
   };
-  words = kept_same kept.arena (ms ++ None ∷ []) ms kept.constants.items stack.words (λ n. sym (same n))
+  words = kept_same kept.store.arena (ms ++ None ∷ []) ms kept.constants.items stack.words (λ n. sym (same n))
       (rw was at k.words);
   declared = k.declared;
 }
@@ -342,16 +323,6 @@ knows_back_other kept d stack was front rest fewer k = record {
 
     same : (n : ℕ) → ids_in (ms ++ None ∷ []) n ≡ ids_in ms n
     same n = ids_append ms (None ∷ []) n ∙ append-nil (ids_in ms n)
-
--- what stays through one step stays through two
-pub same_again : (a b c : Decider) → IsSameElsewhere a b → IsSameElsewhere b c → IsSameElsewhere a c
-same_again a b c p q = record {
-  arena = q.arena ∙ p.arena;
-  graph = q.graph ∙ p.graph;
-  normals = q.normals ∙ p.normals;
-  measures = q.measures ∙ p.measures;
-  plain = q.plain ∙ p.plain;
-}
 
 -- the assertion at the next place
 pub at_place : (v : Vec (Option Member) Global) (xs : List code.Assertion) (i : ℕ) (x : code.Assertion) → i ≡ vec_len v
@@ -438,21 +409,16 @@ serial_within n ts xs i x id serial R h numbers l is there asks =
 pub knows_none : (kept : Decider) (stack : Stacked) → length kept.members.items ≡ 0 → length kept.roots.items ≡ 0 →
     length kept.others.items ≡ 0 → length kept.constants.items ≡ 0 → length kept.changed.items ≡ 0 →
     length kept.left.items ≡ 0 → kept.spoken.keys ≡ [] → kept.heard ≡ 0 → kept.dead ≡ None →
-    IsGraph kept.arena kept.graph →
-    AreNormals stack.table kept.arena kept.normals → kept.measures ≡ [] → IsRight kept.arena kept.plain →
-    stack.words ≡ [] → Knows kept stack
-knows_none kept stack members roots others constants changed left spoken heard dead graph normals measures plain words =
+    IsStoreOf stack.table kept.store → stack.words ≡ [] → Knows kept stack
+knows_none kept stack members roots others constants changed left spoken heard dead store words =
     let none : kept.constants.items ≡ [] = nil_from_length kept.constants.items constants in
     let nothing : kept.members.items ≡ [] = nil_from_length kept.members.items members in
     record {
       taken = record {
-        graph = graph;
-        normals = normals;
-        measures = rw measures (no_measures stack.table);
-        plain = plain;
+        store = store;
         members = rw nothing tt;
         rooted = record {
-          numbers = rw nothing (All-nil (HasRegexBelow (length kept.arena)));
+          numbers = rw nothing (All-nil (HasRegexBelow (length kept.store.arena)));
           abreast = omega (arith, members, roots);
           right = λ place m root at is. absurd (omega (
             arith,
@@ -474,7 +440,7 @@ knows_none kept stack members roots others constants changed left spoken heard d
       words = record {
         characters = rw words refl;
         few = rw words (omega arith);
-        least = λ n k h. least_of_none kept.arena (ids_in kept.members.items n) k (word_at stack.words n)
+        least = λ n k h. least_of_none kept.store.arena (ids_in kept.members.items n) k (word_at stack.words n)
             (ap (λ cs. (conjoined_at cs n).known) (sym none) ∙ h) (ap (λ ws. word_at ws n) words);
       };
       declared = omega (arith, constants);
@@ -489,19 +455,17 @@ knows_told stays kept old new e words constants same k =
     let t = k.taken in
     let ms = kept.members.items in record {
       taken = record {
-        graph = t.graph;
-        normals = stays old.table new.table kept.arena kept.arena kept.normals e (extends_same kept.arena) t.normals;
-        measures = measures_kept old.table new.table kept.measures e t.measures;
-        plain = t.plain;
-        members = members_told kept.arena new.table ms old.assertions new.assertions same
-            (members_moved kept.arena kept.arena old.table new.table ms old.assertions (extends_same kept.arena) e
-            t.members);
+        store = more_terms stays old.table new.table kept.store e t.store;
+        members = members_told kept.store.arena new.table ms old.assertions new.assertions same
+            (members_moved kept.store.arena kept.store.arena old.table new.table ms old.assertions
+            (extends_same kept.store.arena) e t.members);
         rooted = t.rooted;
         counted = t.counted;
         dead = t.dead;
-        heard = heard_told kept.arena old.table new.table ms old.assertions new.assertions kept.others.items kept.heard
-            kept.spoken.keys e t.members same (All-same (λ p. p < length ms) kept.others.items (other_places 0 ms)
-            t.counted.apart (λ i d l. let one = others_below 0 ms i d l in omega (arith, one))) t.heard;
+        heard = heard_told kept.store.arena old.table new.table ms old.assertions new.assertions kept.others.items
+            kept.heard kept.spoken.keys e t.members same (All-same (λ p. p < length ms) kept.others.items
+            (other_places 0 ms) t.counted.apart (λ i d l. let one = others_below 0 ms i d l in omega (arith, one)))
+            t.heard;
       };
       words = rw words k.words;
       declared = omega (arith, k.declared, constants);
@@ -512,7 +476,7 @@ pub knows_stays : NormalsStay → (kept : Decider) (old new : Stacked) → table
     → IsLonger old.assertions new.assertions → new.words ≡ old.words → length old.scope.sorts ≤ length new.scope.sorts →
     Knows kept old → Knows kept new
 knows_stays stays kept old new e longer words constants k =
-    let few = members_few kept.arena old.table kept.members.items old.assertions k.taken.members in
+    let few = members_few kept.store.arena old.table kept.members.items old.assertions k.taken.members in
     knows_told stays kept old new e words constants (λ p l. ap (λ xs. slice_get xs p) longer.1
     ∙ same_left old.assertions longer.0 p (omega (arith, l, few))) k
 
@@ -526,15 +490,12 @@ knows_left stays kept old new e longer few words constants =
 
 -- a constant is known to have no word
 pub knows_dead : (kept : Decider) (serial : Serial) (stack : Stacked)
-    → IsEmptyAt kept.arena kept.members.items serial.0 → Knows kept stack
+    → IsEmptyAt kept.store.arena kept.members.items serial.0 → Knows kept stack
     → Knows (record kept { dead = Some serial }) stack
 knows_dead kept serial stack empty k =
     let t = k.taken in record {
       taken = record {
-        graph = t.graph;
-        normals = t.normals;
-        measures = t.measures;
-        plain = t.plain;
+        store = t.store;
         members = t.members;
         rooted = t.rooted;
         counted = t.counted;
@@ -545,20 +506,11 @@ knows_dead kept serial stack empty k =
       declared = k.declared;
     }
 
--- all of it grows
-pub knows_grown : GraphStays → RightStays → (kept : Decider) (rs : List Regex) (g : Findings) (ks : List Known)
-    (ms : List Measure) (p : Memory) (stack : Stacked) → Extends kept.arena rs → IsGraph rs g →
-    AreNormals stack.table rs ks → AreMeasures stack.table ms → IsRight rs p → Knows kept stack →
-    Knows (record kept { arena = rs; graph = g; normals = ks; measures = ms; plain = p }) stack
-knows_grown stays right kept rs g ks ms p stack e graph normals measures plain k =
-    knows_known kept rs g ks ms p kept.roots kept.found stack e graph normals measures plain
-    (rooted_grown kept.arena rs kept.members.items kept.roots.items e k.taken.rooted) k
-
 -- the places of those that are no memberships are places of assertions
 pub others_within : (kept : Decider) (stack : Stacked) → Knows kept stack → (place : ℕ)
     → Contains kept.others.items place → place < length stack.assertions
 others_within kept stack k place there =
-    let few = members_few kept.arena stack.table kept.members.items stack.assertions k.taken.members in
+    let few = members_few kept.store.arena stack.table kept.members.items stack.assertions k.taken.members in
     let below = others_below 0 kept.members.items in
     let these : Contains (other_places 0 kept.members.items) place = rw k.taken.counted.apart at there in
     let low = below these.0 place these.1 in

@@ -31,7 +31,7 @@ stands_passes test (asserted u ∷ list) (suc place) t h there =
 
 demands_hold : NormalHasTermsWords → (kept : Decider) (stack : Stacked) (words : List (List ℕ)) (truths : List Bool)
     (serial place : ℕ) (t : Term) → IsReady kept stack
-    → IsShortestLeast (words_in kept.arena kept.members.items serial) (word_at words serial)
+    → IsShortestLeast (words_in kept.store.arena kept.members.items serial) (word_at words serial)
     → slice_get (live (state_of stack)) place ≡ Some (asserted t) → asks_of serial t ≡ true
     → holds t (values_at (live_constants stack) words truths) ≡ true
 demands_hold law kept stack words truths serial place t r least there asks =
@@ -45,7 +45,8 @@ demands_hold law kept stack words truths serial place t r least there asks =
     (sym (asking_all serial (live_terms (state_of stack)) v)
     ∙ (sofar.apart v serial (word_at words serial)
     (value_there cs words truths serial text (demanded_speaks cs t serial one.expression one.asks named))
-    ∙ (asked_least kept.arena (state_of stack) (ids_in kept.members.items) words serial sofar least).member)) there
+    ∙ (asked_least kept.store.arena (state_of stack) (ids_in kept.members.items) words serial sofar
+    least).member)) there
 
 -- The words that are handed out.
 
@@ -60,7 +61,7 @@ none_listed P xs n all none = by (is_listed xs n) refl
 
 pub closed_of : NormalHasTermsWords → (kept : Decider) (stack : Stacked) (mid new : List Conjoined)
     (words full : List (List ℕ)) (found : List (Option (List ℕ))) → IsReady kept stack →
-    IsTakingOver kept.arena kept.members.items kept.left.items kept.constants.items mid words [] →
+    IsTakingOver kept.store.arena kept.members.items kept.left.items kept.constants.items mid words [] →
     ArePut mid new words full kept.spoken.keys found → IsClosed kept stack found full
 closed_of law kept stack mid new words full found r over put = record {
   characters = put.characters over.kept.characters;
@@ -72,21 +73,21 @@ closed_of law kept stack mid new words full found r over put = record {
   defaults = λ serial silent nowhere.
       empty_least (words_asked serial (live_terms (state_of stack))) (word_at full serial)
       (words_all serial (live_terms (state_of stack)) nowhere)
-      (asked_least kept.arena (state_of stack) (ids_in kept.members.items) full serial
+      (asked_least kept.store.arena (state_of stack) (ids_in kept.members.items) full serial
       (all_sofar law kept stack r.knows r.all) (least serial silent));
-  plain = λ plain truths. plain_shortest kept.arena (state_of stack) (live_constants stack)
+  plain = λ plain truths. plain_shortest kept.store.arena (state_of stack) (live_constants stack)
       (ids_in kept.members.items) full truths (all_sofar law kept stack r.knows r.all)
       (members_live kept stack r.knows r.all (plain_alone kept stack r.knows plain)) plain
       (λ n. least n (plain_silent kept stack n r.knows plain));
 }
   where
     least : (serial : ℕ) → (IsSpoken kept.others.items stack serial → ⊥)
-        → IsShortestLeast (words_in kept.arena kept.members.items serial) (word_at full serial)
+        → IsShortestLeast (words_in kept.store.arena kept.members.items serial) (word_at full serial)
     least serial silent =
-        subst (IsShortestLeast (words_in kept.arena kept.members.items serial))
+        subst (IsShortestLeast (words_in kept.store.arena kept.members.items serial))
         (sym (put.others serial (none_listed (IsSpoken kept.others.items stack) kept.spoken.keys serial
         (λ k d l. r.spoken.only (get_or kept.spoken.keys k d).0 (listed_at kept.spoken.keys k d l)) silent)).0)
-        (least_over kept.arena kept.members.items kept.left.items kept.constants.items mid words over serial
+        (least_over kept.store.arena kept.members.items kept.left.items kept.constants.items mid words over serial
         (none_listed (IsSpoken kept.others.items stack) kept.left.items serial r.left silent))
 
 -- Constants that occur in assertions of other structure are declared.
@@ -151,7 +152,7 @@ kept_put rs ms mid new words full serials found put kept = record {
 pub knows_closed : (kept : Decider) (stack : Stacked) (cs : Vec Conjoined Global) (ss ls : Vec Serial Global)
     (fs : Vec Found Global) (mid : List Conjoined) (words full : List (List ℕ)) (serials : List Serial)
     (found : List (Option (List ℕ))) (truths : List Bool) (m : Mode) → IsReady kept stack →
-    IsTakingOver kept.arena kept.members.items kept.left.items kept.constants.items mid words [] →
+    IsTakingOver kept.store.arena kept.members.items kept.left.items kept.constants.items mid words [] →
     ArePut mid cs.items words full serials found → OthersSettled ss.items cs.items →
     All (λ other. other.0 < length mid) ss.items → ls.items ≡ [] →
     Knows (record kept { constants = cs; changed = ss; left = ls; found = fs })
@@ -161,10 +162,7 @@ knows_closed kept stack cs ss ls fs mid words full serials found truths m r over
     let long : length cs.items ≡ length kept.constants.items = put.same_length ∙ over.same_length in
     record {
       taken = record {
-        graph = t.graph;
-        normals = t.normals;
-        measures = t.measures;
-        plain = t.plain;
+        store = t.store;
         members = t.members;
         rooted = t.rooted;
         counted = record {
@@ -178,7 +176,7 @@ knows_closed kept stack cs ss ls fs mid words full serials found truths m r over
         dead = t.dead;
         heard = t.heard;
       };
-      words = kept_put kept.arena kept.members.items mid cs.items words full serials found put over.kept;
+      words = kept_put kept.store.arena kept.members.items mid cs.items words full serials found put over.kept;
       declared = omega (arith, r.knows.declared, long);
     }
 

@@ -1,6 +1,6 @@
 -- The constants that occur in assertions of other structure, and which of those that changed are left to a search.
 use Rattle.std.proofs.Common.{◌≡◌, ℕ, suc, ◌+◌, ◌<◌, ◌≤◌, Bool, true, false, not, ◌&&◌, ◌||◌, ◌==◌, List, [], ◌∷◌, ◌++◌, length, get_or, slice_get, option_map, take, Option, Some, None, refl, sym, ap, ap₂, subst, ◌∙◌, arith}
-use Rattle.sb_decide.proofs.Words.{All, All-contains, All-nil, All-push, AreMeasures, AreSpoken, Assertion, Contains, Decider, IsParted, IsSpoken, Knows, Serial, Speaks, Stacked, a_mark, asserted, assertion_in, assertion_of, false≢true, is_listed, is_silent, list_all, list_any-append, live, live_laid, occurs, or_left, or_parts, or_right, passes_at, state_of, take_all, take_more}
+use Rattle.sb_decide.proofs.Words.{All, All-contains, All-nil, All-push, AreSpoken, Assertion, Contains, Decider, IsParted, IsSpoken, Knows, Serial, Speaks, Stacked, a_mark, asserted, assertion_in, assertion_of, false≢true, is_listed, is_silent, list_all, list_any-append, live, live_laid, occurs, or_left, or_parts, or_right, passes_at, state_of, take_all, take_more}
 use Rattle.std.proofs.Math.Bool.{or_assoc, or_comm}
 use Rattle.std.proofs.lemmas.List.Elements.{All-append}
 use Rattle.std.proofs.lemmas.List.Sums.{AllPass-from_list_all}
@@ -135,19 +135,15 @@ parted_done all spoken changed left i l p = subst (λ xs. IsParted xs spoken cha
 
 -- The whole.
 
-pub knows_parted : (kept d : Decider) (all : List Serial) (stack : Stacked) → AreMeasures stack.table d.measures →
+pub knows_parted : (kept d : Decider) (all : List Serial) (stack : Stacked) →
     all ≡ kept.changed.items ++ kept.left.items → IsParted all d.spoken.keys d.changed.items d.left.items →
     d.heard ≡ length kept.others.items → Speaks stack.table stack.assertions kept.others.items d.spoken.keys →
     Knows kept stack →
-    Knows (record kept { measures = d.measures; changed = d.changed; left = d.left; spoken = d.spoken; heard = d.heard })
-    stack
-knows_parted kept d all stack measures is p count speaks k =
+    Knows (record kept { changed = d.changed; left = d.left; spoken = d.spoken; heard = d.heard }) stack
+knows_parted kept d all stack is p count speaks k =
     let t = k.taken in record {
       taken = record {
-        graph = t.graph;
-        normals = t.normals;
-        measures = measures;
-        plain = t.plain;
+        store = t.store;
         members = t.members;
         rooted = t.rooted;
         counted = record {

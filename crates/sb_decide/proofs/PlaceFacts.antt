@@ -88,14 +88,14 @@ pub places_known : (kept : Decider) (n : ℕ) (stack : Stacked) → Knows kept s
     → All (IsPlaceOf (live (state_of stack)) n) (places_of kept n)
 places_known kept n stack k =
     rw (k.taken.counted.places n)
-    (are_places kept.arena stack.table 0 n (live (state_of stack)) kept.members.items stack.assertions k.taken.members
-    (stand_live stack))
+    (are_places kept.store.arena stack.table 0 n (live (state_of stack)) kept.members.items stack.assertions
+    k.taken.members (stand_live stack))
 
 pub dead_known : (kept : Decider) (stack : Stacked) → Knows kept stack
     → IfSome kept.dead (λ serial. HasNoWordAt (live (state_of stack)) (places_of kept serial.0))
 dead_known kept stack k =
-    some_more (IsEmptyAt kept.arena kept.members.items)
+    some_more (IsEmptyAt kept.store.arena kept.members.items)
     (λ n. HasNoWordAt (live (state_of stack)) (places_of kept n))
-    (λ n empty gs regexes w c. words_at_places kept.arena stack.table 0 n (live (state_of stack)) kept.members.items
-    stack.assertions gs w k.taken.members (stand_live stack) (rw (k.taken.counted.places n) at regexes)
-    ∙ empty w c) kept.dead k.taken.dead
+    (λ n empty gs regexes w c. words_at_places kept.store.arena stack.table 0 n (live (state_of stack))
+    kept.members.items stack.assertions gs w k.taken.members (stand_live stack)
+    (rw (k.taken.counted.places n) at regexes) ∙ empty w c) kept.dead k.taken.dead

@@ -1,8 +1,7 @@
 -- What was found of constants is taken over, and a verdict given.
 use Rattle.std.proofs.Common.{◌≡◌, ◌≢◌, ℕ, ◌+◌, ◌<◌, true, false, List, [], ◌∷◌, ◌++◌, length, get_or, set, map, take, refl, sym, ap, ap₂, ◌∙◌, arith, Option, None, Some, IfSome, is_some, unwrap_or, vec_len, subst}
-use Rattle.sb_decide.proofs.Words.{All, All-pop, All-push, AreConjuncts, AreFilled, AreFound, AreKept, AreMeasures, AreNormals, AreRooted, AreSpoken, Conjoined, Decider, Extends, Findings, Fit, Found, FragmentIsOfEach, Global, GraphStays, HasAll, HasRegexBelow, IntersectionIsOfEach, IsChangedAt, IsEmptyAt, IsFoundAt, IsFoundOf, IsGraph, IsLeastOf, IsReady, IsRight, IsRootOf, IsShortestLeast, IsSofar, IsSpoken, IsTakingOver, IsVerdict, IsWord, KeepsEntries, Known, Knows, Measure, Member, Memory, MkandKeepsLanguage, Names, NormalHasTermsWords, NormalsStay, Regex, RestSettled, RightStays, Searches, Serial, Stacked, Term, Vec, all_known, assertion_in, conjoined_at, entry_of, eq-eqb, extends_more, false≢true, ids_in, is_decided, is_listed, is_member, is_plain, is_plain_assertion, is_settled, is_unsat, language, length-set, list_all, live, live_constants, live_laid, live_terms, map-append, map_push, mkand, names_below, nil_from_length, places_in, regex_at, regexes_at, same_Some, speaks_of, state_of, take_all, take_more, with_items, with_items_is, with_place, with_word, without_place, word_at, word_of, words_in}
+use Rattle.sb_decide.proofs.Words.{All, All-pop, All-push, AreConjuncts, AreFilled, AreFound, AreKept, AreRooted, AreSpoken, ArenaGrows, Conjoined, Decider, Extends, Findings, Fit, Found, FragmentIsOfEach, Global, HasAll, HasRegexBelow, IntersectionIsOfEach, IsChangedAt, IsEmptyAt, IsFoundAt, IsFoundOf, IsGraph, IsLeastOf, IsReady, IsRootOf, IsShortestLeast, IsSofar, IsSpoken, IsTakingOver, IsVerdict, IsWord, KeepsEntries, Knows, Member, MkandKeepsLanguage, Names, NormalHasTermsWords, ReadyGrown, Regex, RegexesGrow, RegexesGrowAlone, RestSettled, Searches, Serial, Stacked, Store, Term, Vec, all_known, assertion_in, conjoined_at, eq-eqb, extends_more, false≢true, ids_in, is_decided, is_listed, is_member, is_plain, is_plain_assertion, is_settled, is_unsat, language, length-set, list_all, live, live_constants, live_laid, live_terms, map-append, map_push, mkand, names_below, nil_from_length, places_in, regex_at, regexes_at, regexes_both, same_Some, speaks_of, state_of, take_all, take_more, with_items, with_items_is, with_place, with_word, without_place, word_at, word_of, words_in}
 use Rattle.sb_term.specs.declared.assertion.Assertion as code
-use Rattle.sb_term.proofs.CallerLemmas as table
 use Rattle.sb_decide.proofs.Conjunctions.{same_least, in_root}
 use Rattle.sb_decide.proofs.Constants.{conjoined_within, conjoined_set, conjoined_set_other, listed_last}
 use Rattle.sb_decide.proofs.KeptWords.{all_least, ids_long, length-with_word, settled_least, word_elsewhere, word_there, words_with}
@@ -11,6 +10,7 @@ use Rattle.sb_decide.proofs.MemberFacts.{by_number, words_grown}
 use Rattle.sb_decide.proofs.OneMembership.{members_alone, members_decided, none_other, sofar_of}
 use Rattle.sb_decide.proofs.Verdicts.{unsat_given}
 use Rattle.sb_decide.proofs.RootFacts.{rooted_grown}
+use Rattle.sb_store.proofs.CallerLemmas.{explored}
 
 -- what was found, over words that are the same
 found_filled : (rs : List Regex) (ms : List (Option Member)) (cs : List Conjoined) (words filled : List (List ℕ))
@@ -121,10 +121,10 @@ all_live kept stack all =
     (take_all (length kept.members.items) stack.assertions (omega (arith, all.0))) ∙ sym (live_laid stack)
 
 pub all_sofar : NormalHasTermsWords → (kept : Decider) (stack : Stacked) → Knows kept stack → HasAll kept stack
-    → IsSofar kept.arena (live (state_of stack)) (ids_in kept.members.items)
+    → IsSofar kept.store.arena (live (state_of stack)) (ids_in kept.members.items)
 all_sofar law kept stack k all =
-    subst (λ done. IsSofar kept.arena done (ids_in kept.members.items)) (all_live kept stack all)
-    (sofar_of law kept.arena stack.table kept.members.items stack.assertions k.taken.members)
+    subst (λ done. IsSofar kept.store.arena done (ids_in kept.members.items)) (all_live kept stack all)
+    (sofar_of law kept.store.arena stack.table kept.members.items stack.assertions k.taken.members)
 
 -- one that is not decided is a live one
 pub live_outside : (stack : Stacked) (ts : List Term) (xs : List code.Assertion) → ts ≡ stack.table
@@ -138,13 +138,13 @@ pub decided_live : (kept : Decider) (stack : Stacked) → Knows kept stack → H
     → list_all is_decided (live (state_of stack)) ≡ true
 decided_live kept stack k all =
     ap (list_all is_decided) (sym (all_live kept stack all))
-    ∙ members_decided kept.arena stack.table kept.members.items stack.assertions k.taken.members
+    ∙ members_decided kept.store.arena stack.table kept.members.items stack.assertions k.taken.members
 
 pub members_live : (kept : Decider) (stack : Stacked) → Knows kept stack → HasAll kept stack → kept.others.items ≡ []
     → list_all is_member (live (state_of stack)) ≡ true
 members_live kept stack k all alone =
     ap (list_all is_member) (sym (all_live kept stack all))
-    ∙ members_alone kept.arena stack.table 0 kept.members.items stack.assertions k.taken.members
+    ∙ members_alone kept.store.arena stack.table 0 kept.members.items stack.assertions k.taken.members
     (sym k.taken.counted.apart ∙ alone)
 
 -- of a plain script there are no others
@@ -152,7 +152,7 @@ pub plain_alone : (kept : Decider) (stack : Stacked) → Knows kept stack → is
     → kept.others.items ≡ []
 plain_alone kept stack k plain =
     k.taken.counted.apart
-    ∙ none_other kept.arena stack.table 0 kept.members.items stack.assertions k.taken.members
+    ∙ none_other kept.store.arena stack.table 0 kept.members.items stack.assertions k.taken.members
     (ap (list_all is_plain_assertion) (sym (live_laid stack)) ∙ plain)
 
 -- so no constant occurs in one
@@ -170,35 +170,32 @@ pub dead_given : FragmentIsOfEach → NormalHasTermsWords → (kept : Decider) (
 dead_given law words kept stack k all dead named fit = by_cases kept.dead dead k.taken.dead
   where
     by_cases : (found : Option Serial) → is_some found ≡ true
-        → IfSome found (λ serial. IsEmptyAt kept.arena kept.members.items serial.0)
+        → IfSome found (λ serial. IsEmptyAt kept.store.arena kept.members.items serial.0)
         → IsVerdict (state_of stack) [] (is_unsat [])
     by_cases None some h = absurd (false≢true some)
     by_cases (Some serial) some h =
-        unsat_given law kept.arena (state_of stack) (live_constants stack) (ids_in kept.members.items) serial.0
+        unsat_given law kept.store.arena (state_of stack) (live_constants stack) (ids_in kept.members.items) serial.0
         (all_sofar words kept stack k all) (decided_live kept stack k all) named (fit [] [] refl) h
 
 -- what is known of regexes grows, and the words of the constants that changed are found
-pub knows_searched : NormalsStay → (kept : Decider) (rs : List Regex) (g : Findings) (p : Memory)
-    (roots : Vec (Option ℕ) Global) (fs : Vec Found Global) (stack : Stacked) → Knows kept stack →
-    Searches kept.members.items kept.arena kept.graph rs g roots.items → IsRight rs p →
-    Knows (record kept { arena = rs; graph = g; plain = p; roots = roots; found = fs }) stack
-knows_searched stays kept rs g p roots fs stack k s plain =
-    knows_known kept rs g kept.normals kept.measures p roots fs stack s.extends s.graph
-    (stays stack.table stack.table kept.arena rs kept.normals (table.extends_same stack.table) s.extends
-    k.taken.normals) k.taken.measures plain s.rooted k
+pub knows_searched : RegexesGrowAlone → (kept : Decider) (store : Store) (roots : Vec (Option ℕ) Global)
+    (fs : Vec Found Global) (stack : Stacked) → Knows kept stack →
+    Searches kept.members.items kept.store store roots.items →
+    Knows (record kept { store = store; roots = roots; found = fs }) stack
+knows_searched alone kept store roots fs stack k s =
+    knows_known kept store roots fs stack (alone stack.table kept.store store s.store) s.rooted k
 
-pub ready_searched : NormalsStay → (kept : Decider) (rs : List Regex) (g : Findings) (p : Memory)
-    (roots : Vec (Option ℕ) Global) (fs : Vec Found Global) (stack : Stacked) → Knows kept stack → HasAll kept stack →
-    Named stack → Searches kept.members.items kept.arena kept.graph rs g roots.items → IsRight rs p →
-    AreSpoken kept.others.items stack kept.spoken.keys →
+pub ready_searched : RegexesGrowAlone → (kept : Decider) (store : Store) (roots : Vec (Option ℕ) Global)
+    (fs : Vec Found Global) (stack : Stacked) → Knows kept stack → HasAll kept stack → Named stack →
+    Searches kept.members.items kept.store store roots.items → AreSpoken kept.others.items stack kept.spoken.keys →
     All (λ serial. IsSpoken kept.others.items stack serial.0) kept.left.items →
-    AreFound rs kept.members.items kept.constants.items stack.words kept.changed.items fs.items →
-    IsReady (record kept { arena = rs; graph = g; plain = p; roots = roots; found = fs }) stack
-ready_searched stays kept rs g p roots fs stack k all named s plain spoken left found = record {
+    AreFound store.arena kept.members.items kept.constants.items stack.words kept.changed.items fs.items →
+    IsReady (record kept { store = store; roots = roots; found = fs }) stack
+ready_searched alone kept store roots fs stack k all named s spoken left found = record {
   decided = decided_live kept stack k all;
   named = named;
   all = all;
-  knows = knows_searched stays kept rs g p roots fs stack k s plain;
+  knows = knows_searched alone kept store roots fs stack k s;
   found = found;
   spoken = spoken;
   left = left;
@@ -267,33 +264,21 @@ root_words mid new ms n root is e known w c = words_grown mid new ms n w e known
 
 -- What is found on the way.
 
-pub searches_grown : {old new : List Regex} {g : Findings} {ms : List (Option Member)} {roots : List (Option ℕ)}
-    → GraphStays → Extends old new → IsGraph old g → AreRooted new ms roots → Searches ms old g new g roots
-searches_grown {old} {new} {g} stays e graph rooted =
-    record { extends = e; graph = stays old new g e graph; entries = λ n pieces h. h; rooted = rooted }
+pub searches_grown : {ms : List (Option Member)} {x y : Store} {roots : List (Option ℕ)} → RegexesGrow x y
+    → AreRooted x.arena ms roots → Searches ms x y roots
+searches_grown {ms} {x} {y} {roots} grows rooted =
+    record { store = grows; rooted = rooted_grown x.arena y.arena ms roots grows.extends rooted }
 
-pub searches_both : {ms : List (Option Member)} {a b c : List Regex} {g h i : Findings} {roots others : List (Option ℕ)}
-    → Searches ms a g b h roots → Searches ms b h c i others → Searches ms a g c i others
-searches_both {ms} {a} {b} {c} p q = record {
-  extends = extends_more a b c p.extends q.extends;
-  graph = q.graph;
-  entries = λ n pieces x. q.entries n pieces (p.entries n pieces x);
-  rooted = q.rooted;
-}
+pub searches_behind : {ms : List (Option Member)} {x y z : Store} {roots : List (Option ℕ)} → RegexesGrow x y
+    → Searches ms y z roots → Searches ms x z roots
+searches_behind {ms} {x} {y} {z} grows s = record { store = regexes_both x y z grows s.store; rooted = s.rooted }
 
-pub searches_behind : {ms : List (Option Member)} {a b c : List Regex} {g i : Findings} {roots : List (Option ℕ)}
-    → Extends a b → Searches ms b g c i roots → Searches ms a g c i roots
-searches_behind {ms} {a} {b} {c} e q =
-    record { extends = extends_more a b c e q.extends; graph = q.graph; entries = q.entries; rooted = q.rooted }
-
-pub searches_asked : {ms : List (Option Member)} {a b c : List Regex} {i : Findings} {roots : List (Option ℕ)}
-    → (g : Findings) → Extends a b → AreRooted b ms roots → Extends b c → IsGraph c i → KeepsEntries g.memo i.memo
-    → Searches ms a g c i roots
-searches_asked {ms} {a} {b} {c} {i} {roots} g e rooted more graph entries = record {
-  extends = extends_more a b c e more;
-  graph = graph;
-  entries = entries;
-  rooted = rooted_grown b c ms roots more rooted;
+pub searches_asked : {ms : List (Option Member)} {mid new : List Regex} {g : Findings} {roots : List (Option ℕ)}
+    → ArenaGrows → (x : Store) → Extends x.arena mid → AreRooted mid ms roots → Extends mid new → IsGraph new g
+    → KeepsEntries x.graph.memo g.memo → Searches ms x (record x { arena = new; graph = g }) roots
+searches_asked {ms} {mid} {new} {g} {roots} law x e rooted more graph entries = record {
+  store = explored law x new g (extends_more x.arena mid new e more) graph entries;
+  rooted = rooted_grown mid new ms roots more rooted;
 }
 
 -- a vector without elements
@@ -341,16 +326,16 @@ pub over_of : (kept : Decider) (stack : Stacked) (fs : List Found) (count : ℕ)
     before ≡ filled →
     ((ts : List Regex) (ms : List (Option Member)) (left : List Serial) → IsTakingOver ts ms left cs cs before fs
     → IsTakingOver ts ms left cs new after []) →
-    IsTakingOver kept.arena kept.members.items kept.left.items kept.constants.items new after []
+    IsTakingOver kept.store.arena kept.members.items kept.left.items kept.constants.items new after []
 over_of kept stack fs count given filled cs new before after r same_found same_words same_count more same_cs
     same_before over =
     let k = r.knows in
     let long : count ≡ length kept.constants.items = same_count ∙ sym r.all.1 in
-    let begun : IsTakingOver kept.arena kept.members.items kept.left.items kept.constants.items kept.constants.items
-    filled kept.found.items =
-    starts kept.arena kept.members.items kept.constants.items kept.left.items kept.changed.items kept.found.items
+    let begun : IsTakingOver kept.store.arena kept.members.items kept.left.items kept.constants.items
+    kept.constants.items filled kept.found.items =
+    starts kept.store.arena kept.members.items kept.constants.items kept.left.items kept.changed.items kept.found.items
     stack.words filled k.taken.counted.settled k.taken.counted.places k.words (rw (same_words, long) at more) r.found in
-    let there = over kept.arena kept.members.items kept.left.items in
+    let there = over kept.store.arena kept.members.items kept.left.items in
     (rw (same_cs, same_before, same_found) at there) begun
 
 -- what was found is of constants that there are
@@ -358,27 +343,20 @@ pub found_within : (kept : Decider) (stack : Stacked) (fs : List Found) → IsRe
     → All (λ one. one.serial.0 < length kept.constants.items) fs
 found_within kept stack fs r is = rw is (λ k d l. (r.found.each k d l).0)
 
--- the entries of the memo stay
-pub same_memo : (old new : Findings) → new ≡ old → KeepsEntries old.memo new.memo
-same_memo old new same n pieces h = ap (λ (g : Findings). entry_of g.memo n) same ∙ h
-
 -- a constant whose word is found
 pub settles : (there c new : Conjoined) → new ≡ all_known there → c ≡ there → new ≡ all_known c
 settles there c new is same = rw same is
 
 -- a check that is ready, as all of it grows
-pub ready_grown : GraphStays → RightStays → (kept : Decider) (rs : List Regex) (g : Findings) (ks : List Known)
-    (ms : List Measure) (p : Memory) (stack : Stacked) → Extends kept.arena rs → IsGraph rs g →
-    AreNormals stack.table rs ks → AreMeasures stack.table ms → IsRight rs p → IsReady kept stack →
-    IsReady (record kept { arena = rs; graph = g; normals = ks; measures = ms; plain = p }) stack
-ready_grown stays right kept rs g ks ms p stack e graph normals measures plain r = record {
+pub ready_grown : ReadyGrown
+ready_grown kept store stack grows r = record {
   decided = r.decided;
   named = r.named;
   all = r.all;
-  knows = knows_grown stays right kept rs g ks ms p stack e graph normals measures plain r.knows;
+  knows = knows_grown kept store stack grows r.knows;
   found = record {
-    each = λ k d l. found_grown kept.arena rs kept.members.items kept.constants.items stack.words
-        (get_or kept.found.items k d) e r.knows.taken.rooted.numbers (r.found.each k d l);
+    each = λ k d l. found_grown kept.store.arena store.arena kept.members.items kept.constants.items stack.words
+        (get_or kept.found.items k d) grows.extends r.knows.taken.rooted.numbers (r.found.each k d l);
     serials = r.found.serials;
   };
   spoken = r.spoken;

@@ -13,13 +13,12 @@ pub use Rattle.std.specs.Prelude.{IfSome}
 pub use Rattle.std.specs.Vec.{with_items}
 pub use Rattle.std.specs.declared.alloc.Global.{Global}
 pub use Rattle.std.specs.declared.vec.Vec.{Vec}
-pub use Rattle.sb_deriv.specs.Faithful.{KeepsEntries, entry_of}
-pub use Rattle.sb_fragment.proofs.CallerLemmas.{asked_structure, measures_kept, no_measures}
+pub use Rattle.sb_deriv.specs.Faithful.{KeepsEntries}
+pub use Rattle.sb_fragment.proofs.CallerLemmas.{asked_structure, measures_kept}
 pub use Rattle.sb_fragment.specs.Measures.{AreMeasures}
 pub use Rattle.sb_fragment.specs.Rules.{FragmentIsOfEach, is_decided}
 pub use Rattle.sb_fragment.specs.declared.measure.Measure.{Measure}
 pub use Rattle.sb_graph.specs.Findings.{Findings, IsGraph}
-pub use Rattle.sb_graph.specs.Laws.{GraphStays}
 pub use Rattle.sb_lang.specs.ConstructorLaws.{IntersectionIsOfEach, MkandKeepsLanguage}
 pub use Rattle.sb_lang.specs.Constructors.{mkand, mknot}
 pub use Rattle.sb_lang.specs.Language.{language}
@@ -33,7 +32,7 @@ pub use Rattle.sb_lang.specs.Regex.{Regex}
 pub use Rattle.sb_meaning.specs.Terms.{Sort, Term, Terms, apply, boolean, constant, integer, no_terms, numeral, parameter, reglan, terms_of, text, with_term, word}
 pub use Rattle.sb_meaning.specs.Truth.{Meaning, all_hold, all_true, applied, holds, meaning_of, means_number, means_reglan, means_truth, means_word, truth_in}
 pub use Rattle.sb_meaning.specs.Values.{Int, Text, Truth, Valuation, Value, is_of, value_in}
-pub use Rattle.sb_plain.specs.Memory.{IsRight, Memory, RightStays}
+pub use Rattle.sb_plain.specs.Memory.{IsRight, Memory}
 pub use Rattle.sb_problem.specs.Known.{AreNormals}
 pub use Rattle.sb_problem.specs.Laws.{NormalsStay}
 pub use Rattle.sb_problem.specs.Normals.{IsNumberOf, IsRegexOf}
@@ -50,6 +49,9 @@ pub use Rattle.sb_script.specs.Verdicts.{IsVerdict, is_unsat}
 pub use Rattle.sb_stack.proofs.CallerLemmas.{live_laid, same_sort, value_there}
 pub use Rattle.sb_stack.specs.Speaking.{is_one_of, speaks_of}
 pub use Rattle.sb_stack.specs.Stacked.{HasNumberBelow, IsLonger, Stacked, are_words, assertion_in, assertion_of, live_constants, state_of, value_at, values_at, without_words}
+pub use Rattle.sb_store.proofs.CallerLemmas.{grows_both, grows_same, regexes_both, regexes_same}
+pub use Rattle.sb_store.specs.Stores.{ArenaGrows, Grows, IsStoreOf, RegexesGrow, RegexesGrowAlone}
+pub use Rattle.sb_store.specs.declared.store.Store.{Store}
 pub use Rattle.sb_term.specs.Nodes.{node_term}
 pub use Rattle.sb_term.specs.Numbered.{term_at, terms_at}
 pub use Rattle.sb_term.specs.Serials.{all_below, has_serials_below, have_serials_below}
@@ -59,12 +61,13 @@ pub use Rattle.sb_decide.specs.Conjoined.{Conjoined, HasRoom, IsChangedAt, Other
 pub use Rattle.sb_decide.specs.Deciding.{AreFilled, IsSofar, asking, in_each, word_at, words_asked}
 pub use Rattle.sb_decide.specs.Demands.{complement_of, demanded, expression_in, is_demand, negation_of}
 pub use Rattle.sb_decide.specs.Knowing.{AreKept, IsLeastOf, IsTaken, Knows, places_of}
+pub use Rattle.sb_decide.specs.Laws.{KnowsGrown, ReadyGrown}
 pub use Rattle.sb_decide.specs.Members.{AreConjuncts, AreMembers, AreRooted, HasRegexBelow, HasSerialBelow, IsEmptyAt, IsMember, IsOther, IsRootOf, IsTakenAs, ids_in, other_places, places_in, root_at, words_in}
 pub use Rattle.sb_decide.specs.Places.{AreRegexesAt, HasNoWordAt, IsPlaceOf, IsRegexAt, asks_of, is_member}
 pub use Rattle.sb_decide.specs.Parting.{IsParted}
 pub use Rattle.sb_decide.specs.Ready.{AreSpoken, IsAbout, IsClash, IsClosed, IsQuestion, IsReady, IsSpoken, OccursNowhereAt}
 pub use Rattle.sb_decide.specs.Speaking.{AreHeard, Hears, Speaks, is_silent, passes_at, places_of_all}
-pub use Rattle.sb_decide.specs.Taking.{AreFound, ArePut, Fit, HasAll, IsFoundAt, IsFoundOf, IsInEach, IsPutAt, IsSameElsewhere, IsTakenOver, IsTakingOver, Searches, StayKept, id_of, ids_at, other_dead, with_word, word_found, word_of}
+pub use Rattle.sb_decide.specs.Taking.{AreFound, ArePut, Fit, HasAll, IsFoundAt, IsFoundOf, IsInEach, IsPutAt, IsTakenOver, IsTakingOver, Searches, StayKept, id_of, ids_at, other_dead, with_word, word_found, word_of}
 pub use Rattle.sb_decide.specs.declared.conjuncts.Member.{Member}
 pub use Rattle.sb_decide.specs.declared.decide.Decider.{Decider}
 pub use Rattle.sb_decide.specs.declared.decide.Found.{Found}

@@ -3,13 +3,10 @@ use Rattle.std.specs.Prelude.{◌≡◌, ℕ, ◌≤◌, ◌<◌, true, List, le
 use Rattle.std.specs.List.{All}
 use Rattle.sb_lang.specs.Regex.{Regex}
 use Rattle.sb_lang.specs.Least.{IsShortestLeast}
-use Rattle.sb_graph.specs.Findings.{IsGraph}
-use Rattle.sb_plain.specs.Memory.{IsRight}
-use Rattle.sb_problem.specs.Known.{AreNormals}
 use Rattle.sb_meaning.specs.Terms.{Term}
 use Rattle.sb_term.specs.declared.assertion.Assertion.{Assertion}
 use Rattle.sb_term.specs.declared.term.Serial.{Serial}
-use Rattle.sb_fragment.specs.Measures.{AreMeasures}
+use Rattle.sb_store.specs.Stores.{IsStoreOf}
 use Rattle.sb_stack.specs.Stacked.{Stacked, are_words}
 use Rattle.sb_decide.specs.declared.decide.Decider.{Decider}
 use Rattle.sb_decide.specs.Conjoined.{Conjoined, conjoined_at, RestSettled}
@@ -36,14 +33,11 @@ pub record AreCounted (ms : List (Option Member)) (others : List ℕ) (cs : List
 
 -- What is known of the first assertions.
 pub record IsTaken (kept : Decider) (ts : List Term) (assertions : List Assertion) : Type 0 where
-  pub graph : IsGraph kept.arena kept.graph
-  pub normals : AreNormals ts kept.arena kept.normals
-  pub measures : AreMeasures ts kept.measures
-  pub plain : IsRight kept.arena kept.plain
-  pub members : AreMembers kept.arena ts kept.members.items assertions
-  pub rooted : AreRooted kept.arena kept.members.items kept.roots.items
+  pub store : IsStoreOf ts kept.store
+  pub members : AreMembers kept.store.arena ts kept.members.items assertions
+  pub rooted : AreRooted kept.store.arena kept.members.items kept.roots.items
   pub counted : AreCounted kept.members.items kept.others.items kept.constants.items kept.left.items kept.changed.items
-  pub dead : IfSome kept.dead (λ serial. IsEmptyAt kept.arena kept.members.items serial.0)
+  pub dead : IfSome kept.dead (λ serial. IsEmptyAt kept.store.arena kept.members.items serial.0)
   pub heard : AreHeard ts assertions kept.others.items kept.heard kept.spoken.keys
 
 -- The word is the least one of so many first regexes.
@@ -62,5 +56,5 @@ pub record AreKept (rs : List Regex) (ms : List (Option Member)) (cs : List Conj
 -- All of it, of a state.
 pub record Knows (kept : Decider) (stack : Stacked) : Type 0 where
   pub taken : IsTaken kept stack.table stack.assertions
-  pub words : AreKept kept.arena kept.members.items kept.constants.items stack.words
+  pub words : AreKept kept.store.arena kept.members.items kept.constants.items stack.words
   pub declared : length kept.constants.items ≤ length stack.scope.sorts

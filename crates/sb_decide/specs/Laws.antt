@@ -1,14 +1,8 @@
 -- What is known stays so, as the state grows, as assertions are taken back, and as what is kept grows.
-use Rattle.std.specs.Prelude.{◌≡◌, ℕ, ◌≤◌, List, length}
-use Rattle.sb_lang.specs.Regex.{Regex}
-use Rattle.sb_regex.specs.Numbered.{Extends}
-use Rattle.sb_graph.specs.Findings.{Findings, IsGraph}
-use Rattle.sb_plain.specs.Memory.{Memory, IsRight}
-use Rattle.sb_problem.specs.declared.normals.Known.{Known}
-use Rattle.sb_problem.specs.Known.{AreNormals}
+use Rattle.std.specs.Prelude.{◌≡◌, ℕ, ◌≤◌, length}
 use Rattle.sb_term.specs.Numbered as table
-use Rattle.sb_fragment.specs.declared.measure.Measure.{Measure}
-use Rattle.sb_fragment.specs.Measures.{AreMeasures}
+use Rattle.sb_store.specs.Stores.{Grows}
+use Rattle.sb_store.specs.declared.store.Store.{Store}
 use Rattle.sb_stack.specs.Stacked.{Stacked, IsLonger}
 use Rattle.sb_decide.specs.declared.decide.Decider.{Decider}
 use Rattle.sb_decide.specs.Knowing.{Knows}
@@ -28,14 +22,10 @@ LeavesKnown count kept kept' = (old new : Stacked) → table.Extends old.table n
 
 -- more regexes, and more known of them and of terms
 abbrev pub KnowsGrown : Type 0
-KnowsGrown = (kept : Decider) (rs : List Regex) (g : Findings) (ks : List Known) (ms : List Measure) (p : Memory)
-    (stack : Stacked) → Extends kept.arena rs → IsGraph rs g → AreNormals stack.table rs ks →
-    AreMeasures stack.table ms → IsRight rs p → Knows kept stack →
-    Knows (record kept { arena = rs; graph = g; normals = ks; measures = ms; plain = p }) stack
+KnowsGrown = (kept : Decider) (store : Store) (stack : Stacked) → Grows stack.table kept.store store
+    → Knows kept stack → Knows (record kept { store = store }) stack
 
 -- and a check that is ready stays ready
 abbrev pub ReadyGrown : Type 0
-ReadyGrown = (kept : Decider) (rs : List Regex) (g : Findings) (ks : List Known) (ms : List Measure) (p : Memory)
-    (stack : Stacked) → Extends kept.arena rs → IsGraph rs g → AreNormals stack.table rs ks →
-    AreMeasures stack.table ms → IsRight rs p → IsReady kept stack →
-    IsReady (record kept { arena = rs; graph = g; normals = ks; measures = ms; plain = p }) stack
+ReadyGrown = (kept : Decider) (store : Store) (stack : Stacked) → Grows stack.table kept.store store
+    → IsReady kept stack → IsReady (record kept { store = store }) stack

@@ -2,6 +2,7 @@
 use Rattle.std.specs.Prelude.{◌≡◌, ℕ, true, ◌||◌, List}
 use Rattle.std.specs.List.{All}
 use Rattle.sb_term.specs.declared.term.Serial.{Serial}
+use Rattle.sb_store.specs.Stores.{Grows}
 use Rattle.sb_stack.specs.Stacked.{Stacked}
 use Rattle.sb_decide.specs.declared.decide.Decider.{Decider}
 use Rattle.sb_decide.specs.Conjoined.{is_listed}
@@ -20,5 +21,4 @@ pub record SetsAside (old new : Decider) (stack : Stacked) : Type 0 where
   pub all : HasAll new stack
   pub spoken : AreSpoken new.others.items stack new.spoken.keys
   pub left : All (λ serial. IsSpoken new.others.items stack serial.0) new.left.items
-  pub arena : new.arena ≡ old.arena
-  pub graph : new.graph ≡ old.graph
+  pub store : Grows stack.table old.store new.store

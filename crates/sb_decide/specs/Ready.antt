@@ -3,14 +3,13 @@
 use Rattle.std.specs.Prelude.{◌≡◌, ◌⊎◌, ℕ, ◌<◌, Bool, true, false, List, [], length, slice_get, Option, Some, IsSome, is_some, Contains}
 use Rattle.std.specs.List.{All, list_all, list_any}
 use Rattle.sb_lang.specs.Least.{IsShortestLeast}
-use Rattle.sb_regex.specs.Numbered.{Extends}
-use Rattle.sb_deriv.specs.Faithful.{KeepsEntries}
 use Rattle.sb_meaning.specs.Terms.{Term}
 use Rattle.sb_meaning.specs.Truth.{holds}
 use Rattle.sb_script.specs.Models.{is_plain, occurs, AreShortestLeast}
 use Rattle.sb_script.specs.Verdicts.{IsVerdict, is_unsat, is_outside}
 use Rattle.sb_script.specs.State.{asserted, live, live_terms}
 use Rattle.sb_fragment.specs.Rules.{is_decided}
+use Rattle.sb_store.specs.Stores.{Grows}
 use Rattle.sb_stack.specs.Speaking.{speaks_of}
 use Rattle.sb_stack.specs.Stacked.{Stacked, state_of, live_constants, values_at, are_words}
 use Rattle.sb_term.specs.declared.term.Serial.{Serial}
@@ -45,7 +44,7 @@ pub record IsReady (kept : Decider) (stack : Stacked) : Type 0 where
   pub named : list_all (speaks_of (live_constants stack)) (live_terms (state_of stack)) ≡ true
   pub all : HasAll kept stack
   pub knows : Knows kept stack
-  pub found : AreFound kept.arena kept.members.items kept.constants.items stack.words kept.changed.items
+  pub found : AreFound kept.store.arena kept.members.items kept.constants.items stack.words kept.changed.items
       kept.found.items
   pub spoken : AreSpoken kept.others.items stack kept.spoken.keys
   pub left : All (λ serial. IsSpoken kept.others.items stack serial.0) kept.left.items
@@ -63,8 +62,7 @@ pub record FindsWords (old new : Decider) (stack : Stacked) (found : Bool) : Typ
   pub all : HasAll new stack
   pub ready : found ≡ true → IsReady new stack
   pub dead : found ≡ false → is_some new.dead ≡ true
-  pub extends : Extends old.arena new.arena
-  pub entries : KeepsEntries old.graph.memo new.graph.memo
+  pub store : Grows stack.table old.store new.store
 
 -- Some memberships of one constant, with its equalities with literals, and what denies such: no word is in all that
 -- they ask for.
@@ -107,7 +105,7 @@ pub record IsClosed (kept : Decider) (s : Stacked) (found : List (Option (List �
     pub long : length words ≡ length s.scope.sorts
     pub given : (serial : ℕ) → IsSpoken kept.others.items s serial → word_at words serial ≡ word_found found serial
     pub least : (serial : ℕ) → (IsSpoken kept.others.items s serial → ⊥)
-        → IsShortestLeast (words_in kept.arena kept.members.items serial) (word_at words serial)
+        → IsShortestLeast (words_in kept.store.arena kept.members.items serial) (word_at words serial)
     pub demands : (serial place : ℕ) (t : Term) (truths : List Bool) → (IsSpoken kept.others.items s serial → ⊥)
         → slice_get (live (state_of s)) place ≡ Some (asserted t) → asks_of serial t ≡ true
         → holds t (values_at (live_constants s) words truths) ≡ true

@@ -4,15 +4,15 @@ use Rattle.std.specs.List.{All, list_all}
 use Rattle.sb_word.specs.Words.{are_characters}
 use Rattle.sb_lang.specs.Regex.{Regex}
 use Rattle.sb_lang.specs.Least.{IsShortestLeast}
-use Rattle.sb_regex.specs.Numbered.{AllNumbers, Extends}
-use Rattle.sb_deriv.specs.Faithful.{KeepsEntries}
-use Rattle.sb_graph.specs.Findings.{Findings, IsGraph}
+use Rattle.sb_regex.specs.Numbered.{AllNumbers}
 use Rattle.sb_meaning.specs.Terms.{Term}
 use Rattle.sb_term.specs.Numbered.{term_at}
 use Rattle.sb_term.specs.declared.assertion.Assertion.{Assertion}
 use Rattle.sb_term.specs.declared.term.Serial.{Serial}
 use Rattle.sb_script.specs.State.{asserted, constants_of, fits, live, live_terms}
 use Rattle.sb_fragment.specs.Rules.{is_decided}
+use Rattle.sb_store.specs.Stores.{Grows, RegexesGrow}
+use Rattle.sb_store.specs.declared.store.Store.{Store}
 use Rattle.sb_stack.specs.Speaking.{speaks_of}
 use Rattle.sb_stack.specs.Stacked.{Stacked, assertion_in, state_of, live_constants, values_at, are_words}
 use Rattle.sb_decide.specs.declared.conjuncts.Member.{Member}
@@ -27,9 +27,9 @@ use Rattle.sb_decide.specs.Knowing.{AreKept, IsTaken, Knows}
 
 -- the words that are kept stay so
 abbrev pub StayKept : Decider → Decider → Type 0
-StayKept old new = (words : List (List ℕ)) → AreKept old.arena old.members.items old.constants.items words
+StayKept old new = (words : List (List ℕ)) → AreKept old.store.arena old.members.items old.constants.items words
     → (length new.constants.items ≡ length old.constants.items)
-    × AreKept new.arena new.members.items new.constants.items words
+    × AreKept new.store.arena new.members.items new.constants.items words
 
 -- all assertions are taken in, and there is room for all constants
 abbrev pub HasAll : Decider → Stacked → Type 0
@@ -43,16 +43,14 @@ pub record TakesOther (old new : Decider) (ts : List Term) (term : ℕ) (decided
       → a ≡ get_or xs (length old.members.items) a → (decided ≡ true → IsOther ts a) → IsTaken old ts xs
       → IsTaken new ts xs
   pub words : StayKept old new
+  pub store : Grows ts old.store new.store
   pub further : decided ≡ true → length new.members.items ≡ length old.members.items + 1
-  pub arena : new.arena ≡ old.arena
-  pub graph : new.graph ≡ old.graph
 
 -- The next assertion is taken in, if it is a decided one.
 pub record TakesIn (old new : Decider) (ts : List Term) (xs : List Assertion) (decided : Bool) : Type 0 where
   pub taken : IsTaken new ts xs
   pub words : StayKept old new
-  pub extends : Extends old.arena new.arena
-  pub graph : new.graph ≡ old.graph
+  pub store : Grows ts old.store new.store
   pub further : decided ≡ true → length new.members.items ≡ length old.members.items + 1
   pub outside : decided ≡ false → list_all is_decided (map (assertion_in ts) xs) ≡ false
 
@@ -68,25 +66,12 @@ pub record TakesAll (old new : Decider) (stack : Stacked) (whole : Bool) : Type 
   pub outside : whole ≡ false → list_all is_decided (live (state_of stack)) ≡ false
   pub named : list_all (speaks_of (live_constants stack)) (live_terms (state_of stack)) ≡ true
   pub fit : Fit stack
-  pub extends : Extends old.arena new.arena
-  pub graph : new.graph ≡ old.graph
+  pub store : Grows stack.table old.store new.store
 
--- what is known of regexes and terms is as it was
-pub record IsSameElsewhere (old new : Decider) : Type 0 where
-  pub arena : new.arena ≡ old.arena
-  pub graph : new.graph ≡ old.graph
-  pub normals : new.normals ≡ old.normals
-  pub measures : new.measures ≡ old.measures
-  pub plain : new.plain ≡ old.plain
-
--- More regexes, more of their derivatives, and more intersections are known.
-pub record Searches (ms : List (Option Member)) (rs : List Regex) (g : Findings) (new : List Regex) (h : Findings)
-    (roots : List (Option ℕ)) : Type 0
-  where
-    pub extends : Extends rs new
-    pub graph : IsGraph new h
-    pub entries : KeepsEntries g.memo h.memo
-    pub rooted : AreRooted new ms roots
+-- More regexes, more of them, and more intersections are known.
+pub record Searches (ms : List (Option Member)) (old new : Store) (roots : List (Option ℕ)) : Type 0 where
+  pub store : RegexesGrow old new
+  pub rooted : AreRooted new.arena ms roots
 
 -- the constant without a word, where it is not this one
 abbrev pub other_dead : Option Serial → ℕ → Option Serial
@@ -155,7 +140,7 @@ pub record IsTakingOver (rs : List Regex) (ms : List (Option Member)) (left : Li
 -- to a search, and that are the ones that changed now.
 pub record IsTakenOver (kept new : Decider) (words : List (List ℕ)) : Type 0 where
   pub over :
-      IsTakingOver kept.arena kept.members.items kept.left.items kept.constants.items new.constants.items words []
+      IsTakingOver kept.store.arena kept.members.items kept.left.items kept.constants.items new.constants.items words []
   pub changed : new.changed ≡ kept.left
   pub nothing : new.left.items ≡ []
   pub same :

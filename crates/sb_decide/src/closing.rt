@@ -43,8 +43,7 @@ impl Decider {
             → Knows self.new (found_in (verdicts.Sat words truths) stack.new)) }
         ensures taken { OnOk result (stack.new ≡ without_words stack.old) }
         ensures rest { without_words stack.new ≡ without_words stack.old }
-        ensures arena { self.new.arena ≡ self.old.arena }
-        ensures graph { self.new.graph ≡ self.old.graph }
+        ensures store { self.new.store ≡ self.old.store }
     {
         normal_has_terms_words();
         let _assertions = stack.assertions();
@@ -67,8 +66,7 @@ impl Decider {
         ensures over { IfOk result (λ words. IsTakenOver self.old self.new words.items) }
         ensures taken { OnOk result (stack.new ≡ without_words stack.old) }
         ensures rest { without_words stack.new ≡ without_words stack.old }
-        ensures arena { self.new.arena ≡ self.old.arena }
-        ensures graph { self.new.graph ≡ self.old.graph }
+        ensures store { self.new.store ≡ self.old.store }
     {
         let declared = stack.declared();
         let mut words = stack.take_words();

@@ -15,11 +15,8 @@ ghost use Rattle.std.specs.List.{list_all};
 ghost use Rattle.sb_lang.specs.Least.{IsShortestLeast};
 ghost use Rattle.sb_lang.specs.Regex.{Regex};
 ghost use Rattle.sb_regex.specs.Numbered.{Extends};
-ghost use Rattle.sb_deriv.specs.Faithful.{KeepsEntries};
-ghost use Rattle.sb_graph.specs.Findings.{IsGraph};
-ghost use Rattle.sb_plain.specs.Memory.{IsRight};
 ghost use Rattle.sb_script.specs.State.{live_terms};
-ghost use Rattle.sb_fragment.specs.Measures.{AreMeasures};
+ghost use Rattle.sb_store.specs.Stores.{Grows, IsStore, IsStoreOf};
 ghost use Rattle.sb_stack.specs.Stacked.{Stacked, state_of, live_constants, HasNumberBelow};
 ghost use Rattle.sb_stack.specs.Speaking.{speaks_of};
 ghost use Rattle.sb_term.specs.Serials.{all_below};
@@ -30,7 +27,7 @@ ghost use Rattle.sb_decide.specs.Ready.{IsDecided, FindsWords};
 ghost use Rattle.sb_decide.specs.Laws.{LeavesKnown};
 ghost use Rattle.sb_decide.specs.Members.{AreRooted, IsEmptyAt, IsRootOf, ids_in, places_in, words_in};
 ghost use Rattle.sb_decide.specs.Parting.{SetsAside};
-ghost use Rattle.sb_decide.specs.Taking.{HasAll, AreWords, IsFoundAt, IsSameElsewhere, Searches, TakesAll, TakesIn, TakesOther, other_dead};
+ghost use Rattle.sb_decide.specs.Taking.{HasAll, AreWords, IsFoundAt, Searches, TakesAll, TakesIn, TakesOther, other_dead};
 
 use crate::conjuncts::{Conjuncts, Member, conjuncts_at};
 use crate::demand::{demand_of, regex_of};
@@ -38,14 +35,14 @@ use crate::parting::part;
 use crate::question::hear;
 use crate::standing::stands;
 use indexmap::IndexSet;
-use sb_fragment::{Measures, fragment_is_of_each};
-use sb_graph::{Explored, Graph, graph_stays};
+use sb_fragment::fragment_is_of_each;
+use sb_graph::Explored;
 use sb_lang::constructors::{intersection_is_of_each, mkand_keeps_language};
 use sb_lang::normal::normal_has_terms_words;
-use sb_plain::{Plain, right_stays};
-use sb_problem::{Normals, normals_stay};
+use sb_problem::normals_stay;
 use sb_regex::{Arena, RegexId};
 use sb_stack::Stack;
+use sb_store::{Store, regexes_grow};
 use sb_term::{Assertion, Serial, Table, TermId};
 use sb_word::Word;
 use std::alloc::{AllocError, Global};
@@ -55,12 +52,7 @@ use std::mem;
 /// one check to the next.
 #[derive(Drop)]
 pub struct Decider {
-    pub arena: Arena,
-    pub graph: Graph,
-    pub normals: Normals,
-    pub measures: Measures,
-    /// What is remembered of walks along words.
-    pub plain: Plain,
+    pub store: Store,
     /// By place what was taken in, decided assertions from the first on: the membership that each one is, `None` where
     /// it is none. Equalities with a literal count as memberships, and so does what is denied.
     pub members: Vec<Option<Member>>,
@@ -120,11 +112,7 @@ impl Decider {
         ensures { (stack : Stacked) → stack.words ≡ [] → Knows result stack }
     {
         Decider {
-            arena: Arena::new(alloc),
-            graph: Graph::new(alloc),
-            normals: Normals::new(alloc),
-            measures: Measures::new(alloc),
-            plain: Plain::new(alloc),
+            store: Store::new(alloc),
             members: Vec::new(alloc),
             roots: Vec::new(alloc),
             others: Vec::new(alloc),
@@ -145,18 +133,17 @@ impl Decider {
     /// Linear in the assertions and constants that are new since the last check with a model, and in the constants that
     /// the new ones, those that were taken back, and the search of that check spoke of. The kept word of such a
     /// constant is matched with the regexes of the memberships behind those that it is known to be the least word of
-    /// ([`Plain::matches`]), and stays where it is in all of them. Else, and where one of those was taken back, the
-    /// check is linear in the constant's memberships and in what is explored; a regex that was explored before is not
-    /// expanded again. An assertion that is no membership is looked at once, in the time of
-    /// [`Measures::fits_structure`]; while there are some, the constants that occur in them are left to the search. They
-    /// are found in the terms of those that are new, but for ground ones, each once, and in those of all where one was
-    /// taken back since. `AllocError` only for want of memory.
+    /// ([`sb_plain::Plain::matches`]), and stays where it is in all of them. Else, and where one of those was taken
+    /// back, the check is linear in the constant's memberships and in what is explored; a regex that was explored
+    /// before is not expanded again. An assertion that is no membership is looked at once, in the time of
+    /// [`sb_fragment::Measures::fits_structure`]; while there are some, the constants that occur in them are left to
+    /// the search. They are found in the terms of those that are new, but for ground ones, each once, and in those of
+    /// all where one was taken back since. `AllocError` only for want of memory.
     pub fn decide(&mut self, alloc: Global, stack: &Stack) -> Result<Decided, AllocError>
         requires { Knows self.old stack.now }
         ensures knows { OnOk result (Knows self.new stack.now) }
         ensures decided { IfOk result (IsDecided self.new stack.now) }
-        ensures extends { OnOk result (Extends self.old.arena self.new.arena) }
-        ensures derivatives_stay { OnOk result (KeepsEntries self.old.graph.memo self.new.graph.memo) }
+        ensures store { OnOk result (Grows stack.now.table self.old.store self.new.store) }
     {
         normal_has_terms_words();
         fragment_is_of_each();
@@ -177,16 +164,14 @@ impl Decider {
         requires named { list_all (speaks_of (live_constants stack.now)) (live_terms (state_of stack.now)) ≡ true }
         ensures { IfOk result (FindsWords self.old self.new stack.now) }
     {
-        normals_stay();
+        regexes_grow();
         if self.dead.is_some() {
             return Ok(false);
         }
         self.set_aside(alloc, stack)?;
         match least_words(
             alloc,
-            &mut self.arena,
-            &mut self.graph,
-            &mut self.plain,
+            &mut self.store,
             &mut self.roots,
             &self.members,
             &self.constants,
@@ -214,7 +199,7 @@ impl Decider {
         let others = self.others.as_slice();
         hear(
             alloc,
-            &mut self.measures,
+            &mut self.store.measures,
             stack.table(),
             stack.assertions(),
             &others[self.heard..],
@@ -234,11 +219,7 @@ impl Decider {
     /// `spoken` where one of these was heard. `AllocError` only for want of memory.
     pub fn leave(&mut self, count: usize) -> Result<(), AllocError>
         ensures knows { OnOk result (LeavesKnown count self.old self.new) }
-        ensures arena { self.new.arena ≡ self.old.arena }
-        ensures graph { self.new.graph ≡ self.old.graph }
-        ensures normals { self.new.normals ≡ self.old.normals }
-        ensures measures { self.new.measures ≡ self.old.measures }
-        ensures plain { self.new.plain ≡ self.old.plain }
+        ensures store { self.new.store ≡ self.old.store }
     {
         normals_stay();
         while self.members.len() > count {
@@ -272,8 +253,6 @@ impl Decider {
         requires taken { IsTaken self.old table.now assertions.now }
         ensures { IfOk result (TakesIn self.old self.new table.now assertions.now) }
     {
-        graph_stays();
-        right_stays();
         let place = self.members.len();
         let assertion = &assertions[place];
         let Some(term) = assertion.term else {
@@ -283,10 +262,10 @@ impl Decider {
             let decided = self.take_other(table, term)?;
             return Ok(decided);
         };
-        if !self.measures.is_regular(table, demand.pattern)? {
+        if !self.store.measures.is_regular(table, demand.pattern)? {
             return Ok(false);
         }
-        let Some(regex) = regex_of(table, &mut self.arena, &mut self.normals, demand)? else {
+        let Some(regex) = regex_of(table, &mut self.store, demand)? else {
             return Ok(false);
         };
         self.members.push(Some(Member {
@@ -302,10 +281,10 @@ impl Decider {
     /// decided one; if not, it is not taken in.
     fn take_other(&mut self, table: &Table, term: TermId) -> Result<bool, AllocError>
         requires number { term < length table.now }
-        requires measures { AreMeasures table.now self.old.measures }
+        requires store { IsStoreOf table.now self.old.store }
         ensures { IfOk result (TakesOther self.old self.new table.now term) }
     {
-        if !self.measures.fits_structure(table, term)? {
+        if !self.store.measures.fits_structure(table, term)? {
             return Ok(false);
         }
         let place = self.members.len();
@@ -320,7 +299,7 @@ impl Decider {
         ensures knows { OnOk result ((stack : Stacked) → Knows self.old stack → Knows self.new stack) }
         ensures fewer { 0 < length self.old.members.items
             → length self.new.members.items < length self.old.members.items }
-        ensures same { IsSameElsewhere self.old self.new }
+        ensures same { self.new.store ≡ self.old.store }
     {
         let Some(last) = self.members.pop() else {
             return Ok(());
@@ -436,33 +415,26 @@ fn unlist(constants: &[Conjuncts], changed: &mut Vec<Serial>, serial: Serial)
 /// The least word of each of these constants, or one that has none. The intersections that are made are kept.
 fn least_words(
     alloc: Global,
-    arena: &mut Arena,
-    graph: &mut Graph,
-    plain: &mut Plain,
+    store: &mut Store,
     roots: &mut Vec<Option<RegexId>>,
     members: &[Option<Member>],
     constants: &[Conjuncts],
     words: &[Word],
     changed: &[Serial],
 ) -> Result<Words, AllocError>
-    requires rooted { AreRooted arena.old members.now roots.old.items }
+    requires rooted { AreRooted store.old.arena members.now roots.old.items }
     requires places { (n : ℕ) → (conjoined_at constants.now n).places ≡ places_in 0 n members.now }
     requires listed { All (λ serial. serial.0 < length constants.now) changed.now }
-    requires kept { AreKept arena.old members.now constants.now words.now }
-    requires graph { IsGraph arena.old graph.old }
-    requires plain { IsRight arena.old plain.old }
-    ensures words { IfOk result (AreWords arena.new members.now constants.now words.now changed.now) }
-    ensures searches { Searches members.now arena.old graph.old arena.new graph.new roots.new.items }
-    ensures plain { IsRight arena.new plain.new }
+    requires kept { AreKept store.old.arena members.now constants.now words.now }
+    requires store { IsStore store.old }
+    ensures words { IfOk result (AreWords store.new.arena members.now constants.now words.now changed.now) }
+    ensures searches { Searches members.now store.old store.new roots.new.items }
 {
     let mut found = Vec::new(alloc);
     for serial in changed {
         let place = serial.0 as usize;
         let conjuncts = &constants[place];
-        let Some(one) = find_word(
-            alloc, arena, graph, plain, roots, members, words, *serial, conjuncts,
-        )?
-        else {
+        let Some(one) = find_word(alloc, store, roots, members, words, *serial, conjuncts)? else {
             return Ok(Words::Dead(*serial));
         };
         found.push(one)?;
@@ -473,34 +445,28 @@ fn least_words(
 /// What a check finds of a constant: the kept word, where it stands, or the least one; `None` where it has none.
 fn find_word(
     alloc: Global,
-    arena: &mut Arena,
-    graph: &mut Graph,
-    plain: &mut Plain,
+    store: &mut Store,
     roots: &mut Vec<Option<RegexId>>,
     members: &[Option<Member>],
     words: &[Word],
     serial: Serial,
     conjuncts: &Conjuncts,
 ) -> Result<Option<Found>, AllocError>
-    requires rooted { AreRooted arena.old members.now roots.old.items }
+    requires rooted { AreRooted store.old.arena members.now roots.old.items }
     requires places { conjuncts.now.places ≡ places_in 0 serial.0 members.now }
     requires kept { (k : ℕ) → conjuncts.now.known ≡ Some k
-        → IsLeastOf arena.old (ids_in members.now serial.0) k (word_at words.now serial.0) }
-    requires graph { IsGraph arena.old graph.old }
-    requires plain { IsRight arena.old plain.old }
-    ensures found { IfOk result (λ found. MatchOption found (IsEmptyAt arena.new members.now serial.0)
-        (IsFoundAt arena.new members.now words.now serial)) }
-    ensures searches { Searches members.now arena.old graph.old arena.new graph.new roots.new.items }
-    ensures plain { IsRight arena.new plain.new }
+        → IsLeastOf store.old.arena (ids_in members.now serial.0) k (word_at words.now serial.0) }
+    requires store { IsStore store.old }
+    ensures found { IfOk result (λ found. MatchOption found (IsEmptyAt store.new.arena members.now serial.0)
+        (IsFoundAt store.new.arena members.now words.now serial)) }
+    ensures searches { Searches members.now store.old store.new roots.new.items }
 {
-    graph_stays();
-    right_stays();
-    let stays = stands(arena, plain, members, words, serial, conjuncts)?;
+    let stays = stands(store, members, words, serial, conjuncts)?;
     if stays {
         return Ok(Some(Found { serial, word: None }));
     }
     let places = conjuncts.places();
-    let Some(word) = least_word(alloc, arena, graph, roots, members, serial, places)? else {
+    let Some(word) = least_word(alloc, store, roots, members, serial, places)? else {
         return Ok(None);
     };
     Ok(Some(Found {
@@ -513,23 +479,22 @@ fn find_word(
 /// none. Their intersection is kept.
 fn least_word(
     alloc: Global,
-    arena: &mut Arena,
-    graph: &mut Graph,
+    store: &mut Store,
     roots: &mut Vec<Option<RegexId>>,
     members: &[Option<Member>],
     serial: Serial,
     places: &[usize],
 ) -> Result<Option<Word>, AllocError>
-    requires rooted { AreRooted arena.old members.now roots.old.items }
+    requires rooted { AreRooted store.old.arena members.now roots.old.items }
     requires places { places.now ≡ places_in 0 serial.0 members.now }
-    requires graph { IsGraph arena.old graph.old }
-    ensures found { IfOk result (λ found. MatchOption found (IsEmptyAt arena.new members.now serial.0)
-        (IsShortestLeast (words_in arena.new members.now serial.0))) }
-    ensures searches { Searches members.now arena.old graph.old arena.new graph.new roots.new.items }
+    requires store { IsStore store.old }
+    ensures found { IfOk result (λ found. MatchOption found (IsEmptyAt store.new.arena members.now serial.0)
+        (IsShortestLeast (words_in store.new.arena members.now serial.0))) }
+    ensures searches { Searches members.now store.old store.new roots.new.items }
 {
-    graph_stays();
-    let root = root_of(alloc, arena, roots, members, serial, places)?;
-    match graph.least_word(arena, root)? {
+    regexes_grow();
+    let root = root_of(alloc, &mut store.arena, roots, members, serial, places)?;
+    match store.graph.least_word(&mut store.arena, root)? {
         Explored::Alive(word) => Ok(Some(word)),
         Explored::Dead => Ok(None),
     }

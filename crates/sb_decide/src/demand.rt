@@ -1,19 +1,19 @@
 //! What assertions demand of the words of constants.
 
 ghost use Rattle.std.specs.Prelude.{◌≡◌, ◌<◌, length, None, Some, IfOk, IfSome, MatchOption};
-ghost use Rattle.sb_regex.specs.Numbered.{Extends};
 ghost use Rattle.sb_script.specs.Brought.{asked};
 ghost use Rattle.sb_script.specs.Fragment.{fits};
 ghost use Rattle.sb_script.specs.Sizes.{is_regular};
 ghost use Rattle.sb_term.specs.Numbered.{term_at};
-ghost use Rattle.sb_problem.specs.Known.{AreNormals};
 ghost use Rattle.sb_problem.specs.Normals.{IsNumberOf};
 ghost use Rattle.sb_problem.specs.Patterns.{number_of, pattern_in};
+ghost use Rattle.sb_store.specs.Stores.{Grows, IsStoreOf};
 ghost use Rattle.sb_decide.specs.Demands.{demanded, expression_in, negation_of};
 
 use sb_fragment::membership;
-use sb_problem::{Normals, Pattern, normals_stay};
-use sb_regex::{Arena, RegexId};
+use sb_problem::Pattern;
+use sb_regex::RegexId;
+use sb_store::{Store, regexes_grow};
 use sb_term::{Serial, Symbol, Table, Term, TermId};
 use std::alloc::AllocError;
 
@@ -73,26 +73,27 @@ fn denied(table: &Table, id: TermId) -> Option<TermId>
 }
 
 /// The regex that a constant's word is to be in, `None` exactly where the pattern is no regular expression over
-/// literals. Its cost and its error are those of [`Normals::pattern`].
+/// literals. Its cost and its error are those of [`sb_problem::Normals::pattern`].
 pub(crate) fn regex_of(
     table: &Table,
-    arena: &mut Arena,
-    normals: &mut Normals,
+    store: &mut Store,
     demand: Demand,
 ) -> Result<Option<RegexId>, AllocError>
     requires number { number_of demand.pattern < length table.now }
-    requires normals { AreNormals table.now arena.old normals.old }
-    ensures number { IfOk result (λ found. IsNumberOf arena.new (expression_in table.now demand) found) }
-    ensures extends { Extends arena.old arena.new }
-    ensures normals { AreNormals table.now arena.new normals.new }
+    requires store { IsStoreOf table.now store.old }
+    ensures number { IfOk result (λ found. IsNumberOf store.new.arena (expression_in table.now demand) found) }
+    ensures store { Grows table.now store.old store.new }
 {
-    normals_stay();
-    let Some(id) = normals.pattern(table, arena, demand.pattern)? else {
+    regexes_grow();
+    let Some(id) = store
+        .normals
+        .pattern(table, &mut store.arena, demand.pattern)?
+    else {
         return Ok(None);
     };
     if demand.positive {
         return Ok(Some(id));
     }
-    let complement = arena.not(id)?;
+    let complement = store.arena.not(id)?;
     Ok(Some(complement))
 }

@@ -2,8 +2,6 @@
 
 ghost use Rattle.sb_decide.specs.Laws.{KnowsStays, KnowsGrown, ReadyGrown};
 
-use sb_graph::graph_stays;
-use sb_plain::right_stays;
 use sb_problem::normals_stay;
 
 /// What is known stays true from command to command: as terms keep their numbers and assertions their places.
@@ -13,18 +11,12 @@ pub fn knows_stays()
     normals_stay();
 }
 
-/// What is known stays true as the arena and what is known of its regexes and of terms grow.
+/// What is known stays true as what is known of regexes and terms grows.
 pub fn knows_grown()
     ensures { KnowsGrown }
-{
-    graph_stays();
-    right_stays();
-}
+{}
 
-/// A check that is ready stays so as the arena and what is known of its regexes and of terms grow.
+/// A check that is ready stays so as what is known of regexes and terms grows.
 pub fn ready_grown()
     ensures { ReadyGrown }
-{
-    graph_stays();
-    right_stays();
-}
+{}

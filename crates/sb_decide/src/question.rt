@@ -114,7 +114,8 @@ fn take_apart(
 ) -> Result<(), AllocError>
     requires number { id < length table.now }
     requires measures { AreMeasures table.now measures.old }
-    ensures apart { OnOk result (TakesApart table.now id left.old.keys left.new.keys serials.old.keys serials.new.keys) }
+    ensures apart { OnOk result
+        (TakesApart table.now id left.old.keys left.new.keys serials.old.keys serials.new.keys) }
     ensures measures { OnOk result (AreMeasures table.now measures.new) }
 {
     let measure = measures.measure(table, id)?;

@@ -5,40 +5,36 @@
 
 ghost use Rattle.std.specs.Prelude.{◌≡◌, ℕ, ◌<◌, ◌≤◌, length, drop, All, IfOk, Some, true};
 ghost use Rattle.sb_lang.specs.Least.{IsShortestLeast};
-ghost use Rattle.sb_plain.specs.Memory.{IsRight};
-ghost use Rattle.sb_regex.specs.Numbered.{Extends};
+ghost use Rattle.sb_store.specs.Stores.{IsStore, RegexesGrow};
 ghost use Rattle.sb_decide.specs.Deciding.{word_at};
 ghost use Rattle.sb_decide.specs.Knowing.{IsLeastOf};
 ghost use Rattle.sb_decide.specs.Members.{HasRegexBelow, ids_in, places_in, words_in};
 ghost use Rattle.sb_decide.specs.Taking.{IsInEach};
 
 use crate::conjuncts::{Conjuncts, Member};
-use sb_plain::Plain;
-use sb_regex::Arena;
+use sb_store::{Store, regexes_grow};
 use sb_term::Serial;
 use sb_word::Word;
 use std::alloc::AllocError;
 
 /// Whether the kept word of a constant is known to be the least one of all its memberships, once it is matched with the
 /// regexes of those behind the ones that it is known of: linear in these, and for each in the time of
-/// [`Plain::matches`]. `AllocError` only for want of memory.
+/// [`sb_plain::Plain::matches`]. `AllocError` only for want of memory.
 pub(crate) fn stands(
-    arena: &mut Arena,
-    plain: &mut Plain,
+    store: &mut Store,
     members: &[Option<Member>],
     words: &[Word],
     serial: Serial,
     conjuncts: &Conjuncts,
 ) -> Result<bool, AllocError>
-    requires numbers { All (HasRegexBelow (length arena.old)) members.now }
+    requires numbers { All (HasRegexBelow (length store.old.arena)) members.now }
     requires places { conjuncts.now.places ≡ places_in 0 serial.0 members.now }
     requires kept { (k : ℕ) → conjuncts.now.known ≡ Some k
-        → IsLeastOf arena.old (ids_in members.now serial.0) k (word_at words.now serial.0) }
-    requires right { IsRight arena.old plain.old }
+        → IsLeastOf store.old.arena (ids_in members.now serial.0) k (word_at words.now serial.0) }
+    requires store { IsStore store.old }
     ensures least { IfOk result (λ stands. stands ≡ true
-        → IsShortestLeast (words_in arena.new members.now serial.0) (word_at words.now serial.0)) }
-    ensures extends { Extends arena.old arena.new }
-    ensures right { IsRight arena.new plain.new }
+        → IsShortestLeast (words_in store.new.arena members.now serial.0) (word_at words.now serial.0)) }
+    ensures store { RegexesGrow store.old store.new }
 {
     let Some(known) = conjuncts.known() else {
         return Ok(false);
@@ -48,7 +44,7 @@ pub(crate) fn stands(
     };
     let places = conjuncts.places();
     let behind = places_behind(places, known);
-    let all = is_in_each(arena, plain, members, behind, word)?;
+    let all = is_in_each(store, members, behind, word)?;
     Ok(all)
 }
 
@@ -62,24 +58,23 @@ fn places_behind(places: &[usize], count: usize) -> &[usize]
 
 /// Whether a word is in the regexes of the memberships at these places.
 fn is_in_each(
-    arena: &mut Arena,
-    plain: &mut Plain,
+    store: &mut Store,
     members: &[Option<Member>],
     places: &[usize],
     word: &Word,
 ) -> Result<bool, AllocError>
     requires within { All (λ place. place < length members.now) places.now }
-    requires numbers { All (HasRegexBelow (length arena.old)) members.now }
-    requires right { IsRight arena.old plain.old }
-    ensures all { IfOk result (λ all. all ≡ true → IsInEach arena.new members.now places.now word.now) }
-    ensures extends { Extends arena.old arena.new }
-    ensures right { IsRight arena.new plain.new }
+    requires numbers { All (HasRegexBelow (length store.old.arena)) members.now }
+    requires store { IsStore store.old }
+    ensures all { IfOk result (λ all. all ≡ true → IsInEach store.new.arena members.now places.now word.now) }
+    ensures store { RegexesGrow store.old store.new }
 {
+    regexes_grow();
     for place in places {
         let Some(member) = members[*place] else {
             return Ok(false);
         };
-        if !plain.matches(arena, word, member.regex)? {
+        if !store.plain.matches(&mut store.arena, word, member.regex)? {
             return Ok(false);
         }
     }

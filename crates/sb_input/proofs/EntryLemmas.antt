@@ -2,7 +2,8 @@
 use Rattle.std.proofs.Common.{◌≡◌, ℕ, zero, suc, ◌+◌, ◌-◌, ◌<◌, ◌≤◌, Bool, true, false, nat_eq, List, [], ◌++◌, length, take, drop, Option, Some, None, option_map, refl, sym, ap, ◌∙◌, subst, arith, inl, inr, append_assoc, length-append, length-take}
 use Rattle.std.specs.Prelude.{IfSome, ◌⊎◌}
 use Rattle.std.proofs.lemmas.Bool.{false≢true, eqb-true}
-use Rattle.std.proofs.lemmas.List.{append-nil, take-append-drop, drop-drop, drop_all, length-drop}
+use Rattle.std.proofs.lemmas.List.{append-nil, drop-drop, drop_all, length-drop}
+use Rattle.std.proofs.Math.Seq.{take-add}
 use Rattle.sb_world.specs.Outside.{Outside, ReadsFront, read_at}
 use Rattle.sb_world.specs.Moved.{Moved, moved_by, reading}
 use Rattle.sb_world.specs.declared.InPort.TheVariants as in_port
@@ -13,22 +14,22 @@ use Rattle.sb_reader.specs.declared.feed.Next.{Next}
 use Rattle.sb_reader.specs.declared.feed.Next.TheVariants as next
 use Rattle.sb_reader.specs.Tokens.{is_open_gap}
 use Rattle.sb_reader.specs.Forms.{form_of}
-use Rattle.sb_reader.specs.Entries.{Entry, Command, Refused, SpellsEntry, HoldsNoEntry}
+use Rattle.sb_reader.specs.Entries.{Entry, Command, Refused, HoldsNoEntry}
 use Rattle.sb_reader.specs.Feeding.{Unanswered, Takes, Waits, Ends, ShortensTo, CutsComment}
-use Rattle.sb_reader.specs.Laws.{EntryStays, EntryHasBytes}
+use Rattle.sb_reader.specs.Laws.{EntryHasBytes}
 use Rattle.sb_reader.proofs.CallerLemmas.{shortens_to_itself, shortens_twice, shortens_before, same_entry, same_none, same_end}
 use Rattle.sb_input.specs.TakingEntries.{EntriesState, ReadsOn, IsLeft, TakesEntry, Leaves, Finds, Advances, IsCutShort, is_clean, most_to_come}
-use Rattle.sb_input.specs.KeepingEntries.{FindsKept, ReadsPiece, with_kept, turns_left}
+use Rattle.sb_input.specs.KeepingEntries.{IsWithin, FindsKept, ReadsPiece, with_kept, turns_left}
 use Rattle.sb_input.specs.Pieces.{turns_of}
-use Rattle.sb_input.proofs.PieceLemmas.{piece_front, end_met, on_read, at_some, moved_both, turns_fewer}
+use Rattle.sb_input.proofs.PieceLemmas.{end_met, on_read, at_some, moved_both, turns_fewer}
 
 pub piece_read : (old : EntriesState) (piece : List ℕ) (count : ℕ) (kept : Unanswered) (before after : Outside)
-    → kept ≡ (old.kept.0 ++ take count piece, nat_eq (length (take count piece)) 0)
+    → old.kept.1 ≡ false → kept ≡ (old.kept.0 ++ take count piece, nat_eq (length (take count piece)) 0)
     → count ≤ length piece → old.read + count ≤ old.limit
     → after ≡ read_at in_port.Script count before
     → IfSome before.script_in.left (λ left. ReadsFront left piece count)
     → ReadsPiece old (record { kept = kept; read = old.read + count; limit = old.limit }) before after
-piece_read old piece count kept before after same fits room moved front =
+piece_read old piece count kept before after goes same fits room moved front =
     let size : length (take count piece) ≡ count = omega (arith, length-take count piece) in
     let ended = ap (λ (n : ℕ). nat_eq n 0) (sym size) ∙ sym (ap (λ (k : Unanswered). k.1) same) in
     let bytes = ap (λ (k : Unanswered). k.0) same in
@@ -39,15 +40,15 @@ piece_read old piece count kept before after same fits room moved front =
         read = refl;
         limit = refl;
         within = room;
+        ended = λ e. absurd (false≢true (sym goes ∙ e));
       };
       grown = ap length bytes ∙ length-append old.kept.0 (take count piece)
           ∙ ap (λ (n : ℕ). length old.kept.0 + n) size;
       nothing = λ e. end_met count (ended ∙ e);
       something = λ e. on_read count (ended ∙ e);
       bytes = λ left told.
-          let front = piece_front old.kept.0 left piece count
-          (at_some before.script_in.left (λ rest. ReadsFront rest piece count) left told front) in
-          (front.0 ∙ ap (λ (xs : List ℕ). xs ++ drop count left) (sym bytes), front.1);
+          let read = at_some before.script_in.left (λ rest. ReadsFront rest piece count) left told front in
+          (bytes ∙ ap (λ (xs : List ℕ). old.kept.0 ++ xs) read.bytes, (read.within, read.progress));
     }
 
 -- So many bytes were read since, and no entry was taken.
@@ -56,10 +57,10 @@ pub record Sofar (old now : EntriesState) (before after : Outside) : Type 0 wher
   pub moved : after ≡ moved_by (reading in_port.Script count) before
   pub read : now.read ≡ old.read + count
   pub limit : now.limit ≡ old.limit
+  pub ended : old.kept.1 ≡ true → (count ≡ 0) × (now.kept.1 ≡ true)
   pub shorter : length now.kept.0 ≤ length old.kept.0 + count
-  pub bytes : (left rest : List ℕ) → IsLeft old before left → ShortensTo rest (old.kept.0 ++ left)
-      → IsLeft now after (drop count left) × ((count ≤ length left)
-      × ShortensTo rest (now.kept.0 ++ drop count left))
+  pub bytes : (left rest : List ℕ) → IsLeft old before left → ShortensTo rest old.kept.0
+      → IsLeft now after (drop count left) × ((count ≤ length left) × ShortensTo (rest ++ take count left) now.kept.0)
 
 pub sofar_none : (s : EntriesState) (o : Outside) → Sofar s s o o
 sofar_none s o = record {
@@ -67,8 +68,10 @@ sofar_none s o = record {
   moved = sym (ap (λ (m : Moved). moved_by m o) (reading-zero in_port.Script) ∙ moved_by-nothing o);
   read = omega arith;
   limit = refl;
+  ended = λ e. (refl, e);
   shorter = omega arith;
-  bytes = λ left rest is shortens. (is, (omega arith, shortens));
+  bytes = λ left rest is shortens.
+      (is, (omega arith, subst (λ (xs : List ℕ). ShortensTo xs s.kept.0) (sym (append-nil rest)) shortens));
 }
 
 told_behind : (count : ℕ) (before after : Outside) (left : List ℕ)
@@ -103,34 +106,35 @@ waits_on old now new o p s waits same =
       moved = s.moved;
       read = read ∙ s.read;
       limit = limit ∙ s.limit;
+      ended = λ e. absurd (false≢true (sym waits.more_may_come ∙ (s.ended e).1));
       shorter = let short = shortens-length now.kept.0 new.kept.0 waits.shorter in omega (arith, s.shorter);
       bytes = λ left rest is shortens.
-          let h = s.bytes left rest is shortens in
-          let behind = drop s.count left in (
+          let h = s.bytes left rest is shortens in (
             record { told = h.0.told; none = λ e. absurd (false≢true (sym waits.still ∙ e)) },
-            (
-              h.1.0,
-              shortens_twice rest (now.kept.0 ++ behind) (new.kept.0 ++ behind) h.1.1
-                  (shortens_before now.kept.0 new.kept.0 behind waits.shorter),
-            ),
+            (h.1.0, shortens_twice (rest ++ take s.count left) now.kept.0 new.kept.0 h.1.1 waits.shorter),
           );
     }
 
 -- the next piece behind the ones so far
-piece_behind : (old now new : EntriesState) (o p q : Outside) → Sofar old now o p → ReadsPiece now new p q
-    → Sofar old new o q
-piece_behind old now new o p q s r =
+piece_behind : (old now new : EntriesState) (o p q : Outside) → Sofar old now o p → now.kept.1 ≡ false
+    → ReadsPiece now new p q → Sofar old new o q
+piece_behind old now new o p q s goes r =
     let moved = moved_both in_port.Script s.count r.count o p q s.moved r.reads.moved in
     record {
       count = s.count + r.count;
       moved = moved;
       read = omega (arith, s.read, r.reads.read);
       limit = r.reads.limit ∙ s.limit;
+      ended = λ e. absurd (false≢true (sym goes ∙ (s.ended e).1));
       shorter = omega (arith, s.shorter, r.grown);
       bytes = λ left rest is shortens.
           let first = s.bytes left rest is shortens in
           let second = r.bytes (drop s.count left) first.0.told in
-          let behind = drop-drop r.count s.count left in (
+          let behind = drop-drop r.count s.count left in
+          let more = take r.count (drop s.count left) in
+          let read : (rest ++ take s.count left) ++ more ≡ rest ++ take (s.count + r.count) left =
+          append_assoc rest (take s.count left) more
+          ∙ ap (λ (xs : List ℕ). rest ++ xs) (sym (take-add s.count r.count left)) in (
             record {
               told = told_behind (s.count + r.count) o q left moved is.told;
               none = λ e. sym behind
@@ -138,8 +142,9 @@ piece_behind old now new o p q s r =
             },
             (
               let size = length-drop s.count left in omega (arith, first.1.0, second.1.0),
-              subst (λ (xs : List ℕ). ShortensTo rest xs)
-                  (second.0 ∙ ap (λ (xs : List ℕ). new.kept.0 ++ xs) behind) first.1.1,
+              subst (λ (xs : List ℕ). ShortensTo xs new.kept.0) read
+                  (subst (λ (xs : List ℕ). ShortensTo ((rest ++ take s.count left) ++ more) xs) (sym second.0)
+                  (shortens_before (rest ++ take s.count left) now.kept.0 more first.1.1)),
             ),
           );
     }
@@ -147,7 +152,7 @@ piece_behind old now new o p q s r =
 pub sofar_on : (old now kept new : EntriesState) (o p q : Outside) → Sofar old now o p → FindsKept None now kept
     → ReadsPiece kept new p q → Sofar old new o q
 sofar_on old now kept new o p q s none r =
-    piece_behind old kept new o p q (waits_on old now kept o p s none.1 none.0) r
+    piece_behind old kept new o p q (waits_on old now kept o p s none.1 none.0) none.1.still r
 
 pub turns_left-smaller : (now kept new : EntriesState) (p q : Outside) → FindsKept None now kept
     → ReadsPiece kept new p q → turns_left new < turns_left now
@@ -160,48 +165,135 @@ turns_left-smaller now kept new p q none r =
     (λ e. omega (arith, read, limit, r.reads.limit, r.reads.read, r.reads.within, r.something e)))
 
 -- It is cut short where nothing is read, or a piece, or behind what was read so far.
-pub cut_none : (o q : Outside) → q ≡ o → IsCutShort o q
-cut_none o q same =
-    (0, same ∙ sym (ap (λ (m : Moved). moved_by m o) (reading-zero in_port.Script) ∙ moved_by-nothing o))
+pub cut_none : (s : EntriesState) (o q : Outside) → s.read ≤ s.limit → q ≡ o → IsCutShort s o q
+cut_none s o q within same = record {
+  count = 0;
+  moved = same ∙ sym (ap (λ (m : Moved). moved_by m o) (reading-zero in_port.Script) ∙ moved_by-nothing o);
+  within = omega (arith, within);
+}
 
-pub cut_at : (count : ℕ) (o q : Outside) → q ≡ read_at in_port.Script count o → IsCutShort o q
-cut_at count o q moved = (count, moved ∙ read_at-moves in_port.Script count o)
+pub cut_at : (count : ℕ) (s : EntriesState) (o q : Outside) → s.read + count ≤ s.limit
+    → q ≡ read_at in_port.Script count o → IsCutShort s o q
+cut_at count s o q within moved =
+    record { count = count; moved = moved ∙ read_at-moves in_port.Script count o; within = within }
 
-pub cut_behind : (old now : EntriesState) (o p q : Outside) → Sofar old now o p → IsCutShort p q → IsCutShort o q
-cut_behind old now o p q s cut = (s.count + cut.0, moved_both in_port.Script s.count cut.0 o p q s.moved cut.1)
+pub cut_now : (old now : EntriesState) (o p : Outside) → Sofar old now o p → now.read ≤ now.limit
+    → IsCutShort old o p
+cut_now old now o p s within =
+    record { count = s.count; moved = s.moved; within = omega (arith, s.read, s.limit, within) }
+
+pub cut_behind : (old now kept : EntriesState) (o p q : Outside) → Sofar old now o p → FindsKept None now kept
+    → IsCutShort kept p q → IsCutShort old o q
+cut_behind old now kept o p q s none cut =
+    let read = ap (λ (t : EntriesState). t.read) none.0 in
+    let limit = ap (λ (t : EntriesState). t.limit) none.0 in
+    record {
+      count = s.count + cut.count;
+      moved = moved_both in_port.Script s.count cut.count o p q s.moved cut.moved;
+      within = omega (arith, s.read, s.limit, read, limit, cut.within);
+    }
 
 -- What was found takes nothing from the world.
 reads_found : (old now new : EntriesState) (o p : Outside) (s : Sofar old now o p) → new ≡ with_kept now new.kept
-    → new.read ≤ new.limit → ReadsOn s.count old new o p
-reads_found old now new o p s same within = record {
+    → new.kept.1 ≡ now.kept.1 → new.read ≤ new.limit → ReadsOn s.count old new o p
+reads_found old now new o p s same flag within = record {
   moved = s.moved;
   read = ap (λ (t : EntriesState). t.read) same ∙ s.read;
   limit = ap (λ (t : EntriesState). t.limit) same ∙ s.limit;
   within = within;
+  ended = λ e. let h = s.ended e in (h.0, flag ∙ h.1);
 }
 
 left_found : (now new : EntriesState) (p : Outside) (behind : List ℕ) → new.kept.1 ≡ now.kept.1 → IsLeft now p behind
     → IsLeft new p behind
 left_found now new p behind ended is = record { told = is.told; none = λ e. is.none (sym ended ∙ e) }
 
-module _ (stays : EntryStays) (has_bytes : EntryHasBytes) where
-  -- An entry of bytes that are whole, or that have an end, is one of all bytes.
-  spelled_to_end : (ended : Bool) (entry : Entry) (front rest behind : List ℕ) → (ended ≡ true → behind ≡ [])
-      → SpellsEntry ended entry front rest → SpellsEntry true entry front (rest ++ behind)
-  spelled_to_end true entry front rest behind none h =
-      subst (λ (xs : List ℕ). SpellsEntry true entry front xs)
-      (sym (ap (λ (xs : List ℕ). rest ++ xs) (none refl) ∙ append-nil rest)) h
-  spelled_to_end false entry front rest behind none h = stays true entry front rest behind h
+-- an entry of the bytes that are kept is one of those that were read
+takes_entry : (entry : Entry) (old new : Unanswered) (rest : List ℕ) → Takes entry old new → ShortensTo rest old.0
+    → TakesEntry new.1 entry rest new.0
+takes_entry entry old new rest takes shortens =
+    subst (λ (ended : Bool). TakesEntry ended entry rest new.0) (sym takes.2)
+    (same_entry old.1 entry rest old.0 takes.0 new.0 shortens takes.1 takes.3)
 
-  takes_entry : (entry : Entry) (old new : Unanswered) (rest behind : List ℕ) → Takes entry old new
-      → (old.1 ≡ true → behind ≡ []) → ShortensTo rest (old.0 ++ behind)
-      → TakesEntry entry rest (new.0 ++ behind)
-  takes_entry entry old new rest behind takes none shortens =
-      let whole = same_entry true entry rest (old.0 ++ behind) takes.0 (new.0 ++ behind) shortens
-      (ap (λ (xs : List ℕ). xs ++ behind) takes.1 ∙ append_assoc takes.0 new.0 behind)
-      (spelled_to_end old.1 entry takes.0 new.0 behind none takes.3) in
-      (whole.0, whole.1, whole.2)
+open_gap_is_none : (ended : Bool) (bytes : List ℕ) → is_open_gap bytes ≡ true → HoldsNoEntry ended bytes
+open_gap_is_none ended bytes h = record {
+  tokens = [];
+  front = [];
+  rest = bytes;
+  split = refl;
+  spelled = refl;
+  open_entry = refl;
+  no_token = inl h;
+}
 
+-- no whole entry is left
+none_at_end : (ending : Ending) (old new : Unanswered) → Ends ending old new
+    → (old.1 ≡ true) × (new ≡ old) × HoldsNoEntry true old.0 × (is_open_gap old.0 ≡ is_clean ending)
+none_at_end Clean old new ends = (ends.0, ends.1, open_gap_is_none true old.0 ends.2, ends.2)
+none_at_end Unfinished old new ends = (ends.0, ends.1, ends.3, ends.2)
+
+-- what is found where these bytes are left
+abbrev FindsLeft : Next → ℕ → EntriesState → EntriesState → Outside → Outside → Type 0
+FindsLeft found count old new o p = (left rest : List ℕ) → IsLeft old o left → ShortensTo rest old.kept.0
+    → IsLeft new p (drop count left) × ((count ≤ length left)
+    × ((behind : List ℕ) × Finds new.kept.1 found (rest ++ take count left) behind × ShortensTo behind new.kept.0))
+
+advances : (found : Next) (old now new : EntriesState) (o p : Outside) (s : Sofar old now o p)
+    → new ≡ with_kept now new.kept → new.kept.1 ≡ now.kept.1 → IsWithin new → Leaves found old new
+    → FindsLeft found s.count old new o p → Advances found old new o p
+advances found old now new o p s same flag within leaves finds = record {
+  count = s.count;
+  reads = reads_found old now new o p s same flag within.most;
+  leaves = leaves;
+  below = within.below;
+  finds = finds;
+}
+
+entry_left : (entry : Entry) (old now new : EntriesState) (o p : Outside) (s : Sofar old now o p)
+    → Takes entry now.kept new.kept
+    → (left rest : List ℕ) → IsLeft old o left → ShortensTo rest old.kept.0
+    → IsLeft new p (drop s.count left) × ((s.count ≤ length left)
+    × ((behind : List ℕ) × TakesEntry new.kept.1 entry (rest ++ take s.count left) behind
+    × ShortensTo behind new.kept.0))
+entry_left entry old now new o p s takes left rest is shortens =
+    let h = s.bytes left rest is shortens in (
+      left_found now new p (drop s.count left) takes.2 h.0,
+      (
+        h.1.0,
+        (
+          new.kept.0,
+          takes_entry entry now.kept new.kept (rest ++ take s.count left) takes h.1.1,
+          shortens_to_itself new.kept.0,
+        ),
+      ),
+    )
+
+limit_left : (old now new : EntriesState) (o p : Outside) (s : Sofar old now o p) → Waits now.kept new.kept
+    → new ≡ with_kept now new.kept → FindsLeft next.NotYet s.count old new o p
+unfolding waits_on
+limit_left old now new o p s waits same left rest is shortens =
+    let h = (waits_on old now new o p s waits same).bytes left rest is shortens in
+    let read = rest ++ take s.count left in
+    (h.0, (h.1.0, (read, (refl, same_none false read new.kept.0 h.1.1 waits.no_entry), h.1.1)))
+
+end_left : (ending : Ending) (old now new : EntriesState) (o p : Outside) (s : Sofar old now o p)
+    → Ends ending now.kept new.kept → FindsLeft (next.Ended ending) s.count old new o p
+end_left ending old now new o p s ends left rest is shortens =
+    let h = s.bytes left rest is shortens in
+    let read = rest ++ take s.count left in
+    let end = none_at_end ending now.kept new.kept ends in (
+      left_found now new p (drop s.count left) (ap (λ (k : Unanswered). k.1) end.1) h.0,
+      (
+        h.1.0,
+        (
+          read,
+          (refl, (same_none true read now.kept.0 h.1.1 end.2, same_end read now.kept.0 h.1.1 ∙ end.3)),
+          subst (λ (k : Unanswered). ShortensTo read k.0) (sym end.1) h.1.1,
+        ),
+      ),
+    )
+
+module _ (has_bytes : EntryHasBytes) where
   fewer_to_come : (entry : Entry) (old now new : EntriesState) (o p : Outside) → Sofar old now o p
       → Takes entry now.kept new.kept → new ≡ with_kept now new.kept → new.read ≤ new.limit
       → most_to_come new < most_to_come old
@@ -212,102 +304,24 @@ module _ (stays : EntryStays) (has_bytes : EntryHasBytes) where
       let size = ap length takes.1 ∙ length-append takes.0 new.kept.0 in
       omega (arith, size, some, s.shorter, s.read, s.limit, read, limit, within)
 
-  -- what is found where these bytes are left
-  abbrev FindsLeft : Next → ℕ → EntriesState → EntriesState → Outside → Outside → Type 0
-  FindsLeft found count old new o p = (left rest : List ℕ) → IsLeft old o left → ShortensTo rest (old.kept.0 ++ left)
-      → IsLeft new p (drop count left) × ((count ≤ length left)
-      × ((behind : List ℕ) × Finds found rest behind × ShortensTo behind (new.kept.0 ++ drop count left)))
-
-  advances : (found : Next) (old now new : EntriesState) (o p : Outside) (s : Sofar old now o p)
-      → new ≡ with_kept now new.kept → new.read ≤ new.limit → Leaves found old new
-      → FindsLeft found s.count old new o p → Advances found old new o p
-  advances found old now new o p s same within leaves finds = record {
-    count = s.count;
-    reads = reads_found old now new o p s same within;
-    leaves = leaves;
-    finds = finds;
-  }
-
-  entry_left : (entry : Entry) (old now new : EntriesState) (o p : Outside) (s : Sofar old now o p)
-      → Takes entry now.kept new.kept
-      → (left rest : List ℕ) → IsLeft old o left → ShortensTo rest (old.kept.0 ++ left)
-      → IsLeft new p (drop s.count left) × ((s.count ≤ length left)
-      × ((behind : List ℕ) × TakesEntry entry rest behind × ShortensTo behind (new.kept.0 ++ drop s.count left)))
-  entry_left entry old now new o p s takes left rest is shortens =
-      let h = s.bytes left rest is shortens in
-      let behind = drop s.count left in (
-        left_found now new p behind takes.2 h.0,
-        (
-          h.1.0,
-          (
-            new.kept.0 ++ behind,
-            takes_entry entry now.kept new.kept rest behind takes h.0.none h.1.1,
-            shortens_to_itself (new.kept.0 ++ behind),
-          ),
-        ),
-      )
-
-  limit_left : (old now new : EntriesState) (o p : Outside) (s : Sofar old now o p) → Waits now.kept new.kept
-      → new ≡ with_kept now new.kept → FindsLeft next.NotYet s.count old new o p
-  unfolding waits_on
-  limit_left old now new o p s waits same left rest is shortens =
-      let h = (waits_on old now new o p s waits same).bytes left rest is shortens in
-      (h.0, (h.1.0, (rest, refl, h.1.1)))
-
-  open_gap_is_none : (ended : Bool) (bytes : List ℕ) → is_open_gap bytes ≡ true → HoldsNoEntry ended bytes
-  open_gap_is_none ended bytes h = record {
-    tokens = [];
-    front = [];
-    rest = bytes;
-    split = refl;
-    spelled = refl;
-    open_entry = refl;
-    no_token = inl h;
-  }
-
-  -- no whole entry is left
-  none_at_end : (ending : Ending) (old new : Unanswered) → Ends ending old new
-      → (old.1 ≡ true) × (new ≡ old) × HoldsNoEntry true old.0 × (is_open_gap old.0 ≡ is_clean ending)
-  none_at_end Clean old new ends = (ends.0, ends.1, open_gap_is_none true old.0 ends.2, ends.2)
-  none_at_end Unfinished old new ends = (ends.0, ends.1, ends.3, ends.2)
-
-  end_left : (ending : Ending) (old now new : EntriesState) (o p : Outside) (s : Sofar old now o p)
-      → Ends ending now.kept new.kept → FindsLeft (next.Ended ending) s.count old new o p
-  end_left ending old now new o p s ends left rest is shortens =
-      let h = s.bytes left rest is shortens in
-      let behind = drop s.count left in
-      let end = none_at_end ending now.kept new.kept ends in
-      let all : now.kept.0 ++ behind ≡ now.kept.0 =
-      ap (λ (xs : List ℕ). now.kept.0 ++ xs) (h.0.none end.0) ∙ append-nil now.kept.0 in
-      let kept = subst (λ (xs : List ℕ). ShortensTo rest xs) all h.1.1 in (
-        left_found now new p behind (ap (λ (k : Unanswered). k.1) end.1) h.0,
-        (
-          h.1.0,
-          (
-            rest,
-            (refl, (same_none true rest now.kept.0 kept end.2, same_end rest now.kept.0 kept ∙ end.3)),
-            subst (λ (k : Unanswered). ShortensTo rest (k.0 ++ behind)) (sym end.1) h.1.1,
-          ),
-        ),
-      )
-
   pub found_behind : (found : Next) (old now new : EntriesState) (o p : Outside) → Sofar old now o p
-      → FindsKept (Some found) now new → new.read ≤ new.limit → Advances found old new o p
+      → FindsKept (Some found) now new → IsWithin new → Advances found old new o p
   found_behind (next.Command sexpr) old now new o p s h within =
-      advances (next.Command sexpr) old now new o p s h.0 within
-      (fewer_to_come (Command (form_of sexpr)) old now new o p s h.1 h.0 within)
+      advances (next.Command sexpr) old now new o p s h.0 h.1.2 within
+      (fewer_to_come (Command (form_of sexpr)) old now new o p s h.1 h.0 within.most)
       (entry_left (Command (form_of sexpr)) old now new o p s h.1)
   found_behind (next.Refused refusal) old now new o p s h within =
-      advances (next.Refused refusal) old now new o p s h.0 within
-      (fewer_to_come (Refused refusal) old now new o p s h.1 h.0 within)
+      advances (next.Refused refusal) old now new o p s h.0 h.1.2 within
+      (fewer_to_come (Refused refusal) old now new o p s h.1 h.0 within.most)
       (entry_left (Refused refusal) old now new o p s h.1)
   found_behind next.NotYet old now new o p s h within =
-      advances next.NotYet old now new o p s h.0 within (
+      advances next.NotYet old now new o p s h.0 (h.1.still ∙ sym h.1.more_may_come) within (
         h.1.still,
         ap (λ (t : EntriesState). t.read) h.0 ∙ h.2 refl ∙ sym (ap (λ (t : EntriesState). t.limit) h.0),
       )
       (limit_left old now new o p s h.1 h.0)
   found_behind (next.Ended ending) old now new o p s h within =
       let end = none_at_end ending now.kept new.kept h.1 in
-      advances (next.Ended ending) old now new o p s h.0 within (ap (λ (k : Unanswered). k.1) end.1 ∙ end.0)
+      let flag = ap (λ (k : Unanswered). k.1) end.1 in
+      advances (next.Ended ending) old now new o p s h.0 flag within (flag ∙ end.0)
       (end_left ending old now new o p s h.1)

@@ -186,8 +186,8 @@ within_left old now o p s left is = omega (
 )
 
 ended_line : (old now new : LinesState) (o p : Outside) → Sofar old now o p → TakesLine now new
-    → new.read ≤ new.limit → Advances (Line true) old new o p
-ended_line old now new o p s h within =
+    → new.read ≤ new.limit → (new.ended ≡ true → new.read < new.limit) → Advances (Line true) old new o p
+ended_line old now new o p s h within below =
     let read = ap (λ (t : LinesState). t.read) h.same in
     let limit = ap (λ (t : LinesState). t.limit) h.same in
     let ended = ap (λ (t : LinesState). t.ended) h.same in
@@ -199,42 +199,48 @@ ended_line old now new o p s h within =
         omega (arith, size, s.length, s.read, s.limit, read, limit, within),
         (h.one, λ e. absurd (false≢true (sym e))),
       );
+      below = below;
       within = within_left old now o p s;
       finds = λ left is.
           let first = s.bytes left is in
-          let behind = drop s.count left in (
+          let behind = drop s.count left in
+          let whole : old.kept ++ left ≡ new.line ++ 10 ∷ (new.kept ++ behind) =
+          first.0 ∙ ap (λ (xs : List ℕ). xs ++ behind) h.split ∙ append_assoc new.line (10 ∷ new.kept) behind in (
             left_found now new p behind ended first.1,
-            ap texts_of (first.0 ∙ ap (λ (xs : List ℕ). xs ++ behind) h.split
-                ∙ append_assoc new.line (10 ∷ new.kept) behind)
-                ∙ texts_of-ended new.line (new.kept ++ behind) h.one,
+            (ap texts_of whole ∙ texts_of-ended new.line (new.kept ++ behind) h.one, λ _. whole),
           );
     }
 
 last_line : (old now : LinesState) (o p : Outside) → Sofar old now o p → now.ended ≡ true
-    → is_one_line now.kept ≡ true → 0 < length now.kept → now.read ≤ now.limit
+    → is_one_line now.kept ≡ true → 0 < length now.kept → now.read < now.limit
     → Advances (Line false) old (all_taken now) o p
-last_line old now o p s ended one some within = record {
+last_line old now o p s ended one some below = record {
   count = s.count;
-  reads = reads_found old now (all_taken now) o p s refl refl refl within;
-  leaves = (omega (arith, s.length, s.read, s.limit, some, within), (one, λ _. (ended, refl)));
+  reads = reads_found old now (all_taken now) o p s refl refl refl (omega (arith, below));
+  leaves = (omega (arith, s.length, s.read, s.limit, some, below), (one, λ _. (ended, refl)));
+  below = λ _. below;
   within = within_left old now o p s;
   finds = λ left is.
       let first = s.bytes left is in
       let behind = drop s.count left in
       let none = first.1.none ended in (
         left_found now (all_taken now) p behind refl first.1,
-        ap texts_of (first.0 ∙ ap (λ (xs : List ℕ). now.kept ++ xs) none ∙ append-nil now.kept)
-            ∙ texts_of-unended now.kept one some
-            ∙ ap (λ (xs : List ℕ). (now.kept, false) ∷ texts_of xs) (sym none),
+        (
+          ap texts_of (first.0 ∙ ap (λ (xs : List ℕ). now.kept ++ xs) none ∙ append-nil now.kept)
+              ∙ texts_of-unended now.kept one some
+              ∙ ap (λ (xs : List ℕ). (now.kept, false) ∷ texts_of xs) (sym none),
+          λ e. absurd (false≢true e),
+        ),
       );
 }
 
 at_end : (old now : LinesState) (o p : Outside) → Sofar old now o p → now.ended ≡ true → now.kept ≡ []
-    → now.read ≤ now.limit → Advances End old (cleared now) o p
-at_end old now o p s ended kept within = record {
+    → now.read < now.limit → Advances End old (cleared now) o p
+at_end old now o p s ended kept below = record {
   count = s.count;
-  reads = reads_found old now (cleared now) o p s refl refl refl within;
+  reads = reads_found old now (cleared now) o p s refl refl refl (omega (arith, below));
   leaves = (ended, (kept, refl));
+  below = λ _. below;
   within = within_left old now o p s;
   finds = λ left is.
       let first = s.bytes left is in
@@ -251,6 +257,7 @@ at_limit old now o p s ended full one = record {
   count = s.count;
   reads = reads_found old now (cleared now) o p s refl refl refl (omega (arith, full));
   leaves = (ended, (full, (one, refl)));
+  below = λ e. absurd (false≢true (sym ended ∙ e));
   within = within_left old now o p s;
   finds = λ left is.
       let first = s.bytes left is in
@@ -258,14 +265,17 @@ at_limit old now o p s ended full one = record {
 }
 
 pub found_behind : (found : Found) (old now new : LinesState) (o p : Outside) → Sofar old now o p
-    → FindsKept (Some found) now new → new.read ≤ new.limit → Advances found old new o p
-found_behind (Line true) old now new o p s h within = ended_line old now new o p s h within
-found_behind (Line false) old now new o p s h within =
+    → FindsKept (Some found) now new → new.read ≤ new.limit → (new.ended ≡ true → new.read < new.limit)
+    → Advances found old new o p
+found_behind (Line true) old now new o p s h within below = ended_line old now new o p s h within below
+found_behind (Line false) old now new o p s h within below =
     subst (λ (t : LinesState). Advances (Line false) old t o p) (sym h.1.1.1)
-    (last_line old now o p s h.0 h.1.0 h.1.1.0 (subst (λ (t : LinesState). t.read ≤ t.limit) h.1.1.1 within))
-found_behind End old now new o p s h within =
+    (last_line old now o p s h.0 h.1.0 h.1.1.0
+    ((subst (λ (t : LinesState). t.ended ≡ true → t.read < t.limit) h.1.1.1 below) h.0))
+found_behind End old now new o p s h within below =
     subst (λ (t : LinesState). Advances End old t o p) (sym h.1.1)
-    (at_end old now o p s h.0 h.1.0 (subst (λ (t : LinesState). t.read ≤ t.limit) h.1.1 within))
-found_behind Limit old now new o p s h within =
+    (at_end old now o p s h.0 h.1.0
+    ((subst (λ (t : LinesState). t.ended ≡ true → t.read < t.limit) h.1.1 below) h.0))
+found_behind Limit old now new o p s h within below =
     subst (λ (t : LinesState). Advances Limit old t o p) (sym h.1.1.1)
     (at_limit old now o p s h.0 h.1.0 h.1.1.0)

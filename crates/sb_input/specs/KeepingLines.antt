@@ -14,12 +14,14 @@ FindsFeed (Some place) bytes =
     (place < length bytes)
     × ((is_one_line (take place bytes) ≡ true) × (bytes ≡ take place bytes ++ 10 ∷ drop (place + 1) bytes))
 
-pub record IsSearched (bytes : List ℕ) (start line_start line_end searched read limit : ℕ) : Type 0 where
+pub record IsSearched (bytes : List ℕ) (start line_start line_end searched : ℕ) (ended : Bool) (read limit : ℕ)
+    : Type 0 where
   pub line_from : line_start ≤ line_end
   pub line_to : line_end ≤ length bytes
   pub within : start + searched ≤ length bytes
   pub none : is_one_line (take searched (drop start bytes)) ≡ true
   pub limited : read ≤ limit
+  pub below : ended ≡ true → read < limit
 
 abbrev pub cleared : LinesState → LinesState
 cleared s = record s { line = [] }

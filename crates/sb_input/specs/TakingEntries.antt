@@ -1,5 +1,5 @@
 -- What it is to take the entries of a script, one after another, from the bytes that a world gives.
-use Rattle.std.specs.Prelude.{◌≡◌, ℕ, ◌+◌, ◌-◌, ◌<◌, ◌≤◌, Bool, true, false, List, ◌++◌, [], length, drop, Some, Result, Ok, Err}
+use Rattle.std.specs.Prelude.{◌≡◌, ℕ, ◌+◌, ◌-◌, ◌<◌, ◌≤◌, Bool, true, false, List, ◌++◌, [], length, take, drop, Some, Result, Ok, Err}
 use Rattle.sb_world.specs.Outside.{Outside, Rose}
 use Rattle.sb_world.specs.Moved.{moved_by, reading}
 use Rattle.sb_world.specs.declared.InPort.TheVariants as in_port
@@ -30,6 +30,8 @@ pub record ReadsOn (count : ℕ) (old new : EntriesState) (before after : Outsid
   pub read : new.read ≡ old.read + count
   pub limit : new.limit ≡ old.limit
   pub within : new.read ≤ new.limit
+  -- behind the script's end nothing is read
+  pub ended : old.kept.1 ≡ true → (count ≡ 0) × (new.kept.1 ≡ true)
 
 -- how many bytes may still be taken
 abbrev pub most_to_come : EntriesState → ℕ
@@ -47,20 +49,21 @@ pub record IsLeft (s : EntriesState) (o : Outside) (left : List ℕ) : Type 0 wh
   pub told : o.script_in.left ≡ Some left
   pub none : s.kept.1 ≡ true → left ≡ []
 
--- the bytes begin with the entry, behind which no more come than these
-abbrev pub TakesEntry : Entry → List ℕ → List ℕ → Type 0
-TakesEntry entry rest behind = (front : List ℕ) × (rest ≡ front ++ behind) × SpellsEntry true entry front behind
+-- the bytes begin with the entry, which is whole where it stands, and these are behind it
+abbrev pub TakesEntry : Bool → Entry → List ℕ → List ℕ → Type 0
+TakesEntry ended entry rest behind = (front : List ℕ) × (rest ≡ front ++ behind) × SpellsEntry ended entry front behind
 
 abbrev pub is_clean : Ending → Bool
 is_clean Clean = true
 is_clean Unfinished = false
 
--- What was found at the front of the bytes behind all entries that were taken, and the bytes behind it.
-abbrev pub Finds : Next → List ℕ → List ℕ → Type 0
-Finds (next.Command sexpr) rest behind = TakesEntry (Command (form_of sexpr)) rest behind
-Finds (next.Refused refusal) rest behind = TakesEntry (Refused refusal) rest behind
-Finds next.NotYet rest behind = behind ≡ rest
-Finds (next.Ended ending) rest behind =
+-- What was found at the front of the bytes that were read and stand behind all entries that were taken, and the bytes
+-- behind it.
+abbrev pub Finds : Bool → Next → List ℕ → List ℕ → Type 0
+Finds ended (next.Command sexpr) rest behind = TakesEntry ended (Command (form_of sexpr)) rest behind
+Finds ended (next.Refused refusal) rest behind = TakesEntry ended (Refused refusal) rest behind
+Finds ended next.NotYet rest behind = (behind ≡ rest) × HoldsNoEntry false rest
+Finds ended (next.Ended ending) rest behind =
     (behind ≡ rest) × (HoldsNoEntry true rest × (is_open_gap rest ≡ is_clean ending))
 
 -- how it is found
@@ -68,14 +71,18 @@ pub record Advances (found : Next) (old new : EntriesState) (before after : Outs
   pub count : ℕ
   pub reads : ReadsOn count old new before after
   pub leaves : Leaves found old new
-  -- where these bytes of the script are left, and those stand behind all entries that were taken
-  pub finds : (left rest : List ℕ) → IsLeft old before left → ShortensTo rest (old.kept.0 ++ left)
+  -- the end is met below the limit
+  pub below : new.kept.1 ≡ true → new.read < new.limit
+  -- where these bytes of the script are left, and those were read and stand behind all entries that were taken
+  pub finds : (left rest : List ℕ) → IsLeft old before left → ShortensTo rest old.kept.0
       → IsLeft new after (drop count left) × ((count ≤ length left)
-      × ((behind : List ℕ) × Finds found rest behind × ShortensTo behind (new.kept.0 ++ drop count left)))
+      × ((behind : List ℕ) × Finds new.kept.1 found (rest ++ take count left) behind × ShortensTo behind new.kept.0))
 
 -- It isn't known what comes next: so many bytes were read.
-abbrev pub IsCutShort : Outside → Outside → Type 0
-IsCutShort before after = (count : ℕ) × (after ≡ moved_by (reading in_port.Script count) before)
+pub record IsCutShort (old : EntriesState) (before after : Outside) : Type 0 where
+  pub count : ℕ
+  pub moved : after ≡ moved_by (reading in_port.Script count) before
+  pub within : old.read + count ≤ old.limit
 
 abbrev pub fault_of : WorldError → EntriesFault
 fault_of world_error.Failed = Fault

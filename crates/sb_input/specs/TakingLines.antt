@@ -63,7 +63,8 @@ pub record IsLeft (s : LinesState) (o : Outside) (left : List ℕ) : Type 0 wher
 -- What was found, where these bytes were left, and those are left behind it.
 abbrev pub Finds : Found → LinesState → List ℕ → LinesState → List ℕ → Type 0
 Finds (Line ended) old left new behind =
-    texts_of (old.kept ++ left) ≡ (new.line, ended) ∷ texts_of (new.kept ++ behind)
+    (texts_of (old.kept ++ left) ≡ (new.line, ended) ∷ texts_of (new.kept ++ behind))
+    × (ended ≡ true → old.kept ++ left ≡ new.line ++ 10 ∷ (new.kept ++ behind))
 Finds End old left new behind = (old.kept ++ left ≡ []) × (behind ≡ [])
 Finds Limit old left new behind = old.kept ++ left ≡ new.kept ++ behind
 
@@ -72,6 +73,8 @@ pub record Advances (found : Found) (old new : LinesState) (before after : Outsi
   pub count : ℕ
   pub reads : ReadsOn count old new before after
   pub leaves : Leaves found old new
+  -- the end is met below the limit
+  pub below : new.ended ≡ true → new.read < new.limit
   pub within : (left : List ℕ) → IsLeft old before left → count ≤ length left
   pub finds : (left : List ℕ) → IsLeft old before left
       → IsLeft new after (drop count left) × Finds found old left new (drop count left)

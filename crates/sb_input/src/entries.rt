@@ -1,11 +1,11 @@
 //! Entries, taken one after another.
 
-ghost use Rattle.std.specs.Prelude.{◌≡◌, ◌<◌, ◌≤◌, false, [], IfOk, OnOk, OnErr};
+ghost use Rattle.std.specs.Prelude.{◌≡◌, ◌<◌, false, [], IfOk, OnOk, OnErr};
 ghost use Rattle.sb_input.specs.TakingEntries.{Advances, IsCutShort, CountsEntriesFault};
-ghost use Rattle.sb_input.specs.KeepingEntries.{FindsKept, ReadsPiece, is_waiting};
+ghost use Rattle.sb_input.specs.KeepingEntries.{FindsKept, IsWithin, ReadsPiece, is_waiting};
 
 use crate::piece::{feed_piece, make_room, read_script};
-use sb_reader::{Feed, Next, entry_stays, one_entry};
+use sb_reader::{Feed, Next, one_entry};
 use sb_world::{World, WorldError};
 use std::alloc::{AllocError, Global};
 use std::marker::Model;
@@ -55,14 +55,14 @@ pub struct Entries {
 }
 
 impl Model for Entries {
-    ghost use Rattle.std.specs.Prelude.{◌≤◌};
     ghost use Rattle.sb_input.specs.TakingEntries.{EntriesState};
+    ghost use Rattle.sb_input.specs.KeepingEntries.{IsWithin};
 
     ghost Value = { EntriesState };
 
     ghost view = { λ e. record { kept = e.feed; read = e.read; limit = e.limit } };
 
-    ghost invariant = { λ e. e.read ≤ e.limit };
+    ghost invariant = { λ e. IsWithin (record { kept = e.feed; read = e.read; limit = e.limit }) };
 }
 
 impl Entries {
@@ -85,10 +85,9 @@ impl Entries {
     pub fn advance<W: World>(&mut self, world: &mut W) -> Result<Next, EntriesFault>
         ensures ok { IfOk result
             (λ found. Advances found self.old self.new (W.outside world.old) (W.outside world.new)) }
-        ensures err { OnErr result (IsCutShort (W.outside world.old) (W.outside world.new)) }
+        ensures err { OnErr result (IsCutShort self.old (W.outside world.old) (W.outside world.new)) }
         ensures faults { CountsEntriesFault result (W.faults world.old) (W.faults world.new) }
     {
-        entry_stays();
         one_entry();
         loop {
             if let Some(next) = self.find()? {
@@ -102,7 +101,7 @@ impl Entries {
     fn find(&mut self) -> Result<Option<Next>, AllocError>
         ensures ok { IfOk result (λ found. FindsKept found self.old self.new) }
         ensures err { OnErr result (self.new ≡ self.old) }
-        ensures within { self.new.read ≤ self.new.limit }
+        ensures within { IsWithin self.new }
     {
         let next = self.feed.next()?;
         if is_not_yet(&next) && self.read < self.limit {
@@ -116,7 +115,7 @@ impl Entries {
         requires goes_on { self.old.kept.1 ≡ false }
         requires room { self.old.read < self.old.limit }
         ensures ok { OnOk result (ReadsPiece self.old self.new (W.outside world.old) (W.outside world.new)) }
-        ensures err { OnErr result (IsCutShort (W.outside world.old) (W.outside world.new)) }
+        ensures err { OnErr result (IsCutShort self.old (W.outside world.old) (W.outside world.new)) }
         ensures faults { CountsEntriesFault result (W.faults world.old) (W.faults world.new) }
     {
         make_room(&mut self.piece, self.limit - self.read)?;

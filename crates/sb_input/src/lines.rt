@@ -1,6 +1,6 @@
 //! Lines, taken one after another.
 
-ghost use Rattle.std.specs.Prelude.{◌≡◌, ◌<◌, ◌≤◌, false, [], IfOk, OnOk, OnErr};
+ghost use Rattle.std.specs.Prelude.{◌≡◌, ◌<◌, ◌≤◌, true, false, [], IfOk, OnOk, OnErr};
 ghost use Rattle.sb_input.specs.TakingLines.{Advances, IsCutShort, CountsLinesFault};
 ghost use Rattle.sb_input.specs.KeepingLines.{Takes, TakesRest, FindsKept, ReadsPiece, cleared};
 
@@ -82,7 +82,8 @@ impl Model for Lines {
 
     ghost view = { λ l. state_of l.bytes.items l.start l.line_start l.line_end l.ended l.read l.limit };
 
-    ghost invariant = { λ l. IsSearched l.bytes.items l.start l.line_start l.line_end l.searched l.read l.limit };
+    ghost invariant = { λ l.
+        IsSearched l.bytes.items l.start l.line_start l.line_end l.searched l.ended l.read l.limit };
 }
 
 impl Lines {
@@ -132,6 +133,7 @@ impl Lines {
     fn find(&mut self) -> Option<Found>
         ensures found { FindsKept result self.old self.new }
         ensures within { self.new.read ≤ self.new.limit }
+        ensures below { self.new.ended ≡ true → self.new.read < self.new.limit }
     {
         if self.take_line() {
             Some(Found::Line { ended: true })
@@ -148,6 +150,7 @@ impl Lines {
     fn take_line(&mut self) -> bool
         ensures taken { Takes result self.old self.new }
         ensures within { self.new.read ≤ self.new.limit }
+        ensures below { self.new.ended ≡ true → self.new.read < self.new.limit }
     {
         match find_feed(&self.bytes, self.start + self.searched) {
             Some(place) => {

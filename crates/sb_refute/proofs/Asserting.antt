@@ -11,7 +11,7 @@ due-stated asked old new known place level t stated defined is = λ i a low name
     let it = defined i a (omega (arith, is, low)) names in
     (it.0, λ before long. it.1 asked.sorts before stated.declared long)
 
-structure-is : (atoms : List Atom) (t : Term) (l : Lit) → Some l ≡ brought_translation atoms t
+pub structure-is : (atoms : List Atom) (t : Term) (l : Lit) → Some l ≡ brought_translation atoms t
     → translation atoms t ≡ Some l
 structure-is atoms t l h = step (is_structure t) h
   where
@@ -34,11 +34,11 @@ pub leads-none : (asked : Asked) (rs : List Regex) (memo : Memo) (e : Backing) (
 leads-none asked rs memo e told before b =
     record { after = before; puts = puts_none asked before told; backs = b; counted = refl }
 
-pub uncounted-both : (asked : Asked) (before : AllKept) (rs more : List Regex) (memo : Memo) (f g : Backing)
+pub uncounted-both : (asked : Asked) (before : AllKept) (rs more : List Regex) (memo new : Memo) (f g : Backing)
     (x y z : Option (List ℕ)) → EvidencesUncounted asked before rs memo f x y
-    → ((after : AllKept) → Backs rs memo f after → EvidencesUncounted asked after more memo g y z)
-    → EvidencesUncounted asked before more memo g x z
-uncounted-both asked before rs more memo f g x y z p second =
+    → ((after : AllKept) → Backs rs memo f after → EvidencesUncounted asked after more new g y z)
+    → EvidencesUncounted asked before more new g x z
+uncounted-both asked before rs more memo new f g x y z p second =
     let q = second p.after p.backs in
     record {
       after = q.after;
@@ -50,7 +50,7 @@ uncounted-both asked before rs more memo f g x y z p second =
 pub leads-both : (asked : Asked) (rs : List Regex) (memo : Memo) (e f g : Backing) (x y z : Option (List ℕ))
     → Leads asked rs memo e f x y → Leads asked rs memo f g y z → Leads asked rs memo e g x z
 leads-both asked rs memo e f g x y z first second before b =
-    uncounted-both asked before rs rs memo f g x y z (first before b) second
+    uncounted-both asked before rs rs memo memo f g x y z (first before b) second
 
 -- The line of an assertion's clause.
 
@@ -109,13 +109,6 @@ stays-at e f place x is never = λ q b h. step q b h (nat_eq q place) refl
         let apart : q ≢ place = grind (arith, nat_tests) in
         ap (λ xs. asserted_at xs q) is ∙ placed-others e.asserted place x q apart ∙ h
 
--- the one that stood there was of this literal and level
-own-there : (o : Option Asserted) (literal : Option Lit) (level : ℕ) (b : Asserted)
-    → IfSome o (λ a. (a.level ≡ level) × (Some a.literal ≡ literal)) → o ≡ Some b
-    → (b.level ≡ level) × (Some b.literal ≡ literal)
-own-there o literal level b own h =
-    subst (λ (x : Option Asserted). IfSome x (λ a. (a.level ≡ level) × (Some a.literal ≡ literal))) h own
-
 -- none, where the term has no literal;
 pub claimed-none : (e f : Backing) (place level : ℕ) (told : Option (List ℕ)) → Stand e
     → f ≡ record e { asserted = placed e.asserted place None }
@@ -133,7 +126,9 @@ claimed-none e f place level told stand is =
       literal_is = refl;
       level_is = tt;
       stays = λ own. stays-at e (record e { asserted = placed e.asserted place None }) place None refl
-          (λ b h. some-none b.literal (own-there (asserted_at e.asserted place) None level b own h).1);
+          (λ b h.
+          some-none b.literal
+          (subst (λ (o : Option Asserted). IfSome o (λ x. (x.level ≡ level) × (Some x.literal ≡ None))) h own).1);
       others = λ other apart. placed-others e.asserted place None other apart;
       gated = stand.gated;
     })
@@ -169,7 +164,8 @@ claimed-new exact e f place a old new stand lacks known number sp sa told is =
       level_is = refl;
       stays = λ own. stays-at e (record e { asserted = placed e.asserted place (Some a) }) place (Some a) refl
           (λ b h.
-          let it = own-there (asserted_at e.asserted place) (Some a.literal) a.level b own h in
+          let it = subst
+          (λ (o : Option Asserted). IfSome o (λ x. (x.level ≡ a.level) × (Some x.literal ≡ Some a.literal))) h own in
           lacks b h (same_Some b.literal a.literal it.1) it.0);
       others = λ other apart. placed-others e.asserted place (Some a) other apart;
       gated = gates-more e.gates e.atoms e.kept (Some (unit_at a)) stand.gated;

@@ -26,7 +26,8 @@ AreKeptUnits kept asserted = (place : ℕ) (a : Asserted) → asserted_at assert
 -- they stay so with one clause more,
 pub units-stay : (kept : Kept) (c : KeptClause) (asserted : List (Option Asserted)) → AreKeptUnits kept asserted
     → AreKeptUnits (kept ++ Some c ∷ []) asserted
-units-stay kept c asserted h = λ place a there. kept-stays kept (Some c) a.clause.0 (unit_at a) (h place a there)
+units-stay kept c asserted h = λ place a there.
+    kept-stays kept (Some c ∷ []) a.clause.0 (unit_at a) (h place a there)
 
 -- and where that is the clause of one more assertion
 pub units-placed : (kept : Kept) (asserted : List (Option Asserted)) (place : ℕ) (a : Asserted)

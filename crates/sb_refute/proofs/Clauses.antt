@@ -1,5 +1,5 @@
 -- Clauses that are kept, with one behind them.
-use Rattle.sb_refute.proofs.Words.{◌≡◌, ℕ, zero, suc, ◌<◌, ◌≤◌, ◌⊎◌, inl, inr, Bool, true, false, nat_lt, if◌then◌else◌, List, [], ◌∷◌, ◌++◌, length, map, take, slice_get, unwrap_or, Option, Some, None, refl, sym, ap, ◌∙◌, arith, and_from, and_parts, none-some, nat_tests, Kept, KeptClause, kept_at, stays_up_to, kept_up_to, are_reserved, has_room_for, is_reserved}
+use Rattle.sb_refute.proofs.Words.{◌≡◌, ℕ, zero, suc, ◌<◌, ◌≤◌, ◌⊎◌, inl, inr, Bool, true, if◌then◌else◌, List, [], ◌∷◌, ◌++◌, length, map, take, slice_get, unwrap_or, Option, Some, None, refl, sym, ap, ◌∙◌, arith, and_from, and_parts, le-ltb, none-some, Kept, KeptClause, kept_at, stays_up_to, kept_up_to, are_reserved, has_room_for, is_reserved}
 
 -- What stands in a list of options.
 
@@ -23,11 +23,11 @@ pub none-kept : (id : ℕ) (c : KeptClause) → kept_at [] id ≡ Some c → ⊥
 none-kept id c h = none-some c (sym (none-at id) ∙ h)
 
 -- what was kept stays
-pub kept-stays : (kept : Kept) (x : Option KeptClause) (id : ℕ) (c : KeptClause) → kept_at kept id ≡ Some c
-    → kept_at (kept ++ x ∷ []) id ≡ Some c
-kept-stays [] x id c h = absurd (none-kept id c h)
-kept-stays (k ∷ ks) x zero c h = h
-kept-stays (k ∷ ks) x (suc id) c h = kept-stays ks x id c h
+pub kept-stays : (kept more : Kept) (id : ℕ) (c : KeptClause) → kept_at kept id ≡ Some c
+    → kept_at (kept ++ more) id ≡ Some c
+kept-stays [] more id c h = absurd (none-kept id c h)
+kept-stays (k ∷ ks) more zero c h = h
+kept-stays (k ∷ ks) more (suc id) c h = kept-stays ks more id c h
 
 -- the last one has the next number
 pub kept-last : (kept : Kept) (x : Option KeptClause) → kept_at (kept ++ x ∷ []) (length kept) ≡ x
@@ -61,27 +61,17 @@ pub room-for-each : (n : ℕ) (kept : Kept)
     → ((id : ℕ) (c : KeptClause) → kept_at kept id ≡ Some c → are_reserved n c.literals ≡ true)
     → has_room_for n kept ≡ true
 room-for-each n [] h = refl
-room-for-each n (x ∷ kept) h =
-    and_from (is_reserved n x) (has_room_for n kept) (first x (h 0)) (room-for-each n kept (λ id. h (suc id)))
-  where
-    first : (x : Option KeptClause) → ((c : KeptClause) → x ≡ Some c → are_reserved n c.literals ≡ true)
-        → is_reserved n x ≡ true
-    first None h = refl
-    first (Some c) h = h c refl
+room-for-each n (None ∷ kept) h = room-for-each n kept (λ id. h (suc id))
+room-for-each n (Some c ∷ kept) h =
+    and_from (are_reserved n c.literals) (has_room_for n kept) (h 0 c refl) (room-for-each n kept (λ id. h (suc id)))
 
 -- Clauses that are dropped: one that is not above the level stays.
-
-low-stays : (level : ℕ) (c : KeptClause) → c.level ≤ level → stays_up_to level (Some c) ≡ Some c
-low-stays level c low = step (nat_lt level c.level) refl
-  where
-    step : (b : Bool) → nat_lt level c.level ≡ b → (if b then None else Some c) ≡ Some c
-    step false is = refl
-    step true is = absurd (grind (arith, nat_tests, low))
 
 pub stays : (level : ℕ) (kept : Kept) (id : ℕ) (c : KeptClause) → kept_at kept id ≡ Some c → c.level ≤ level
     → kept_at (kept_up_to level kept) id ≡ Some c
 stays level [] id c h low = absurd (none-kept id c h)
-stays level (k ∷ ks) zero c h low = ap (stays_up_to level) h ∙ low-stays level c low
+stays level (k ∷ ks) zero c h low =
+    ap (stays_up_to level) h ∙ ap (λ (b : Bool). if b then None else Some c) (le-ltb level c.level low)
 stays level (k ∷ ks) (suc id) c h low = stays level ks id c h low
 
 pub none-stays : (kept : Kept) (id : ℕ) (c : KeptClause) → kept_at (map (λ clause. None) kept) id ≡ Some c → ⊥

@@ -1,5 +1,5 @@
 -- The clauses of gates of an atom speak of the atoms up to it, and their lines follow.
-use Rattle.sb_refute.proofs.Words.{◌≡◌, ◌≢◌, ◌⊎◌, ℕ, zero, suc, ◌+◌, ◌<◌, true, nat_lt, List, [], ◌∷◌, ◌++◌, length, map, take, Option, Result, Ok, Err, All, Contains, inl, inr, refl, sym, ap, subst, ◌∙◌, arith, append_assoc, list_all, and_parts, and_from, false≢true, lt-ltb, ltb-true, map-append, get_or_from_slice_get, slice_get-get_or, IfOk, Lit, are_ascending, Kept, kept_at, are_reserved, Regex, line, AtomOver, bool_atom, in_atom, le_atom, sum_atom, and_atom, iff_atom, AllKept, Asked, with_clause, follows, rule_line, text_of, is_small_literal, RuleLinesAreExact, with_bytes, NameEarlier, over, atoms_in, atom_at, clauses_of, puts_one, Backing, EvidencesUncounted, HasGatesOf, IsOfGates, LeadsAlways, at_bottom, All-nil, All-cons, Atom, names_below, is_gate, GatesAreExact, ascend_form}
+use Rattle.sb_refute.proofs.Words.{◌≡◌, ◌≢◌, ◌⊎◌, ℕ, zero, suc, ◌+◌, ◌<◌, true, nat_lt, List, [], ◌∷◌, ◌++◌, length, map, take, Option, Result, Ok, Err, All, Contains, inl, inr, refl, sym, ap, subst, ◌∙◌, arith, append_assoc, list_all, and_parts, and_from, false≢true, lt-ltb, ltb-true, length-map, map-append, get_or_from_slice_get, slice_get-get_or, IfOk, Lit, are_ascending, Kept, kept_at, are_reserved, Regex, line, AtomOver, bool_atom, in_atom, le_atom, sum_atom, and_atom, iff_atom, AllKept, Asked, with_clause, follows, rule_line, text_of, is_small_literal, RuleLinesAreExact, with_bytes, NameEarlier, over, atoms_in, atom_at, clauses_of, puts_one, Backing, EvidencesUncounted, HasGatesOf, IsOfGates, LeadsAlways, at_bottom, All-nil, All-cons, Atom, names_below, is_gate, GatesAreExact, ascend_form}
 use Rattle.sb_rulebook.specs.Lines as lines
 use Rattle.sb_sound.specs.ClauseLaws.{AreDefined}
 use Rattle.sb_refute.proofs.Backs.{backs-beside, backs-clause, units-stay}
@@ -79,13 +79,9 @@ known-defined rs atoms (m ∷ ms) h l among =
     let p = and_parts (nat_lt m.atom (length atoms)) (are_reserved (length atoms) ms) h in
     elim (cons-cases m ms l among) [
       | inl one ↦ subst (λ (k : Lit). k.atom < length (atoms_in rs atoms)) one
-          (subst (λ n. m.atom < n) (sym (long atoms)) (ltb-true m.atom (length atoms) p.0))
+          (subst (λ n. m.atom < n) (sym (length-map atoms (over rs))) (ltb-true m.atom (length atoms) p.0))
       | inr more ↦ known-defined rs atoms ms p.1 l more
     ]
-  where
-    long : (xs : List (AtomOver ℕ)) → length (atoms_in rs xs) ≡ length xs
-    long [] = refl
-    long (x ∷ xs) = ap suc (long xs)
 
 gate-follows : RuleLinesAreExact → GatesAreExact → (asked : Asked) (kept : AllKept) (rs : List Regex)
     (atoms : List (AtomOver ℕ)) (clause : List Lit) → kept.atoms ≡ atoms_in rs atoms → IsOfGates atoms clause

@@ -31,7 +31,7 @@ pub gates-more : (gates : ℕ) (atoms : List (AtomOver ℕ)) (kept : Kept) (x : 
     → HasGates gates atoms kept → HasGates gates atoms (kept ++ x ∷ [])
 gates-more gates atoms kept x h = λ i low a clause named among.
     let it = h i low a clause named among in
-    (it.0, kept-stays kept x it.0 (record { literals = clause; level = 0 }) it.1)
+    (it.0, kept-stays kept (x ∷ []) it.0 (record { literals = clause; level = 0 }) it.1)
 
 -- With one clause more.
 pub stand-clause : (e : Backing) (clause : KeptClause) → are_reserved (length e.atoms) clause.literals ≡ true

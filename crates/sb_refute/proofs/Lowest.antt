@@ -23,7 +23,7 @@ still-lowest : (kept : Kept) (x : Option KeptClause) (old : EmptyClause) → IsL
     → ((c : KeptClause) → x ≡ Some c → c.literals ≡ [] → old.level ≤ c.level)
     → IsLowestEmpty (kept ++ x ∷ []) (Some old)
 still-lowest kept x old h low = (
-  kept-stays kept x old.clause.0 (empty_at old) h.0,
+  kept-stays kept (x ∷ []) old.clause.0 (empty_at old) h.0,
   λ id c there bare. elim (kept-cases kept x id c there) [
     | inl before ↦ h.1 id c before bare
     | inr last ↦ low c last.1 bare

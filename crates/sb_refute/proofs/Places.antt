@@ -1,5 +1,5 @@
 -- Assertions by their places, with one more.
-use Rattle.sb_refute.proofs.Words.{◌≡◌, ◌≢◌, ℕ, zero, suc, ◌-◌, ◌<◌, ◌≤◌, ◌⊎◌, inl, inr, Bool, true, false, nat_eq, List, [], ◌∷◌, ◌++◌, length, take, set, Option, Some, None, refl, sym, ap, ap₂, ◌∙◌, arith, replicate, nat_tests, Asserted, asserted_at, placed}
+use Rattle.sb_refute.proofs.Words.{◌≡◌, ◌≢◌, ℕ, zero, suc, ◌-◌, ◌<◌, ◌≤◌, ◌⊎◌, inl, inr, Bool, true, false, nat_eq, List, [], ◌∷◌, ◌++◌, length, take, set, Option, Some, None, refl, sym, ap, ap₂, ◌∙◌, arith, replicate, take-nil, nat_tests, Asserted, asserted_at, placed}
 use Rattle.sb_refute.proofs.Clauses.{none-at}
 
 abbrev Places : Type 0
@@ -46,12 +46,8 @@ set-placed (x ∷ xs) (suc n) a h = ap (λ ys. x ∷ ys) (set-placed xs n a (ome
 pub filled-placed : (xs : Places) (n : ℕ) (a : Option Asserted) → length xs ≤ n
     → (take n xs ++ replicate (n - length xs) None) ++ a ∷ [] ≡ placed xs n a
 filled-placed [] n a h =
-    ap₂ (λ (ys : Places) k. (ys ++ replicate k None) ++ a ∷ []) (nothing n) (omega arith) ∙ filled n
+    ap₂ (λ (ys : Places) k. (ys ++ replicate k None) ++ a ∷ []) (take-nil n) (omega arith) ∙ filled n
   where
-    nothing : (n : ℕ) → ◌≡◌ {A = Places} (take n []) []
-    nothing zero = refl
-    nothing (suc n) = refl
-
     filled : (n : ℕ) → replicate n None ++ a ∷ [] ≡ placed [] n a
     filled zero = refl
     filled (suc n) = ap (λ ys. None ∷ ys) (filled n)

@@ -4,11 +4,9 @@ ghost use Rattle.std.specs.Prelude.{◌≡◌, ◌≢◌, ◌<◌, ◌∷◌, �
 ghost use Rattle.sb_lit.specs.Kept.{kept_at};
 ghost use Rattle.sb_clauses.specs.Propagation.{are_reserved, has_room_for};
 ghost use Rattle.sb_lang.specs.Regex.{Regex};
-ghost use Rattle.sb_regex.specs.Numbered as regex;
 ghost use Rattle.sb_deriv.specs.Faithful.{Memo};
 ghost use Rattle.sb_term.specs.Numbered.{term_at};
-ghost use Rattle.sb_problem.specs.Known.{AreNormals};
-ghost use Rattle.sb_fragment.specs.Measures.{AreMeasures};
+ghost use Rattle.sb_store.specs.Stores.{Grows, IsStoreOf};
 ghost use Rattle.sb_rulebook.specs.Kept.{AllKept, Asked, nothing_kept, dropped_above, all_dropped};
 ghost use Rattle.sb_atoms.specs.Numbered.{atoms_in, HaveRegexesBelow, Extends};
 ghost use Rattle.sb_atoms.specs.Translated.{brought_translation, HasNoLiteral};
@@ -21,13 +19,12 @@ ghost use Rattle.sb_refute.specs.Standing.{Stand};
 use crate::defining::{define_atoms, put_line};
 use sb_atoms::Atoms;
 use sb_clauses::{Clauses, Engine};
-use sb_fragment::Measures;
 use sb_lit::{Clause, ClauseId, Lit};
-use sb_problem::Normals;
 use sb_proof::{Line, Tape, TapeFault};
 use sb_regex::Arena;
 use sb_search::Choices;
 use sb_sound::clauses::assertion_lines_are_exact;
+use sb_store::{Store, regexes_grow};
 use sb_term::{Table, TermId};
 use sb_trace::Trace;
 use std::alloc::{AllocError, Global};
@@ -207,47 +204,49 @@ impl Evidence {
     /// error the tape may have a line of which nothing is known here, so nothing more may be put.
     pub fn statement<L: Tape>(
         &mut self,
-        measures: &mut Measures,
-        normals: &mut Normals,
+        store: &mut Store,
         table: &Table,
-        arena: &mut Arena,
         place: usize,
         term: TermId,
         level: u64,
         tape: &mut L,
     ) -> Result<Option<Asserted>, TapeFault>
         requires number { term < length table.now }
-        requires right { AreMeasures table.now measures.old }
-        requires normals { AreNormals table.now arena.old normals.old }
-        requires regexes { HaveRegexesBelow (length arena.old) self.old.atoms }
+        requires store { IsStoreOf table.now store.old }
+        requires regexes { HaveRegexesBelow (length store.old.arena) self.old.atoms }
         ensures puts { OnOk result ((asked : Asked) (memo : Memo) (before : AllKept)
-            → Backs arena.old memo self.old before → IsStatement asked place (term_at table.now term) level
-            → EvidencesUncounted asked before arena.new memo self.new (L.Tape.told tape.old) (L.Tape.told tape.new)) }
+            → Backs store.old.arena memo self.old before → IsStatement asked place (term_at table.now term) level
+            → EvidencesUncounted asked before store.new.arena memo self.new (L.Tape.told tape.old)
+            (L.Tape.told tape.new)) }
         ensures asserted { IfOk result (λ found. found ≡ asserted_at self.new.asserted place) }
         ensures literal { IfOk result (λ found. option_map (λ a. a.literal) found
-            ≡ brought_translation (atoms_in arena.new self.new.atoms) (term_at table.now term)) }
+            ≡ brought_translation (atoms_in store.new.arena self.new.atoms) (term_at table.now term)) }
         ensures level { IfOk result (λ found. IfSome found (λ a. a.level ≡ level)) }
         ensures none { IfOk result (λ found. found ≡ None → HasNoLiteral (term_at table.now term)) }
         ensures gates { OnOk result (HasGates (length self.new.atoms) self.new.atoms self.new.kept) }
         ensures stays { OnOk result (IfSome (asserted_at self.old.asserted place) (λ a. (a.level ≡ level)
-            × (Some a.literal ≡ brought_translation (atoms_in arena.new self.new.atoms) (term_at table.now term)))
+            × (Some a.literal ≡ brought_translation (atoms_in store.new.arena self.new.atoms) (term_at table.now term)))
             → KeepsAsserted self.old self.new) }
         ensures others { OnOk result ((other : ℕ) → other ≢ place
             → asserted_at self.new.asserted other ≡ asserted_at self.old.asserted other) }
         ensures numbers_stay { StaysNumbered self.old.trace self.new.trace }
         ensures extends { Extends self.old.atoms self.new.atoms }
-        ensures regexes { HaveRegexesBelow (length arena.new) self.new.atoms }
-        ensures right { AreMeasures table.now measures.new }
-        ensures normals { AreNormals table.now arena.new normals.new }
-        ensures arena { regex.Extends arena.old arena.new }
+        ensures regexes { HaveRegexesBelow (length store.new.arena) self.new.atoms }
+        ensures store { Grows table.now store.old store.new }
+        ensures graph { store.new.graph ≡ store.old.graph }
         ensures counts { CountsTapeFault result (L.Tape.faults tape.old) (L.Tape.faults tape.new) }
     {
+        regexes_grow();
         let parts = &mut self.parts;
         let known = parts.atoms.len();
-        let found = parts
-            .atoms
-            .translate(measures, normals, table, arena, term)?;
-        self.lines(arena, known, place, found, level, tape)
+        let found = parts.atoms.translate(
+            &mut store.measures,
+            &mut store.normals,
+            table,
+            &mut store.arena,
+            term,
+        )?;
+        self.lines(&store.arena, known, place, found, level, tape)
     }
 
     /// The clause of the assertion at a place, whose literal and level these are. Puts the lines of the atoms from this

@@ -11,8 +11,8 @@ use sb_trail::{CompactLit, Entry, Trail};
 use std::alloc::{AllocError, Global};
 
 /// Which atom is decided next, and how: of the wanted atoms without a value the one that was met most in conflicts of
-/// late, as a hint says, or else as it was last. How often an atom was met, and the value that it had last, stay from
-/// search to search. No answer rests on it.
+/// late, as a hint says, or else as it was where levels were taken back last. How often an atom was met, and that value,
+/// stay from search to search. No answer rests on it.
 #[derive(Drop)]
 pub struct Choices {
     /// The wanted atoms that wait: all that have no value, and some that have one.
@@ -101,20 +101,6 @@ impl Choices {
         if is_marked(&self.wanted, literal.atom, self.search) {
             self.phases.save(literal.atom, literal.positive);
             self.order.insert(literal.atom);
-        }
-    }
-
-    /// A search ends: its wanted atoms had these values last. Takes no memory.
-    pub(crate) fn end(&mut self, entries: &[Entry]) {
-        for entry in entries {
-            self.save(entry.literal());
-        }
-    }
-
-    /// The value that an atom had last.
-    fn save(&mut self, literal: Lit) {
-        if is_marked(&self.wanted, literal.atom, self.search) {
-            self.phases.save(literal.atom, literal.positive);
         }
     }
 

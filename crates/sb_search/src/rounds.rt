@@ -41,9 +41,9 @@ use std::mem;
 /// What is kept behind the clauses that were there follows from them and from what the theory teaches, level by level.
 /// So the clause of an `Unsat` refutes the assumptions.
 ///
-/// How the atoms were met in conflicts, and which value each had last, stay in the choices, for the next search. Beside
-/// what is propagated and the turns, the time is linear in the wanted atoms and in the atoms that are new to the engine or
-/// to the choices.
+/// How the atoms were met in conflicts, and the value that each lost last, stay in the choices, for the next search.
+/// Beside what is propagated and the turns, the time is linear in the wanted atoms and in the atoms that are new to the
+/// engine or to the choices.
 ///
 /// After an error nothing is said of the clauses and the trail, and the choices may be new ones. `NoMemory` only for want
 /// of memory.
@@ -88,7 +88,6 @@ pub fn search<T: Theory, L: Tape>(
         restarts: Restarts::new(),
     };
     let found = run(alloc, theory, engine, &mut stage, assumptions, tape, budget)?;
-    stage.choices.end(engine.trail().literals());
     drop(mem::replace(choices, stage.choices));
     Ok(found)
 }

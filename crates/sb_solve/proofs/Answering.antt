@@ -1,5 +1,5 @@
 -- What a check comes to, by the clauses that were put, the search and its end.
-use Rattle.sb_solve.proofs.Words.{◌≡◌, ℕ, ◌<◌, Bool, true, false, List, [], ◌∷◌, length, Option, refl, sym, ap, subst, ◌∙◌, arith, list_all, false≢true, ltb-true, slice_get-get_or, Lit, Spending, Kept, Regex, held, HasNoneFalse, Memo, Findings, Memory, live, asked_in, AtomOver, bool_atom, AllKept, Asked, AreTerms, FollowsByRule, LineStaysSound, CountedAgainStaysSound, Stacked, state_of, atom_at, clauses_of, atoms_in, atoms_kept, earlier_table, IsCounted, puts_both, Backing, Backs, Evidences, HasGates, GrowsTo, is_atom, AreWanted, is_in, AreKept, IsKept, IsDecided, AreLiterals, IsAnswered, terms_at, Answers, IsDone, IsNumbered, IsValuedBy, AreOfLevels, IsSolved, AreStated, IsTrue, Solved, Contains}
+use Rattle.sb_solve.proofs.Words.{◌≡◌, ℕ, ◌<◌, Bool, true, false, List, [], ◌∷◌, length, Option, refl, sym, ap, subst, ◌∙◌, arith, list_all, false≢true, ltb-true, slice_get-get_or, Lit, Spending, Kept, held, HasNoneFalse, live, asked_in, AtomOver, bool_atom, AllKept, Asked, AreTerms, FollowsByRule, LineStaysSound, CountedAgainStaysSound, Stacked, Store, state_of, atom_at, clauses_of, atoms_in, atoms_kept, earlier_table, IsCounted, puts_both, Backing, Backs, Evidences, HasGates, GrowsTo, is_atom, AreWanted, is_in, AreKept, IsKept, IsDecided, AreLiterals, IsAnswered, terms_at, Answers, IsDone, IsNumbered, IsValuedBy, AreOfLevels, IsSolved, AreStated, IsTrue, Solved, Contains}
 use Rattle.sb_solve.specs.declared.check.Solved.TheVariants as solved
 use Rattle.sb_solve.proofs.Deciding.{all_in}
 use Rattle.sb_solve.proofs.Ended.{kept_grown}
@@ -41,17 +41,17 @@ gated atoms old kept (l ∷ ls) wanted grows gates are known i there =
     below = ltb-true i (length atoms) (all_in (is_atom atoms) wanted i known there)
 
 -- The literals are those of the assertions at some places, whose clauses are kept, and a search was made over these.
-module _ (s : Stacked) (places : List ℕ) (rs mid more : List Regex) (memo : Memo) (e f k : Backing)
-    (told between new : Option (List ℕ)) (literals : List Lit) (proves : Bool) (before after : Spending) (g : Findings)
-    (m : Memory) (solution : Solved) (stated : AreStated s places rs mid e f told between literals)
-    (done : IsDone s literals proves mid memo f before between more g m k after new solution) where
+module _ (s : Stacked) (places : List ℕ) (x y z : Store) (e f k : Backing) (told between new : Option (List ℕ))
+    (literals : List Lit) (proves : Bool) (before after : Spending) (solution : Solved)
+    (stated : AreStated s places x y e f told between literals)
+    (done : IsDone s literals proves y f before between z k after new solution) where
   abbrev asked : Asked
   asked = asked_in (state_of s)
 
-  pub puts : proves ≡ true → (start : AllKept) → Backs rs memo e start → IsCounted asked start before
-      → Evidences asked start more g.memo k after told new
+  pub puts : proves ≡ true → (start : AllKept) → Backs x.arena x.graph.memo e start → IsCounted asked start before
+      → Evidences asked start z.arena z.graph.memo k after told new
   puts on start b counted =
-      let p = stated.puts memo start b in
+      let p = stated.puts start b in
       let q = done.searched.puts on asked p.after p.backs
       (record { spent = p.counted ∙ counted.spent; limit = counted.limit }) in
       record {
@@ -63,13 +63,12 @@ module _ (s : Stacked) (places : List ℕ) (rs mid more : List Regex) (memo : Me
 
   -- what is true, where the search puts no lines
   pub sound : FollowsByRule → LineStaysSound → CountedAgainStaysSound → proves ≡ false → AreTerms asked
-      → IsTrue asked rs memo e → IsTrue asked more g.memo k
+      → IsTrue asked x.arena x.graph.memo e → IsTrue asked z.arena z.graph.memo k
   sound rule line again off terms t =
-      let p = stated.puts memo t.kept t.backs in
-      let h = done.searched in
-      true-following asked mid more memo g.memo f k (h.silent off) h.atoms h.asserted h.kept h.known h.follows h.extends
-      h.derivatives stated.regexes
-      (true-behind rule line again asked rs mid memo memo e f terms t p.after told between p.puts p.backs)
+      let p = stated.puts t.kept t.backs in
+      true-following asked proves y z f k before after between new off done.searched stated.regexes
+      (true-behind rule line again asked x.arena y.arena x.graph.memo y.graph.memo e f terms t p.after told between
+      p.puts p.backs)
 
   pub levels : AreOfLevels asked.live e.asserted k.asserted
   levels = subst (AreOfLevels asked.live e.asserted) (sym done.searched.asserted) stated.levels
@@ -79,17 +78,17 @@ module _ (s : Stacked) (places : List ℕ) (rs mid more : List Regex) (memo : Me
   wanted_atoms : list_all (is_atom f.atoms) done.wanted ≡ true
   wanted_atoms =
       done.among [] (earlier_table [] f.atoms done.stand.earlier)
-      (are_of_table s mid f f.atoms
+      (are_of_table s y.arena f f.atoms
       (λ place l one. subst (λ (n : Lit). n.atom < length f.atoms) one.literal
       (done.stand.of_atoms place one.clause one.there)) places literals stated.all)
 
-  literals_there : (start : AllKept) → Backs rs memo e start
-      → AreLiterals (atoms_in more k.atoms) k.kept (terms_at (live (state_of s)) places) literals
+  literals_there : (start : AllKept) → Backs x.arena x.graph.memo e start
+      → AreLiterals (atoms_in z.arena k.atoms) k.kept (terms_at (live (state_of s)) places) literals
   literals_there start b =
-      let behind = stated.puts memo start b in
-      let same = ap (atoms_in more) done.searched.atoms
-      ∙ atoms_kept mid more f.atoms done.searched.extends stated.regexes in
-      are_literals s mid f (atoms_in more k.atoms) k.kept
+      let behind = stated.puts start b in
+      let same = ap (atoms_in z.arena) done.searched.atoms
+      ∙ atoms_kept y.arena z.arena f.atoms done.searched.store.extends stated.regexes in
+      are_literals s y.arena f (atoms_in z.arena k.atoms) k.kept
       (λ place l one. (
         one.term,
         one.stands,
@@ -107,14 +106,14 @@ module _ (s : Stacked) (places : List ℕ) (rs mid more : List Regex) (memo : Me
       )) places literals stated.all
 
   answered : (words : List (Option (List ℕ))) (truths : List Bool)
-      → (v : IsValuedBy s more k.atoms k.kept done.wanted words truths) → (start : AllKept) → Backs rs memo e start
-      → AreTerms asked
-      → IsAnswered more k.atoms done.wanted literals k.kept v.search.trail.literals v.theory places (state_of s)
+      → (v : IsValuedBy s z.arena k.atoms k.kept done.wanted words truths) → (start : AllKept)
+      → Backs x.arena x.graph.memo e start → AreTerms asked
+      → IsAnswered z.arena k.atoms done.wanted literals k.kept v.search.trail.literals v.theory places (state_of s)
   answered words truths v start b terms = record {
-    decided = subst (λ (ts : List (AtomOver ℕ)). IsDecided more ts done.wanted k.kept v.search.trail.literals)
+    decided = subst (λ (ts : List (AtomOver ℕ)). IsDecided z.arena ts done.wanted k.kept v.search.trail.literals)
         (sym done.searched.atoms)
         (record {
-          table = earlier_table more f.atoms done.stand.earlier;
+          table = earlier_table z.arena f.atoms done.stand.earlier;
           distinct = done.distinct;
           known = wanted_atoms;
           closed = done.closed.closed;
@@ -131,17 +130,17 @@ module _ (s : Stacked) (places : List ℕ) (rs mid more : List Regex) (memo : Me
     terms = terms;
   }
 
-  by_kind : (found a : Solved) → Answers s more k.atoms k.kept done.wanted after found → IsNumbered k.refuted found a
-      → IsSolved s places rs memo e k after a
+  by_kind : (found a : Solved) → Answers s z.arena k.atoms k.kept done.wanted after found
+      → IsNumbered k.refuted found a → IsSolved s places x.arena x.graph.memo e k after a
   by_kind (solved.Sat words truths) a v is =
-      subst (λ (x : Solved). IsSolved s places rs memo e k after x) (sym is) (record {
+      subst (IsSolved s places x.arena x.graph.memo e k after) (sym is) (record {
         characters = v.model.characters;
         given = λ start b terms.
             v.model.given places literals k.kept (answered words.items truths.items v start b terms);
       })
   by_kind (solved.Unsat id) a core is =
-      subst (λ (x : Solved). IsSolved s places rs memo e k after x) (sym is.2) (is.0, is.1, refl)
-  by_kind solved.Spent a spent is = subst (λ (x : Solved). IsSolved s places rs memo e k after x) (sym is) spent
+      subst (IsSolved s places x.arena x.graph.memo e k after) (sym is.2) (is.0, is.1, refl)
+  by_kind solved.Spent a spent is = subst (IsSolved s places x.arena x.graph.memo e k after) (sym is) spent
 
-  pub answer : IsSolved s places rs memo e k after solution
+  pub answer : IsSolved s places x.arena x.graph.memo e k after solution
   answer = by_kind done.found solution done.answers done.is_numbered

@@ -1,43 +1,33 @@
 -- What a search leaves, and what comes of it.
-use Rattle.sb_solve.proofs.Words.{◌≡◌, ℕ, zero, suc, Bool, true, List, [], ◌∷◌, ◌++◌, length, take, Option, Some, None, refl, sym, ap, subst, ◌∙◌, take-append_seam, Asserted, false≢true, Global, Vec, Lit, Spending, Kept, KeptClause, kept_at, Regex, has_room_for, Findings, AtomOver, Stacked, AreDistinct, Backing, IsLowestEmpty, unit_at, Stand, each-reserved, room-for-each, stand-traced, FollowsByLevel, GrowsTo, HaveAtoms, IsValid, IsTaught, AreWanted, AreAmong, AreTaken, Answers, HasCore, IsDone, IsNumbered, IsSearched, Runs, backing_in, Solved, State, IsKeptCore, are_negated, Traced, EmptyClause, written, Strings, Tables, Choices}
+use Rattle.sb_solve.proofs.Words.{◌≡◌, ℕ, Bool, true, List, [], ◌∷◌, length, take, Option, Some, None, refl, sym, ap, subst, ◌∙◌, take-append_seam, Asserted, false≢true, Global, Vec, Lit, Spending, Kept, KeptClause, kept_at, Regex, has_room_for, AtomOver, Stacked, Store, AreDistinct, Backing, IsLowestEmpty, unit_at, Stand, each-reserved, kept-stays, room-for-each, stand-traced, FollowsByLevel, GrowsTo, HaveAtoms, IsValid, IsTaught, AreWanted, AreAmong, AreTaken, Answers, HasCore, IsDone, IsNumbered, IsSearched, Runs, backing_in, Solved, State, IsKeptCore, are_negated, Traced, EmptyClause, written, Strings, Tables, Choices}
 use Rattle.sb_theory.specs.Strings as theory
 use Rattle.sb_solve.specs.declared.check.Solved.TheVariants as solved
 
 -- Kept clauses.
 
-pub kept_more : (old more : Kept) (id : ℕ) (clause : KeptClause) → kept_at old id ≡ Some clause
-    → kept_at (old ++ more) id ≡ Some clause
-kept_more [] more zero clause h = absurd (Prim.cc (h))
-kept_more [] more (suc id) clause h = absurd (Prim.cc (h))
-kept_more (x ∷ old) more zero clause h = h
-kept_more (x ∷ old) more (suc id) clause h = kept_more old more id clause h
-
 pub kept_grown : (old new : Kept) (id : ℕ) (clause : KeptClause) → GrowsTo old new → kept_at old id ≡ Some clause
     → kept_at new id ≡ Some clause
 kept_grown old new id clause g h =
-    subst (λ (kept : Kept). kept_at kept id ≡ Some clause) (sym g.1) (kept_more old g.0 id clause h)
+    subst (λ (kept : Kept). kept_at kept id ≡ Some clause) (sym g.1) (kept-stays old g.0 id clause h)
 
 -- The search.
 
 searched_over : (b : Tables) (y : Strings) (z : State) (before after : Spending) (old new : Option (List ℕ))
     (refuted : Option EmptyClause) → has_room_for (length b.strings.atoms) b.engine.kept ≡ true
     → theory.Stands y z.trail.literals → GrowsTo b.engine.kept z.kept
-    → FollowsByLevel (IsValid y.arena y.atoms) b.engine.kept z.kept
+    → FollowsByLevel (IsValid y.store.arena y.atoms) b.engine.kept z.kept
     → theory.Writes b.strings y (written b.engine.kept before old) (written z.kept after new)
-    → IsSearched b.strings.proves b.strings.arena b.strings.graph.memo (backing_in b) before old y.arena y.graph y.plain
+    → IsSearched b.strings.proves b.strings.store (backing_in b) before old y.store
     (record (backing_in b) { trace = y.trace; atoms = y.atoms; kept = z.kept; refuted = refuted }) after new
 searched_over b y z before after old new refuted room stands grows follows writes = record {
-  graph = stands.holds.graph;
-  plain = stands.holds.plain;
-  extends = writes.extends;
-  derivatives = writes.derivatives;
+  store = writes.store;
   regexes = stands.holds.regexes;
   atoms = writes.atoms;
   asserted = refl;
   kept = grows;
   known = subst (λ (ts : List (AtomOver ℕ)). HaveAtoms ts z.kept) writes.atoms (writes.known have);
-  follows = subst (λ (ts : List (AtomOver ℕ)). FollowsByLevel (IsValid y.arena ts) b.engine.kept z.kept) writes.atoms
-      follows;
+  follows = subst (λ (ts : List (AtomOver ℕ)). FollowsByLevel (IsValid y.store.arena ts) b.engine.kept z.kept)
+      writes.atoms follows;
   silent = writes.silent;
   puts = λ on asked kept e counted.
       let start : theory.Backs asked b.strings kept (written b.engine.kept before old) =
@@ -65,15 +55,15 @@ pub runs_to : (s : Stacked) (b c : Tables) (y : Strings) (z : State) (choices : 
     (words : Vec (Option (List ℕ)) Global) (before after : Spending) (old new : Option (List ℕ)) (answer : Solved)
     → c ≡ record b { strings = record y { words = words }; engine = z; choices = choices } → y.wanted ≡ b.strings.wanted
     → has_room_for (length b.strings.atoms) b.engine.kept ≡ true → theory.Stands y z.trail.literals
-    → GrowsTo b.engine.kept z.kept → FollowsByLevel (IsTaught y.arena y.atoms y.wanted) b.engine.kept z.kept
+    → GrowsTo b.engine.kept z.kept → FollowsByLevel (IsTaught y.store.arena y.atoms y.wanted) b.engine.kept z.kept
     → theory.Writes b.strings y (written b.engine.kept before old) (written z.kept after new)
-    → Answers s y.arena y.atoms z.kept y.wanted after answer → Runs s b before old c after new answer
+    → Answers s y.store.arena y.atoms z.kept y.wanted after answer → Runs s b before old c after new answer
 runs_to s b c y z choices words before after old new answer is same room stands grows follows writes answers =
     subst (λ (t : Tables). Runs s b before old t after new answer) (sym is) (record {
       searched = λ refuted.
           searched_over b y z before after old new refuted room stands grows
           (λ level values obeys. follows level values (λ clause taught. obeys clause taught.1)) writes;
-      answers = subst (λ (ns : List ℕ). Answers s y.arena y.atoms z.kept ns after answer) same answers;
+      answers = subst (λ (ns : List ℕ). Answers s y.store.arena y.atoms z.kept ns after answer) same answers;
       refuted_stays = refl;
       gates_stay = refl;
       first_stays = refl;
@@ -88,22 +78,17 @@ same_backing t ts us ks js xs ys q r n m atoms kept asserted refuted gates = cc
 
 -- What comes of it, over tables that were taken.
 
-module _ (s : Stacked) (rs : List Regex) (g : Findings) (e : Backing) (wanted : List ℕ) (proves : Bool) (b c : Tables)
-    (before after : Spending) (old new : Option (List ℕ)) (found : Solved) (taken : AreTaken rs g e wanted proves b)
+module _ (s : Stacked) (x : Store) (e : Backing) (wanted : List ℕ) (proves : Bool) (b c : Tables)
+    (before after : Spending) (old new : Option (List ℕ)) (found : Solved) (taken : AreTaken x e wanted proves b)
     (runs : Runs s b before old c after new found) where
-  searched : (refuted : Option EmptyClause) → IsSearched proves rs g.memo e before old c.strings.arena c.strings.graph
-      c.strings.plain (record (backing_in c) { refuted = refuted }) after new
+  searched : (refuted : Option EmptyClause) → IsSearched proves x e before old c.strings.store
+      (record (backing_in c) { refuted = refuted }) after new
   searched refuted =
       let f = record (backing_in c) { refuted = refuted } in
-      subst (λ (on : Bool). IsSearched on rs g.memo e before old c.strings.arena c.strings.graph c.strings.plain f after
-      new)
-      taken.proves
-      (subst (λ (xs : List Regex). IsSearched b.strings.proves xs g.memo e before old c.strings.arena c.strings.graph
-      c.strings.plain f after new) taken.arena
-      (subst (λ (h : Findings). IsSearched b.strings.proves b.strings.arena h.memo e before old c.strings.arena
-      c.strings.graph c.strings.plain f after new) taken.graph
-      (subst (λ (d : Backing). IsSearched b.strings.proves b.strings.arena b.strings.graph.memo d before old
-      c.strings.arena c.strings.graph c.strings.plain f after new) taken.backing (runs.searched refuted))))
+      subst (λ (on : Bool). IsSearched on x e before old c.strings.store f after new) taken.proves
+      (subst (λ (y : Store). IsSearched b.strings.proves y e before old c.strings.store f after new) taken.store
+      (subst (λ (d : Backing). IsSearched b.strings.proves b.strings.store d before old c.strings.store f after new)
+      taken.backing (runs.searched refuted)))
 
   pub room_left : has_room_for (length c.strings.atoms) c.engine.kept ≡ true
   room_left =
@@ -127,20 +112,19 @@ module _ (s : Stacked) (rs : List Regex) (g : Findings) (e : Backing) (wanted : 
   pub done : (literals : List Lit) (f : Backing) (solution : Solved) → AreDistinct e.atoms
       → AreWanted e.atoms literals wanted → AreAmong e.atoms literals wanted
       → f ≡ record (backing_in c) { refuted = f.refuted } → IsNumbered f.refuted found solution
-      → IsDone s literals proves rs g.memo e before old c.strings.arena c.strings.graph c.strings.plain f after new
-      solution
+      → IsDone s literals proves x e before old c.strings.store f after new solution
   done literals f solution distinct closed among is number = record {
     stand = taken.stand;
-    searched = subst (λ (d : Backing). IsSearched proves rs g.memo e before old c.strings.arena c.strings.graph
-        c.strings.plain d after new) (sym is) (searched f.refuted);
+    searched = subst (λ (d : Backing). IsSearched proves x e before old c.strings.store d after new) (sym is)
+        (searched f.refuted);
     wanted = wanted;
     distinct = distinct;
     closed = closed;
     among = among;
     found = found;
-    answers = subst (λ (d : Backing). Answers s c.strings.arena d.atoms d.kept wanted after found) (sym is)
-        (subst (λ (ns : List ℕ). Answers s c.strings.arena c.strings.atoms c.engine.kept ns after found) taken.wanted
-        runs.answers);
+    answers = subst (λ (d : Backing). Answers s c.strings.store.arena d.atoms d.kept wanted after found) (sym is)
+        (subst (λ (ns : List ℕ). Answers s c.strings.store.arena c.strings.atoms c.engine.kept ns after found)
+        taken.wanted runs.answers);
     is_numbered = number;
   }
 

@@ -1,15 +1,15 @@
 -- The clauses of live assertions, one behind the other.
-use Rattle.sb_solve.proofs.Words.{◌≡◌, ◌≢◌, ◌⊎◌, inl, inr, ℕ, ◌<◌, Bool, true, false, nat_eq, List, [], ◌∷◌, ◌++◌, length, slice_get, Option, Some, refl, sym, ap, subst, ◌∙◌, arith, and_from, lt-ltb, same_Some, Lit, Kept, Regex, Extends, extends_more, Term, Assertion, asserted, live, asked_in, Atom, AtomOver, translation, Stacked, state_of, HaveRegexesBelow, atoms_in, atoms_kept, atoms_more, is_atom, are_atoms, Asserted, Backing, asserted_at, leads-none, uncounted-both, IsLiteral, AreLiterals, term_onto, terms_at, AreOfLevels, level_at, IsStated, States, AllStated, AreStated, nat_tests, extends_same, TranslationStays}
+use Rattle.sb_solve.proofs.Words.{◌≡◌, ◌≢◌, ◌⊎◌, inl, inr, ℕ, ◌<◌, Bool, true, false, nat_eq, List, [], ◌∷◌, ◌++◌, length, slice_get, Option, Some, refl, sym, ap, subst, ◌∙◌, arith, and_from, lt-ltb, same_Some, Lit, Kept, Regex, Extends, grows_both, grows_same, Term, Assertion, asserted, live, asked_in, Atom, AtomOver, translation, Stacked, state_of, HaveRegexesBelow, atoms_in, atoms_kept, atoms_more, is_atom, are_atoms, Asserted, Backing, asserted_at, leads-none, uncounted-both, IsLiteral, AreLiterals, term_onto, terms_at, AreOfLevels, level_at, IsStated, States, AllStated, AreStated, Store, nat_tests, TranslationStays}
 use Rattle.sb_atoms.specs.Numbered as table
 use Rattle.sb_solve.proofs.LiveRows.{same_term}
 
 -- One behind the other.
 
-pub stated_none : (s : Stacked) (rs : List Regex) (e : Backing) (told : Option (List ℕ))
-    → HaveRegexesBelow (length rs) e.atoms → AreStated s [] rs rs e e told told []
-stated_none s rs e told below = record {
-  puts = λ memo before b. leads-none (asked_in (state_of s)) rs memo e told before b;
-  extends = extends_same rs;
+pub stated_none : (s : Stacked) (x : Store) (e : Backing) (told : Option (List ℕ))
+    → HaveRegexesBelow (length x.arena) e.atoms → AreStated s [] x x e e told told []
+stated_none s x e told below = record {
+  puts = leads-none (asked_in (state_of s)) x.arena x.graph.memo e told;
+  store = grows_same s.table x;
   regexes = below;
   levels = λ place a h. inl h;
   gates = λ some. absurd (omega (arith, some));
@@ -28,22 +28,23 @@ translates_still stays rs more old new t l grows below atoms h =
         ∙ ap (λ ts. ts ++ atoms_in more atoms.more) (atoms_kept rs more old grows below)
 
 -- an assertion that was stated stays so, also where it is stated again
-stated_still : TranslationStays → (s : Stacked) (place other : ℕ) (l m : Lit) (mid more : List Regex) (f g : Backing)
-    (told new : Option (List ℕ)) → States s place mid more f g told new m → IsStated s mid f other l
-    → IsStated s more g other l
-stated_still stays s place other l m mid more f g told new h was = step (nat_eq other place) refl
+stated_still : TranslationStays → (s : Stacked) (place other : ℕ) (l m : Lit) (y z : Store) (f g : Backing)
+    (told new : Option (List ℕ)) → States s place y z f g told new m → IsStated s y.arena f other l
+    → IsStated s z.arena g other l
+stated_still stays s place other l m y z f g told new h was = step (nat_eq other place) refl
   where
-    still : translation (atoms_in more g.atoms) was.term ≡ Some l
-    still = translates_still stays mid more f.atoms g.atoms was.term l h.extends h.below h.atoms was.translates
+    still : translation (atoms_in z.arena g.atoms) was.term ≡ Some l
+    still = translates_still stays y.arena z.arena f.atoms g.atoms was.term l h.store.extends h.below h.atoms
+        was.translates
 
-    again : other ≡ place → IsStated s more g other l
+    again : other ≡ place → IsStated s z.arena g other l
     again same =
         let now = h.stated in
         let term : now.term ≡ was.term = same_term now.term was.term
         (same_Some (asserted now.term) (asserted was.term)
         (sym now.stands ∙ ap (slice_get (live (state_of s))) (sym same) ∙ was.stands)) in
         let literal : m ≡ l = same_Some m l
-        (sym now.translates ∙ ap (translation (atoms_in more g.atoms)) term ∙ still) in
+        (sym now.translates ∙ ap (translation (atoms_in z.arena g.atoms)) term ∙ still) in
         record {
           term = was.term;
           stands = was.stands;
@@ -53,7 +54,7 @@ stated_still stays s place other l m mid more f g told new h was = step (nat_eq 
           literal = now.literal ∙ literal;
         }
 
-    step : (b : Bool) → nat_eq other place ≡ b → IsStated s more g other l
+    step : (b : Bool) → nat_eq other place ≡ b → IsStated s z.arena g other l
     step true is = let same : other ≡ place = grind (arith, nat_tests) in again same
     step false is =
         let apart : other ≢ place = grind (arith, nat_tests) in
@@ -93,21 +94,20 @@ levels_both live place e f g h others here = λ other a found. step other a foun
         let apart : other ≢ place = grind (arith, nat_tests) in
         h other a (sym (others other apart) ∙ found)
 
-pub stated_more : TranslationStays → (s : Stacked) (places : List ℕ) (rs mid more : List Regex) (e f g : Backing)
-    (old told new : Option (List ℕ)) (ls : List Lit) (place : ℕ) (l : Lit)
-    → AreStated s places rs mid e f old told ls → States s place mid more f g told new l
-    → AreStated s (places ++ place ∷ []) rs more e g old new (ls ++ l ∷ [])
-stated_more stays s places rs mid more e f g old told new ls place l h one = record {
-  puts = λ memo before b.
-      uncounted-both (asked_in (state_of s)) before mid more memo f g old told new (h.puts memo before b)
-      (λ after c. one.puts memo after c);
-  extends = extends_more rs mid more h.extends one.extends;
+pub stated_more : TranslationStays → (s : Stacked) (places : List ℕ) (x y z : Store) (e f g : Backing)
+    (old told new : Option (List ℕ)) (ls : List Lit) (place : ℕ) (l : Lit) → AreStated s places x y e f old told ls
+    → States s place y z f g told new l → AreStated s (places ++ place ∷ []) x z e g old new (ls ++ l ∷ [])
+stated_more stays s places x y z e f g old told new ls place l h one = record {
+  puts = λ before b.
+      uncounted-both (asked_in (state_of s)) before y.arena z.arena y.graph.memo z.graph.memo f g old told new
+      (h.puts before b) one.puts;
+  store = grows_both s.table x y z h.store one.store;
   regexes = one.regexes;
   levels = levels_both (asked_in (state_of s)).live place e.asserted f.asserted g.asserted h.levels one.others
       one.level;
   gates = λ some. one.gates;
-  all = all_more s mid more f g place l
-      (λ other m was. stated_still stays s place other m l mid more f g told new one was) one.stated places ls h.all;
+  all = all_more s y.arena z.arena f g place l
+      (λ other m was. stated_still stays s place other m l y z f g told new one was) one.stated places ls h.all;
 }
 
 -- All of them.

@@ -1,5 +1,5 @@
 -- What stays true of the evidence: where lines are put that follow, and where clauses that follow are kept by no lines.
-use Rattle.sb_solve.proofs.Words.{◌≡◌, ℕ, zero, suc, ◌+◌, ◌≤◌, Bool, true, false, nat_lt, if◌then◌else◌, List, [], ◌∷◌, map, length, slice_get, Option, Some, None, unwrap_or, Result, Ok, Err, refl, sym, ap, subst, ◌∙◌, inl, inr, arith, ltb-false, le-ltb, length-map, slice_get_within, same_Some, Kept, KeptClause, kept_at, Regex, Memo, KeepsEntries, Extends, Term, Valuation, Atom, are_known, AllKept, Asked, count_again, AreTerms, IsSound, LevelsHold, PlacesHold, StandsAt, FollowsByRule, LineStaysSound, CountedAgainStaysSound, HaveRegexesBelow, atoms_in, atoms_kept, Puts, follow_all, tracks_grow, cons-cases, not-in-nil, Asserted, Backing, Backs, asserted_at, unit_at, FollowsByLevel, GrowsTo, HaveAtoms, IsValid, AreEntailed, IsTrue, Contains, Refusal, Line, follows, Traced, Tracks, are_known_in, tracks_kept}
+use Rattle.sb_solve.proofs.Words.{◌≡◌, ℕ, zero, suc, ◌+◌, ◌≤◌, Bool, true, false, nat_lt, if◌then◌else◌, List, [], ◌∷◌, map, length, slice_get, Option, Some, None, unwrap_or, Result, Ok, Err, refl, sym, ap, subst, ◌∙◌, inl, inr, arith, ltb-false, le-ltb, length-map, slice_get_within, same_Some, Kept, KeptClause, kept_at, Regex, Memo, Spending, Store, Term, Valuation, Atom, are_known, AllKept, Asked, count_again, AreTerms, IsSound, LevelsHold, PlacesHold, StandsAt, FollowsByRule, LineStaysSound, CountedAgainStaysSound, HaveRegexesBelow, atoms_in, atoms_kept, Puts, follow_all, tracks_grow, cons-cases, not-in-nil, Asserted, Backing, Backs, asserted_at, unit_at, AreEntailed, IsSearched, IsTrue, Contains, Refusal, Line, follows, Traced, Tracks, are_known_in, tracks_kept}
 use Rattle.sb_solve.proofs.Ended.{kept_grown}
 use Rattle.sb_solve.proofs.Entailing.{searched_entailed, slice_there}
 
@@ -177,36 +177,37 @@ sound-keeping asked kept now sound known entailed = record {
       (subst (λ (ps : List ℕ). PlacesHold v asked.live ps) (rests_there asked.live now id clause there) hold));
 }
 
--- Clauses follow level by level, and what stands of regexes stays.
-pub true-following : (asked : Asked) (rs more : List Regex) (memo new : Memo) (e f : Backing) → f.trace ≡ e.trace
-    → f.atoms ≡ e.atoms → f.asserted ≡ e.asserted → GrowsTo e.kept f.kept → HaveAtoms e.atoms f.kept
-    → FollowsByLevel (IsValid more e.atoms) e.kept f.kept → Extends rs more → KeepsEntries memo new
-    → HaveRegexesBelow (length rs) e.atoms → IsTrue asked rs memo e → IsTrue asked more new f
-true-following asked rs more memo new e f trace atoms asserted grown known by_level grows keeps below t = record {
+-- Clauses follow level by level, and what stands of regexes stays: a search put no lines.
+pub true-following : (asked : Asked) (proves : Bool) (x y : Store) (e f : Backing) (before after : Spending)
+    (old new : Option (List ℕ)) → proves ≡ false → IsSearched proves x e before old y f after new
+    → HaveRegexesBelow (length x.arena) e.atoms → IsTrue asked x.arena x.graph.memo e
+    → IsTrue asked y.arena y.graph.memo f
+true-following asked proves x y e f before after old new off h below t = record {
   kept = keeping asked t.kept f.kept;
   backs = record {
-    tracks = tracks_kept more new f.trace t.kept f.kept (rests_on asked.live f.kept) 0
-        (subst (λ (traced : Traced). Tracks more new traced t.kept) (sym trace)
-        (tracks_grow rs more memo new e.trace t.kept grows keeps t.backs.tracks));
-    atoms = table ∙ ap (atoms_in more) (sym atoms);
+    tracks = tracks_kept y.arena y.graph.memo f.trace t.kept f.kept (rests_on asked.live f.kept) 0
+        (subst (λ (traced : Traced). Tracks y.arena y.graph.memo traced t.kept) (sym (h.silent off))
+        (tracks_grow x.arena y.arena x.graph.memo y.graph.memo e.trace t.kept h.store.extends h.store.derivatives
+        t.backs.tracks));
+    atoms = table ∙ ap (atoms_in y.arena) (sym h.atoms);
     clauses = refl;
     asserted = λ place a there.
-        kept_grown e.kept f.kept a.clause.0 (unit_at a) grown (t.backs.asserted place a
-        (subst (λ (xs : List (Option Asserted)). asserted_at xs place ≡ Some a) asserted there));
+        kept_grown e.kept f.kept a.clause.0 (unit_at a) h.kept (t.backs.asserted place a
+        (subst (λ (xs : List (Option Asserted)). asserted_at xs place ≡ Some a) h.asserted there));
   };
   sound = sound-keeping asked t.kept f.kept t.sound
-      (λ id clause there. are_known_in more e.atoms t.kept.atoms clause.literals table (known id clause there))
+      (λ id clause there. are_known_in y.arena e.atoms t.kept.atoms clause.literals table (h.known id clause there))
       entailed;
   counted = refl;
 }
   where
-    table : t.kept.atoms ≡ atoms_in more e.atoms
-    table = t.backs.atoms ∙ sym (atoms_kept rs more e.atoms grows below)
+    table : t.kept.atoms ≡ atoms_in y.arena e.atoms
+    table = t.backs.atoms ∙ sym (atoms_kept x.arena y.arena e.atoms h.store.extends below)
 
-    before : AreEntailed asked (atoms_in more e.atoms) e.kept
-    before = subst (λ (kept : Kept). AreEntailed asked (atoms_in more e.atoms) kept) t.backs.clauses
+    at_first : AreEntailed asked (atoms_in y.arena e.atoms) e.kept
+    at_first = subst (λ (kept : Kept). AreEntailed asked (atoms_in y.arena e.atoms) kept) t.backs.clauses
         (subst (λ (ts : List Atom). AreEntailed asked ts t.kept.clauses) table t.sound.clauses)
 
     entailed : AreEntailed asked t.kept.atoms f.kept
     entailed = subst (λ (ts : List Atom). AreEntailed asked ts f.kept) (sym table)
-        (searched_entailed asked more e.atoms e.kept f.kept before by_level)
+        (searched_entailed asked y.arena e.atoms e.kept f.kept at_first h.follows)

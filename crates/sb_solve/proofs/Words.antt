@@ -41,10 +41,10 @@ pub use Rattle.sb_sound.specs.SoundLaws.{CountedAgainStaysSound, FollowsByRule, 
 pub use Rattle.sb_sound.specs.Tables.{names_below}
 pub use Rattle.sb_sound.specs.TranslationLaws.{TranslationHolds}
 pub use Rattle.sb_term.specs.Numbered.{term_at}
-pub use Rattle.sb_regex.proofs.CallerLemmas.{extends_more, extends_same}
 pub use Rattle.sb_regex.specs.Numbered.{regex_at}
 pub use Rattle.sb_clauses.specs.Propagation.{HasNoneFalse, State, has_room_for}
 pub use Rattle.sb_sorts.specs.Scopes.{are_sorted, has_sort, names_in}
+pub use Rattle.sb_store.proofs.CallerLemmas.{grows_both, grows_same}
 pub use Rattle.sb_analyze.specs.Cores.{IsKeptCore, are_negated}
 pub use Rattle.sb_search.specs.Following.{place_holds}
 pub use Rattle.sb_search.specs.Found.{GrowsTo, IsFound, has_value}
@@ -54,7 +54,7 @@ pub use Rattle.sb_search.specs.declared.found.Found.{Found}
 pub use Rattle.sb_atoms.proofs.CallerLemmas.{all_say, atoms_kept, atoms_more, earlier_table}
 pub use Rattle.sb_atoms.specs.GateClauses.{all_hold, are_alike, atom_at, clauses_of, gate, is_as_it_says}
 pub use Rattle.sb_atoms.specs.Numbered.{over}
-pub use Rattle.sb_atoms.specs.Translated.{has_declared, have_declared}
+pub use Rattle.sb_atoms.specs.Translated.{brought_translation, has_declared, have_declared}
 pub use Rattle.sb_stack.proofs.CallerLemmas.{live_laid, same_sort, value_there}
 pub use Rattle.sb_stack.specs.Speaking.{is_one_of, speak_of, speaks_of}
 pub use Rattle.sb_stack.specs.Stacked.{HasNumberBelow, assertion_in, assertion_of, first_level, front_names, levels_above, value_at}
@@ -67,7 +67,7 @@ pub use Rattle.sb_theory.specs.Laws.{are_known_in, tracks_kept}
 pub use Rattle.sb_theory.specs.Memberships.{constant_of, fits_subject, is_true_of, subject_of}
 pub use Rattle.sb_theory.specs.Wanted.{IsTaught, is_of_wanted, wanted_of}
 pub use Rattle.sb_theory.specs.declared.strings.Strings.{Strings}
-pub use Rattle.sb_refute.proofs.CallerLemmas.{cons-cases, each-part, each-reserved, kept-cases, leads-none, not-in-nil, of-gate, room-for-each, stand-traced, uncounted-both}
+pub use Rattle.sb_refute.proofs.CallerLemmas.{cons-cases, each-part, each-reserved, kept-cases, kept-stays, leads-none, not-in-nil, of-gate, room-for-each, stand-traced, structure-is, uncounted-both}
 pub use Rattle.sb_refute.specs.Backing.{IsLowestEmpty, unit_at}
 pub use Rattle.sb_solve.specs.Answered.{AreLiterals, IsAnswered, IsLiteral, term_onto, terms_at}
 pub use Rattle.sb_solve.specs.Decided.{AreKept, IsDecided, IsGiven, IsKept}
@@ -80,6 +80,6 @@ pub use Rattle.sb_solve.specs.Stating.{AllStated, AreStated, IsAssertionAt, IsSt
 pub use Rattle.sb_solve.specs.Truth.{IsTrue}
 pub use Rattle.sb_solve.specs.Values.{are_words_there, is_constant, is_true, is_word_there, makes_true, truth_by, truth_in, word_in, word_or_empty, word_there}
 pub use Rattle.sb_solve.specs.Wanted.{AreLeast, AreWanted, atoms_of, is_closed, is_in, is_simple, is_simple_at, parts_at, parts_of}
-pub use Rattle.sb_solve.specs.Words.{All, AllKept, AreDistinct, AreMeasures, AreNormals, AreTerms, Asked, Asserted, Assertion, Assigned, Atom, AtomOver, Backing, Backs, CountsTapeFault, EmptyClause, Evidences, Extends, Findings, FollowsByLevel, HasGates, HasSorts, HasWords, HaveAtoms, HaveRegexesBelow, IsConsistent, IsCounted, IsDistinct, IsValid, KeepsEntries, Kept, KeptClause, Lit, Memo, Memory, Regex, Sort, Spending, Stacked, Stand, Term, Valuation, a_mark, and_atom, are_atoms, asked_in, asserted, asserted_at, atoms_in, bool_atom, boolean, clause_holds, constant_piece, fits_sorts, have_levels, held, holds, iff_atom, in_atom, is_atom, is_decided, is_declared, is_table, is_true_by, kept_at, kept_up_to, list_all, list_any, literal_holds, live, live_constants, sort_in, state_of, text, translation, truths_of, value_of, values_at, wanted_on, word_at}
+pub use Rattle.sb_solve.specs.Words.{All, AllKept, AreDistinct, AreTerms, Asked, Asserted, Assertion, Assigned, Atom, AtomOver, Backing, Backs, CountsTapeFault, EmptyClause, Evidences, EvidencesUncounted, Extends, FollowsByLevel, Grows, HasGates, HasSorts, HasWords, HaveAtoms, HaveRegexesBelow, IsConsistent, IsCounted, IsDistinct, IsStatement, IsStoreOf, IsValid, Kept, KeptClause, Lit, Memo, Regex, Sort, Spending, Stacked, Stand, Store, Term, Valuation, a_mark, and_atom, are_atoms, asked_in, asserted, asserted_at, atoms_in, bool_atom, boolean, clause_holds, constant_piece, fits_sorts, have_levels, held, holds, iff_atom, in_atom, is_atom, is_decided, is_declared, is_table, is_true_by, kept_at, kept_up_to, list_all, list_any, literal_holds, live, live_constants, sort_in, state_of, text, translation, truths_of, value_of, values_at, wanted_on, word_at}
 pub use Rattle.sb_solve.specs.declared.check.Solved.{Solved}
 pub use Rattle.sb_solve.specs.declared.searching.Tables.{Tables}

@@ -1,6 +1,6 @@
 -- Private: a search over the evidence and the tables, from its beginning to its answer.
 use Rattle.std.specs.Prelude.{◌≡◌, ℕ, Bool, true, false, List, [], length, Option, Some}
-use Rattle.sb_solve.specs.Words.{AllKept, AreDistinct, Asked, AtomOver, Backing, Backs, EmptyClause, Evidences, Extends, Findings, FollowsByLevel, HaveAtoms, HaveRegexesBelow, IsCounted, IsGraph, IsRight, IsValid, KeepsEntries, Kept, Lit, Memo, Memory, Regex, Spending, Stacked, Stand, Stands, are_atoms, atoms_in, is_atom, is_table, is_true_by, list_all, state_of, wanted_on}
+use Rattle.sb_solve.specs.Words.{AllKept, AreDistinct, Asked, AtomOver, Backing, Backs, EmptyClause, Evidences, FollowsByLevel, HaveAtoms, HaveRegexesBelow, IsCounted, IsValid, Kept, Lit, Regex, RegexesGrow, Spending, Stacked, Stand, Stands, Store, are_atoms, atoms_in, is_atom, is_table, is_true_by, list_all, state_of, wanted_on}
 use Rattle.sb_clauses.specs.Propagation.{State}
 use Rattle.sb_analyze.specs.Cores.{IsKeptCore}
 use Rattle.sb_search.specs.Found.{GrowsTo, IsFull}
@@ -24,43 +24,37 @@ backing_in t = record {
 }
 
 -- They are taken from these, and the theory over them has taken in nothing.
-pub record AreTaken (rs : List Regex) (g : Findings) (e : Backing) (atoms : List ℕ) (on : Bool) (t : Tables) : Type 0
-  where
-    pub stands : Stands t.strings []
-    pub stand : Stand e
-    pub backing : backing_in t ≡ e
-    pub arena : t.strings.arena ≡ rs
-    pub graph : t.strings.graph ≡ g
-    pub wanted : t.strings.wanted ≡ atoms
-    pub proves : t.strings.proves ≡ on
-    pub trail : t.engine.trail.literals ≡ []
-    pub first : t.before ≡ length e.kept
+pub record AreTaken (x : Store) (e : Backing) (atoms : List ℕ) (on : Bool) (t : Tables) : Type 0 where
+  pub stands : Stands t.strings []
+  pub stand : Stand e
+  pub backing : backing_in t ≡ e
+  pub store : t.strings.store ≡ x
+  pub wanted : t.strings.wanted ≡ atoms
+  pub proves : t.strings.proves ≡ on
+  pub trail : t.engine.trail.literals ≡ []
+  pub first : t.before ≡ length e.kept
 
 -- where the table is one, and the literals are of its atoms, so is what is wanted
 abbrev pub AreAmong : List (AtomOver ℕ) → List Lit → List ℕ → Type 0
 AreAmong atoms literals wanted = (rs : List Regex) → is_table (atoms_in rs atoms) ≡ true
     → are_atoms atoms literals ≡ true → list_all (is_atom atoms) wanted ≡ true
 
--- The tables stay right and grow, clauses stay, and new ones follow from these and from what is true of words, level by
+-- What is known of regexes grows, clauses stay, and new ones follow from these and from what is true of words, level by
 -- level; where lines are put, those for the new clauses follow, and where none are, what stands of regexes in the proof
 -- stays.
-pub record IsSearched (proves : Bool) (rs : List Regex) (memo : Memo) (e : Backing) (before : Spending)
-    (old : Option (List ℕ)) (more : List Regex) (g : Findings) (m : Memory) (f : Backing) (after : Spending)
-    (new : Option (List ℕ)) : Type 0
+pub record IsSearched (proves : Bool) (x : Store) (e : Backing) (before : Spending) (old : Option (List ℕ))
+    (y : Store) (f : Backing) (after : Spending) (new : Option (List ℕ)) : Type 0
   where
-    pub graph : IsGraph more g
-    pub plain : IsRight more m
-    pub extends : Extends rs more
-    pub derivatives : KeepsEntries memo g.memo
-    pub regexes : HaveRegexesBelow (length more) f.atoms
+    pub store : RegexesGrow x y
+    pub regexes : HaveRegexesBelow (length y.arena) f.atoms
     pub atoms : f.atoms ≡ e.atoms
     pub asserted : f.asserted ≡ e.asserted
     pub kept : GrowsTo e.kept f.kept
     pub known : HaveAtoms e.atoms f.kept
-    pub follows : FollowsByLevel (IsValid more e.atoms) e.kept f.kept
+    pub follows : FollowsByLevel (IsValid y.arena e.atoms) e.kept f.kept
     pub silent : proves ≡ false → f.trace ≡ e.trace
-    pub puts : proves ≡ true → (asked : Asked) (kept : AllKept) → Backs rs memo e kept → IsCounted asked kept before
-        → Evidences asked kept more g.memo f after old new
+    pub puts : proves ≡ true → (asked : Asked) (kept : AllKept) → Backs x.arena x.graph.memo e kept
+        → IsCounted asked kept before → Evidences asked kept y.arena y.graph.memo f after old new
 
 -- The words are words of characters, and where the end of the search is an answer about the assertions at some places,
 -- these are true of the words and the truth values.
@@ -73,7 +67,7 @@ pub record IsModel (s : Stacked) (rs : List Regex) (atoms : List (AtomOver ℕ))
         → AreTrueAt s places words truths
 
 abbrev pub HasModel : Stacked → Tables → List (Option (List ℕ)) → List Bool → Type 0
-HasModel s t = IsModel s t.strings.arena t.strings.atoms t.strings.wanted t.engine t.strings.words.items
+HasModel s t = IsModel s t.strings.store.arena t.strings.atoms t.strings.wanted t.engine t.strings.words.items
 
 -- The search ended with a value for each atom that is wanted, which the theory's words bear out.
 pub record IsValuedBy (s : Stacked) (rs : List Regex) (atoms : List (AtomOver ℕ)) (kept : Kept) (wanted : List ℕ)
@@ -107,25 +101,24 @@ IsNumbered refuted t s = s ≡ t
 pub record Runs (s : Stacked) (b : Tables) (before : Spending) (old : Option (List ℕ)) (c : Tables) (after : Spending)
     (new : Option (List ℕ)) (solved : Solved) : Type 0
   where
-    pub searched : (refuted : Option EmptyClause) → IsSearched b.strings.proves b.strings.arena b.strings.graph.memo
-        (backing_in b) before old c.strings.arena c.strings.graph c.strings.plain
-        (record (backing_in c) { refuted = refuted }) after new
-    pub answers : Answers s c.strings.arena c.strings.atoms c.engine.kept b.strings.wanted after solved
+    pub searched : (refuted : Option EmptyClause) → IsSearched b.strings.proves b.strings.store (backing_in b) before
+        old c.strings.store (record (backing_in c) { refuted = refuted }) after new
+    pub answers : Answers s c.strings.store.arena c.strings.atoms c.engine.kept b.strings.wanted after solved
     pub refuted_stays : c.refuted ≡ b.refuted
     pub gates_stay : c.gates ≡ b.gates
     pub first_stays : c.before ≡ b.before
 
--- What comes of it, over the evidence and the tables where they lie.
-pub record IsDone (s : Stacked) (literals : List Lit) (proves : Bool) (rs : List Regex) (memo : Memo) (e : Backing)
-    (before : Spending) (old : Option (List ℕ)) (more : List Regex) (g : Findings) (m : Memory) (f : Backing)
-    (after : Spending) (new : Option (List ℕ)) (solved : Solved) : Type 0
+-- What comes of it, over the evidence and the store where they lie.
+pub record IsDone (s : Stacked) (literals : List Lit) (proves : Bool) (x : Store) (e : Backing) (before : Spending)
+    (old : Option (List ℕ)) (y : Store) (f : Backing) (after : Spending) (new : Option (List ℕ)) (solved : Solved)
+    : Type 0
   where
     pub stand : Stand e
-    pub searched : IsSearched proves rs memo e before old more g m f after new
+    pub searched : IsSearched proves x e before old y f after new
     pub wanted : List ℕ
     pub distinct : AreDistinct e.atoms
     pub closed : AreWanted e.atoms literals wanted
     pub among : AreAmong e.atoms literals wanted
     pub found : Solved
-    pub answers : Answers s more f.atoms f.kept wanted after found
+    pub answers : Answers s y.arena f.atoms f.kept wanted after found
     pub is_numbered : IsNumbered f.refuted found solved

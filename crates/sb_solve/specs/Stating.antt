@@ -1,6 +1,6 @@
 -- Private: the clauses of live assertions, as they are put in front of a search.
 use Rattle.std.specs.Prelude.{◌≡◌, ◌≢◌, ℕ, ◌<◌, List, [], ◌∷◌, length, slice_get, Option, Some}
-use Rattle.sb_solve.specs.Words.{AllKept, Asserted, Backing, Backs, EvidencesUncounted, Extends, HasGates, HaveRegexesBelow, IsStatement, Lit, Memo, Regex, Stacked, Term, asked_in, asserted, asserted_at, atoms_in, live, state_of, translation}
+use Rattle.sb_solve.specs.Words.{AllKept, Asserted, Backing, Backs, EvidencesUncounted, Grows, HasGates, HaveRegexesBelow, IsStatement, Lit, Regex, Stacked, Store, Term, asked_in, asserted, asserted_at, atoms_in, live, state_of, translation}
 use Rattle.sb_term.specs.Numbered.{term_at}
 use Rattle.sb_atoms.specs.Numbered as table
 use Rattle.sb_solve.specs.Solved.{AreOfLevels, level_at}
@@ -21,20 +21,20 @@ pub record IsStated (s : Stacked) (rs : List Regex) (e : Backing) (place : ℕ) 
   pub literal : clause.literal ≡ l
 
 -- The clause of the assertion at one place stands in the proof, with the lines that it lacked.
-pub record States (s : Stacked) (place : ℕ) (rs more : List Regex) (e f : Backing) (old new : Option (List ℕ))
+pub record States (s : Stacked) (place : ℕ) (x y : Store) (e f : Backing) (old new : Option (List ℕ))
     (l : Lit) : Type 0
   where
-    pub puts : (memo : Memo) (before : AllKept) → Backs rs memo e before
-        → EvidencesUncounted (asked_in (state_of s)) before more memo f old new
-    pub extends : Extends rs more
+    pub puts : (before : AllKept) → Backs x.arena x.graph.memo e before
+        → EvidencesUncounted (asked_in (state_of s)) before y.arena y.graph.memo f old new
+    pub store : Grows s.table x y
     pub atoms : table.Extends e.atoms f.atoms
-    pub below : HaveRegexesBelow (length rs) e.atoms
-    pub regexes : HaveRegexesBelow (length more) f.atoms
+    pub below : HaveRegexesBelow (length x.arena) e.atoms
+    pub regexes : HaveRegexesBelow (length y.arena) f.atoms
     pub others : (other : ℕ) → other ≢ place → asserted_at f.asserted other ≡ asserted_at e.asserted other
     pub level : (a : Asserted) → asserted_at f.asserted place ≡ Some a
         → level_at (asked_in (state_of s)).live place ≡ Some a.level
     pub gates : HasGates (length f.atoms) f.atoms f.kept
-    pub stated : IsStated s more f place l
+    pub stated : IsStated s y.arena f place l
 
 -- one by one
 abbrev pub AllStated : Stacked → List Regex → Backing → List ℕ → List Lit → Type 0
@@ -43,13 +43,13 @@ AllStated s rs e (place ∷ places) (l ∷ ls) = IsStated s rs e place l × AllS
 AllStated s rs e _ _ = ⊥
 
 -- The clauses of the assertions at these places stand in the proof.
-pub record AreStated (s : Stacked) (places : List ℕ) (rs more : List Regex) (e f : Backing) (old new : Option (List ℕ))
+pub record AreStated (s : Stacked) (places : List ℕ) (x y : Store) (e f : Backing) (old new : Option (List ℕ))
     (literals : List Lit) : Type 0
   where
-    pub puts : (memo : Memo) (before : AllKept) → Backs rs memo e before
-        → EvidencesUncounted (asked_in (state_of s)) before more memo f old new
-    pub extends : Extends rs more
-    pub regexes : HaveRegexesBelow (length more) f.atoms
+    pub puts : (before : AllKept) → Backs x.arena x.graph.memo e before
+        → EvidencesUncounted (asked_in (state_of s)) before y.arena y.graph.memo f old new
+    pub store : Grows s.table x y
+    pub regexes : HaveRegexesBelow (length y.arena) f.atoms
     pub levels : AreOfLevels (asked_in (state_of s)).live e.asserted f.asserted
     pub gates : 0 < length literals → HasGates (length f.atoms) f.atoms f.kept
-    pub all : AllStated s more f places literals
+    pub all : AllStated s y.arena f places literals

@@ -21,15 +21,13 @@ pub use Rattle.sb_sound.specs.Tables.{HasWords, is_table}
 pub use Rattle.sb_sound.specs.TermLaws.{HasSorts, fits_sorts}
 pub use Rattle.sb_term.specs.Symbols.{sort_in}
 pub use Rattle.sb_regex.specs.Numbered.{Extends}
-pub use Rattle.sb_problem.specs.Known.{AreNormals}
-pub use Rattle.sb_deriv.specs.Faithful.{KeepsEntries, Memo}
-pub use Rattle.sb_plain.specs.Memory.{IsRight, Memory}
+pub use Rattle.sb_deriv.specs.Faithful.{Memo}
+pub use Rattle.sb_store.specs.Stores.{Grows, IsStore, IsStoreOf, RegexesGrow}
+pub use Rattle.sb_store.specs.declared.store.Store.{Store}
 pub use Rattle.sb_search.specs.Following.{AreRefuted, FollowsByLevel}
-pub use Rattle.sb_fragment.specs.Measures.{AreMeasures}
 pub use Rattle.sb_fragment.specs.Rules.{is_decided}
 pub use Rattle.sb_atoms.specs.Numbered.{AreDistinct, HaveRegexesBelow, Names, atom_in, atoms_in}
 pub use Rattle.sb_stack.specs.Stacked.{Stacked, are_words, have_levels, live_constants, state_of, values_at}
-pub use Rattle.sb_graph.specs.Findings.{Findings, IsGraph}
 pub use Rattle.sb_trace.specs.Putting.{CountsTapeFault, IsCounted}
 pub use Rattle.sb_theory.specs.Memberships.{HaveAtoms, IsValid, are_atoms, is_atom, is_true_by, word_at}
 pub use Rattle.sb_theory.specs.Strings.{Stands}

@@ -1,22 +1,18 @@
 //! The check of the live assertions.
 
 ghost use Rattle.std.specs.Prelude.{◌≡◌, ◌<◌, true, false, length, IfOk, OnOk};
-ghost use Rattle.sb_solve.specs.Words.{All, AllKept, AreMeasures, AreNormals, AreTerms, Backs, CountsTapeFault, Evidences, Extends, HaveRegexesBelow, IsCounted, IsGraph, IsRight, KeepsEntries, asked_in, is_decided, list_all, live, state_of};
+ghost use Rattle.sb_solve.specs.Words.{All, AllKept, AreTerms, Backs, CountsTapeFault, Evidences, Grows, HaveRegexesBelow, IsCounted, IsStoreOf, asked_in, is_decided, list_all, live, state_of};
 ghost use Rattle.sb_solve.specs.Solved.{AreOfLevels, IsSolved};
 ghost use Rattle.sb_solve.specs.Truth.{IsTrue};
 
 use crate::searching::search_for;
 use crate::stating::literals;
-use sb_fragment::Measures;
-use sb_graph::{Graph, graph_stays};
 use sb_lit::{Budget, ClauseId};
-use sb_plain::{Plain, right_stays};
-use sb_problem::{Normals, normals_stay};
 use sb_proof::{Tape, TapeFault};
 use sb_refute::Evidence;
-use sb_regex::Arena;
 use sb_sound::steps::{counted_again_stays_sound, follows_by_rule, line_stays_sound};
 use sb_stack::Stack;
+use sb_store::{Store, regexes_grow};
 use sb_word::Word;
 use std::alloc::Global;
 
@@ -43,16 +39,12 @@ pub enum Solved {
 ///
 /// The time is that of the search, which may be exponential in the atoms, and of what is explored of regexes.
 /// `NoMemory` also where a live assertion has no literal, or one that speaks of a constant of another sort than the
-/// atom's, as of well-sorted ones none has and does. After an error the evidence may be empty and the tables too, and
+/// atom's, as of well-sorted ones none has and does. After an error the evidence may be empty and the store too, and
 /// nothing more may be put.
 pub fn solve<L: Tape>(
     alloc: Global,
     evidence: &mut Evidence,
-    arena: &mut Arena,
-    graph: &mut Graph,
-    plain: &mut Plain,
-    normals: &mut Normals,
-    measures: &mut Measures,
+    store: &mut Store,
     stack: &Stack,
     places: &[usize],
     proves: bool,
@@ -61,41 +53,30 @@ pub fn solve<L: Tape>(
 ) -> Result<Solved, TapeFault>
     requires places { All (λ place. place < length stack.now.assertions) places.now }
     requires decided { list_all is_decided (live (state_of stack.now)) ≡ true }
-    requires graph { IsGraph arena.old graph.old }
-    requires plain { IsRight arena.old plain.old }
-    requires right { AreMeasures stack.now.table measures.old }
-    requires normals { AreNormals stack.now.table arena.old normals.old }
-    requires regexes { HaveRegexesBelow (length arena.old) evidence.old.atoms }
-    ensures puts { OnOk result (proves ≡ true → (before : AllKept) → Backs arena.old graph.old.memo evidence.old before
+    requires store { IsStoreOf stack.now.table store.old }
+    requires regexes { HaveRegexesBelow (length store.old.arena) evidence.old.atoms }
+    ensures puts { OnOk result (proves ≡ true → (before : AllKept)
+        → Backs store.old.arena store.old.graph.memo evidence.old before
         → IsCounted (asked_in (state_of stack.now)) before budget.old
-        → Evidences (asked_in (state_of stack.now)) before arena.new graph.new.memo evidence.new budget.new
+        → Evidences (asked_in (state_of stack.now)) before store.new.arena store.new.graph.memo evidence.new budget.new
         (L.Tape.told tape.old) (L.Tape.told tape.new)) }
     ensures answer { IfOk result
-        (IsSolved stack.now places.now arena.old graph.old.memo evidence.old evidence.new budget.new) }
+        (IsSolved stack.now places.now store.old.arena store.old.graph.memo evidence.old evidence.new budget.new) }
     ensures sound { OnOk result (proves ≡ false → AreTerms (asked_in (state_of stack.now))
-        → IsTrue (asked_in (state_of stack.now)) arena.old graph.old.memo evidence.old
-        → IsTrue (asked_in (state_of stack.now)) arena.new graph.new.memo evidence.new) }
+        → IsTrue (asked_in (state_of stack.now)) store.old.arena store.old.graph.memo evidence.old
+        → IsTrue (asked_in (state_of stack.now)) store.new.arena store.new.graph.memo evidence.new) }
     ensures levels { OnOk result (AreOfLevels (asked_in (state_of stack.now)).live evidence.old.asserted
         evidence.new.asserted) }
-    ensures extends { OnOk result (Extends arena.old arena.new) }
-    ensures derivatives_stay { OnOk result (KeepsEntries graph.old.memo graph.new.memo) }
-    ensures graph { OnOk result (IsGraph arena.new graph.new) }
-    ensures plain { OnOk result (IsRight arena.new plain.new) }
-    ensures right { OnOk result (AreMeasures stack.now.table measures.new) }
-    ensures normals { OnOk result (AreNormals stack.now.table arena.new normals.new) }
-    ensures regexes { OnOk result (HaveRegexesBelow (length arena.new) evidence.new.atoms) }
+    ensures store { OnOk result (Grows stack.now.table store.old store.new) }
+    ensures regexes { OnOk result (HaveRegexesBelow (length store.new.arena) evidence.new.atoms) }
     ensures counts { CountsTapeFault result (L.Tape.faults tape.old) (L.Tape.faults tape.new) }
 {
-    graph_stays();
-    right_stays();
-    normals_stay();
+    regexes_grow();
     follows_by_rule();
     line_stays_sound();
     counted_again_stays_sound();
-    let literals = literals(
-        alloc, evidence, arena, normals, measures, stack, places, tape,
-    )?;
+    let literals = literals(alloc, evidence, store, stack, places, tape)?;
     search_for(
-        alloc, evidence, arena, graph, plain, stack, &literals, proves, tape, budget,
+        alloc, evidence, store, stack, &literals, proves, tape, budget,
     )
 }

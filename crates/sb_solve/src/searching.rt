@@ -2,7 +2,7 @@
 
 ghost use Rattle.std.specs.Prelude.{◌≡◌, [], true, take, length, IfOk, OnOk};
 ghost use Rattle.sb_clauses.specs.Propagation.{has_room_for};
-ghost use Rattle.sb_solve.specs.Words.{AreDistinct, CountsTapeFault, HaveRegexesBelow, IsGraph, IsRight, Stand, Stands};
+ghost use Rattle.sb_solve.specs.Words.{AreDistinct, CountsTapeFault, HaveRegexesBelow, IsStore, Stand, Stands};
 ghost use Rattle.sb_refute.specs.Backing.{IsLowestEmpty};
 ghost use Rattle.sb_solve.specs.Searched.{AreAmong, AreTaken, HasCore, HasModel, IsDone, IsNumbered, Runs, backing_in};
 ghost use Rattle.sb_solve.specs.Wanted.{AreWanted};
@@ -12,14 +12,12 @@ use crate::gather::wanted;
 use crate::model::{Values, model};
 use sb_atoms::Atoms;
 use sb_clauses::Engine;
-use sb_graph::Graph;
 use sb_lit::{Budget, Lit};
-use sb_plain::Plain;
 use sb_proof::{Tape, TapeFault};
 use sb_refute::{Asserted, EmptyClause, Evidence, Parts};
-use sb_regex::Arena;
 use sb_search::{Choices, Found, search};
 use sb_stack::Stack;
+use sb_store::Store;
 use sb_theory::{Strings, WantedAtoms};
 use std::alloc::{AllocError, Global};
 use std::mem;
@@ -38,31 +36,28 @@ pub(crate) struct Tables {
 }
 
 /// Searches for values of the atoms that these literals speak of, over the clauses of the evidence. Where `proves` is
-/// false no lines are put for lemmas and regexes. After an error the evidence and the tables may be empty.
+/// false no lines are put for lemmas and regexes. After an error the evidence and the store may be empty.
 pub(crate) fn search_for<L: Tape>(
     alloc: Global,
     evidence: &mut Evidence,
-    arena: &mut Arena,
-    graph: &mut Graph,
-    plain: &mut Plain,
+    store: &mut Store,
     stack: &Stack,
     literals: &[Lit],
     proves: bool,
     tape: &mut L,
     budget: &mut Budget,
 ) -> Result<Solved, TapeFault>
-    requires graph { IsGraph arena.old graph.old }
-    requires plain { IsRight arena.old plain.old }
-    requires regexes { HaveRegexesBelow (length arena.old) evidence.old.atoms }
-    ensures done { IfOk result (IsDone stack.now literals.now proves arena.old graph.old.memo evidence.old budget.old
-        (L.Tape.told tape.old) arena.new graph.new plain.new evidence.new budget.new (L.Tape.told tape.new)) }
+    requires store { IsStore store.old }
+    requires regexes { HaveRegexesBelow (length store.old.arena) evidence.old.atoms }
+    ensures done { IfOk result (IsDone stack.now literals.now proves store.old evidence.old budget.old
+        (L.Tape.told tape.old) store.new evidence.new budget.new (L.Tape.told tape.new)) }
     ensures counts { CountsTapeFault result (L.Tape.faults tape.old) (L.Tape.faults tape.new) }
 {
     let wanted = wanted_of(alloc, evidence.atoms(), literals)?;
-    let mut tables = taken(alloc, evidence, arena, graph, plain, wanted, proves);
+    let mut tables = taken(alloc, evidence, store, wanted, proves);
     match run(alloc, &mut tables, stack, tape, budget) {
         Ok(solved) => {
-            put_back(tables, evidence, arena, graph, plain);
+            put_back(tables, evidence, store);
             Ok(numbered(solved, evidence))
         }
         Err(fault) => {
@@ -83,20 +78,17 @@ fn wanted_of(alloc: Global, atoms: &Atoms, literals: &[Lit]) -> Result<WantedAto
     Ok(WantedAtoms::of(found))
 }
 
-/// Takes the evidence and the tables out of their places, where empty ones are left.
+/// Takes the evidence and the store out of their places, where empty ones are left.
 fn taken(
     alloc: Global,
     evidence: &mut Evidence,
-    arena: &mut Arena,
-    graph: &mut Graph,
-    plain: &mut Plain,
+    store: &mut Store,
     wanted: WantedAtoms,
     proves: bool,
 ) -> Tables
-    requires graph { IsGraph arena.old graph.old }
-    requires plain { IsRight arena.old plain.old }
-    requires regexes { HaveRegexesBelow (length arena.old) evidence.old.atoms }
-    ensures { AreTaken arena.old graph.old evidence.old wanted proves result }
+    requires store { IsStore store.old }
+    requires regexes { HaveRegexesBelow (length store.old.arena) evidence.old.atoms }
+    ensures { AreTaken store.old evidence.old wanted proves result }
 {
     let Parts {
         trace,
@@ -107,11 +99,9 @@ fn taken(
         gates,
         choices,
     } = mem::replace(evidence, Evidence::new(alloc)).into_parts();
-    let arena = mem::replace(arena, Arena::new(alloc));
-    let graph = mem::replace(graph, Graph::new(alloc));
-    let plain = mem::replace(plain, Plain::new(alloc));
+    let store = mem::replace(store, Store::new(alloc));
     let before = engine.clauses().len();
-    let strings = Strings::new(alloc, arena, graph, plain, trace, atoms, proves, wanted);
+    let strings = Strings::new(alloc, store, trace, atoms, proves, wanted);
     Tables {
         strings,
         engine,
@@ -180,21 +170,13 @@ fn values_of(alloc: Global, tables: &mut Tables, stack: &Stack) -> Result<Values
     Ok(values)
 }
 
-/// Puts the evidence and the tables back into their places.
-fn put_back(
-    tables: Tables,
-    evidence: &mut Evidence,
-    arena: &mut Arena,
-    graph: &mut Graph,
-    plain: &mut Plain,
-)
+/// Puts the evidence and the store back into their places.
+fn put_back(tables: Tables, evidence: &mut Evidence, store: &mut Store)
     requires known { has_room_for (length tables.strings.atoms) tables.engine.kept ≡ true }
     requires stands { Stand (record (backing_in tables) { kept = take tables.before tables.engine.kept }) }
     ensures evidence { evidence.new ≡ record (backing_in tables) { refuted = evidence.new.refuted } }
     ensures lowest { IsLowestEmpty tables.engine.kept evidence.new.refuted }
-    ensures arena { arena.new ≡ tables.strings.arena }
-    ensures graph { graph.new ≡ tables.strings.graph }
-    ensures plain { plain.new ≡ tables.strings.plain }
+    ensures store { store.new ≡ tables.strings.store }
 {
     let Tables {
         strings,
@@ -215,9 +197,7 @@ fn put_back(
         choices,
     };
     drop(mem::replace(evidence, Evidence::from_parts(parts, before)));
-    drop(mem::replace(arena, strings.arena));
-    drop(mem::replace(graph, strings.graph));
-    drop(mem::replace(plain, strings.plain));
+    drop(mem::replace(store, strings.store));
 }
 
 /// The answer, with the number of the evidence's empty clause.

@@ -1,17 +1,15 @@
 //! The literals of live assertions.
 
 ghost use Rattle.std.specs.Prelude.{◌≡◌, ◌<◌, ◌∷◌, ◌++◌, [], true, length, IfOk, OnOk};
-ghost use Rattle.sb_solve.specs.Words.{All, AreMeasures, AreNormals, CountsTapeFault, HaveRegexesBelow, is_decided, list_all, live, state_of};
+ghost use Rattle.sb_solve.specs.Words.{All, CountsTapeFault, HaveRegexesBelow, IsStoreOf, is_decided, list_all, live, state_of};
 ghost use Rattle.sb_solve.specs.Stating.{IsAssertionAt, States, AreStated};
 
-use sb_fragment::Measures;
 use sb_lit::Lit;
-use sb_problem::Normals;
 use sb_proof::{Tape, TapeFault};
 use sb_refute::Evidence;
-use sb_regex::Arena;
 use sb_rulebook::laws::translation_stays;
 use sb_stack::Stack;
+use sb_store::Store;
 use sb_term::TermId;
 use std::alloc::{AllocError, Global};
 
@@ -27,28 +25,23 @@ struct Stated {
 pub(crate) fn literals<L: Tape>(
     alloc: Global,
     evidence: &mut Evidence,
-    arena: &mut Arena,
-    normals: &mut Normals,
-    measures: &mut Measures,
+    store: &mut Store,
     stack: &Stack,
     places: &[usize],
     tape: &mut L,
 ) -> Result<Vec<Lit>, TapeFault>
     requires places { All (λ place. place < length stack.now.assertions) places.now }
     requires decided { list_all is_decided (live (state_of stack.now)) ≡ true }
-    requires right { AreMeasures stack.now.table measures.old }
-    requires normals { AreNormals stack.now.table arena.old normals.old }
-    requires regexes { HaveRegexesBelow (length arena.old) evidence.old.atoms }
-    ensures stated { IfOk result (λ literals. AreStated stack.now places.now arena.old arena.new evidence.old
+    requires store { IsStoreOf stack.now.table store.old }
+    requires regexes { HaveRegexesBelow (length store.old.arena) evidence.old.atoms }
+    ensures stated { IfOk result (λ literals. AreStated stack.now places.now store.old store.new evidence.old
         evidence.new (L.Tape.told tape.old) (L.Tape.told tape.new) literals.items) }
-    ensures right { OnOk result (AreMeasures stack.now.table measures.new) }
-    ensures normals { OnOk result (AreNormals stack.now.table arena.new normals.new) }
     ensures counts { CountsTapeFault result (L.Tape.faults tape.old) (L.Tape.faults tape.new) }
 {
     translation_stays();
     let mut literals = Vec::new(alloc);
     for place in places {
-        let literal = state(evidence, arena, normals, measures, stack, *place, tape)?;
+        let literal = state(evidence, store, stack, *place, tape)?;
         put(&mut literals, literal)?;
     }
     Ok(literals)
@@ -65,35 +58,21 @@ fn put(literals: &mut Vec<Lit>, literal: Lit) -> Result<(), AllocError>
 /// The literal of the live assertion at a place, whose clause stands in the proof then, with the lines that it lacked.
 fn state<L: Tape>(
     evidence: &mut Evidence,
-    arena: &mut Arena,
-    normals: &mut Normals,
-    measures: &mut Measures,
+    store: &mut Store,
     stack: &Stack,
     place: usize,
     tape: &mut L,
 ) -> Result<Lit, TapeFault>
     requires there { place < length stack.now.assertions }
     requires decided { list_all is_decided (live (state_of stack.now)) ≡ true }
-    requires right { AreMeasures stack.now.table measures.old }
-    requires normals { AreNormals stack.now.table arena.old normals.old }
-    requires regexes { HaveRegexesBelow (length arena.old) evidence.old.atoms }
-    ensures states { IfOk result (States stack.now place arena.old arena.new evidence.old evidence.new
+    requires store { IsStoreOf stack.now.table store.old }
+    requires regexes { HaveRegexesBelow (length store.old.arena) evidence.old.atoms }
+    ensures states { IfOk result (States stack.now place store.old store.new evidence.old evidence.new
         (L.Tape.told tape.old) (L.Tape.told tape.new)) }
-    ensures right { OnOk result (AreMeasures stack.now.table measures.new) }
-    ensures normals { OnOk result (AreNormals stack.now.table arena.new normals.new) }
     ensures counts { CountsTapeFault result (L.Tape.faults tape.old) (L.Tape.faults tape.new) }
 {
     let stated = assertion_at(stack, place);
-    let found = evidence.statement(
-        measures,
-        normals,
-        stack.table(),
-        arena,
-        place,
-        stated.term,
-        stated.level,
-        tape,
-    )?;
+    let found = evidence.statement(store, stack.table(), place, stated.term, stated.level, tape)?;
     match found {
         Some(asserted) => Ok(asserted.literal),
         None => Err(TapeFault::NoMemory),

@@ -1,5 +1,5 @@
 -- Tables with one atom more.
-use Rattle.std.proofs.Common.{◌≡◌, ℕ, zero, suc, inl, inr, Some, List, [], ◌∷◌, ◌++◌, subst, arith}
+use Rattle.std.proofs.Common.{ℕ, zero, suc, inl, inr, List, [], ◌∷◌, ◌++◌, subst, arith}
 use Rattle.std.proofs.lemmas.Option.{slice_get_within, same_Some}
 use Rattle.sb_rulebook.specs.Atoms.{AtomOver}
 use Rattle.sb_atoms.specs.Numbered.{Names, IsWith, HasRegexBelow, HaveRegexesBelow}

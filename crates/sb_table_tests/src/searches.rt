@@ -8,12 +8,15 @@ use crate::regexes::regex;
 use indexmap::IndexSet;
 use sb_atoms::{Atom, AtomId, Atoms, gate_clauses};
 use sb_clauses::Engine;
+use sb_fragment::Measures;
 use sb_graph::Graph;
 use sb_lit::{Budget, Clause, Lit};
 use sb_plain::Plain;
+use sb_problem::Normals;
 use sb_proof::{MemTape, TapeFault};
 use sb_regex::{Arena, RegexId};
 use sb_search::{Choices, Found, search};
+use sb_store::Store;
 use sb_term::Serial;
 use sb_theory::{Strings, WantedAtoms};
 use sb_trace::Trace;
@@ -448,19 +451,15 @@ fn expect_case(rt: &impl Abort, alloc: Global, case: &Case) -> Result<(), TapeFa
     let put = put_regexes(alloc, &mut arena, &mut ids, case.said);
     let added = add_all(alloc, &arena, &mut atoms, &ids, case.said);
     drop(ids);
-    let graph = Graph::new(alloc);
-    let plain = Plain::new(alloc);
-    let trace = Trace::new(alloc);
-    let mut theory = Strings::new(
-        alloc,
+    let store = Store {
         arena,
-        graph,
-        plain,
-        trace,
-        atoms,
-        case.proves,
-        wanted,
-    );
+        graph: Graph::new(alloc),
+        plain: Plain::new(alloc),
+        normals: Normals::new(alloc),
+        measures: Measures::new(alloc),
+    };
+    let trace = Trace::new(alloc);
+    let mut theory = Strings::new(alloc, store, trace, atoms, case.proves, wanted);
     let mut engine = Engine::new(alloc);
     let mut tape = MemTape::new(alloc);
     let searched = match put.and(added) {

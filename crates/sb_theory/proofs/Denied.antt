@@ -1,6 +1,6 @@
 -- A few literals of one constant that clash, and their clause: it is false on the trail, new, true whatever the values
 -- are, and its lines follow.
-use Rattle.sb_theory.proofs.Words.{[], if◌then◌else◌, inl, inr, ◌+◌, ◌||◌, ◌∙◌, ◌∷◌, ◌≡◌, ◌≤◌, Bool, List, None, Option, ap, arith, eqb, false, filter, get_or, length, map, not, refl, subst, suc, sym, take, true, zero, ℕ, AllKept, Answers, AreAbout, AreFew, AreFewer, AreSingle, Assigned, AtomOver, Checked, Fine, Frame, Grows, HaveAtoms, Holds, IsDenied, IsPaid, IsPermutation, IsTaught, IsValid, KeepsEntries, Kept, Lemma, Lit, MkandKeepsLanguage, Regex, Spending, Spent, Stands, Strings, Writes, all_among, all_from_among, and_from, and_parts, are_atoms, asked_by, asked_by_all, atoms_in, count_cons, denied_all, eq-eqb, false≢true, have_more, held, is_about, is_among, is_atom, is_denial, is_false_clause, is_false_under, is_of_wanted, is_same_literal, is_same_literal-true, kept_behind, list_all, list_permuted, literals_about, negation, negation_twice, one_if, or_cases, row_at, same_Some, slice_get_within, wanted_on, written, lt-ltb, get_or_default, All-filter, filter_passes, sum_by-filter_both, list_all-map, AllPass-from_list_all, list_all-from_AllPass, sum_by-take-le, count_by, cond_none, AreDistinct, entry_of, HasNoneFalse, nothing_kept, Ascend, HasNoSubset, AreEmpty, EmptyHolds, EmptyIsExact, HasNone, Denying, IsDenial, Ticks, sofar, with_denial, IsFair}
+use Rattle.sb_theory.proofs.Words.{[], if◌then◌else◌, inl, inr, ◌+◌, ◌||◌, ◌∙◌, ◌∷◌, ◌≡◌, ◌≤◌, Bool, List, None, Option, ap, arith, eqb, false, filter, get_or, length, map, not, refl, subst, suc, sym, take, true, zero, ℕ, AllKept, Answers, AreAbout, AreFew, AreFewer, AreSingle, Assigned, AtomOver, Checked, Fine, Frame, Grows, HaveAtoms, Holds, IsDenied, IsPaid, IsPermutation, IsTaught, IsValid, Kept, Lemma, Lit, MkandKeepsLanguage, Regex, Spending, Spent, Stands, Strings, Writes, all_among, all_from_among, and_from, and_parts, are_atoms, asked_by, asked_by_all, atoms_in, count_cons, denied_all, eq-eqb, false≢true, have_more, held, is_about, is_among, is_atom, is_denial, is_false_clause, is_false_under, is_of_wanted, is_same_literal, is_same_literal-true, kept_behind, list_all, list_permuted, literals_about, negation, negation_twice, one_if, or_cases, row_at, same_Some, slice_get_within, wanted_on, written, lt-ltb, get_or_default, All-filter, filter_passes, sum_by-filter_both, list_all-map, AllPass-from_list_all, list_all-from_AllPass, sum_by-take-le, count_by, cond_none, AreDistinct, entry_of, HasNoneFalse, nothing_kept, Ascend, HasNoSubset, AreEmpty, EmptyHolds, EmptyIsExact, HasNone, Denying, IsDenial, Sofar, Ticks, sofar, with_denial, IsFair}
 use Rattle.sb_theory.proofs.Moving.{atoms_stay, taught_grows}
 use Rattle.sb_theory.proofs.Rows.{all_about, row_passes}
 
@@ -137,7 +137,7 @@ denied_row keeps x entries constant few clause h taken ascend perm =
     let pass = λ (p : Lit → Bool) (all : list_all p (literals_about x.atoms constant (wanted_on x.wanted entries)) ≡ true).
     fewer_pass p few (row_at x.members.items constant) h.fewer (ap (list_all p) row ∙ all) in
     record {
-      denial = is_denial keeps x.arena x.atoms constant few clause
+      denial = is_denial keeps x.store.arena x.atoms constant few clause
           (all_about x.atoms constant few (fewer_pass (is_about x.atoms constant) few (row_at x.members.items constant)
           h.fewer (row_passes x.atoms constant x.members.items (wanted_on x.wanted x.taken.items) h.holds.rows.members)))
           h.clash ascend perm;
@@ -210,8 +210,9 @@ never_fine clause true fine = absurd (Prim.cc (fine))
 never_fine clause false fine = absurd (Prim.cc (fine))
 
 fair_answer : {x y : Strings} (entries : List Assigned) (constant : ℕ) (clause : List Lit) (done : Bool) → Grows x y
-    → IsDenied x entries constant clause → IsValid x.arena x.atoms clause
-    → IsFair (λ atom. is_atom y.atoms atom ≡ true) (IsTaught y.arena y.atoms y.wanted) entries (answer_of done clause)
+    → IsDenied x entries constant clause → IsValid x.store.arena x.atoms clause
+    → IsFair (λ atom. is_atom y.atoms atom ≡ true) (IsTaught y.store.arena y.atoms y.wanted) entries
+    (answer_of done clause)
 fair_answer {x} {y} entries constant clause true g d valid = (
   λ l among. ap (λ (ts : List (AtomOver ℕ)). is_atom ts l.atom) (atoms_stay g)
       ∙ all_among (λ m. is_atom x.atoms m.atom) clause l (about_atoms x.atoms constant clause d.denial.about) among,
@@ -240,17 +241,18 @@ have_behind {x} {y} kept clause done g known h =
     step true = have_more x.atoms kept clause 0 h known
     step false = h
 
+abbrev sofar_of : Strings → Spending → Option (List ℕ) → Sofar
+sofar_of x budget told = sofar x.store.arena x.store.graph x.trace budget told
+
 writes_answer : {x y : Strings} (kept : Kept) (clause : List Lit) (done : Bool) (before after : Spending)
-    (old new : Option (List ℕ)) → Grows x y → KeepsEntries x.graph.memo y.graph.memo → are_atoms x.atoms clause ≡ true
-    → HasNoSubset kept clause → (x.proves ≡ false → y.trace ≡ x.trace)
-    → (x.proves ≡ true → Denying (sofar x.arena x.graph x.trace before old) (sofar y.arena y.graph y.trace after new)
-    x.atoms clause done)
+    (old new : Option (List ℕ)) → Grows x y → are_atoms x.atoms clause ≡ true → HasNoSubset kept clause
+    → (x.proves ≡ false → y.trace ≡ x.trace)
+    → (x.proves ≡ true → Denying (sofar_of x before old) (sofar_of y after new) x.atoms clause done)
     → Writes x y (written kept before old) (written (kept_behind kept (answer_of done clause)) after new)
-writes_answer {x} {y} kept clause done before after old new g keeps known fresh silent puts = record {
+writes_answer {x} {y} kept clause done before after old new g known fresh silent puts = record {
   atoms = atoms_stay g;
   proves = ap (λ (f : Frame). f.proves) g.frame;
-  extends = g.extends;
-  derivatives = keeps;
+  store = g.store;
   known = have_behind kept clause done g known;
   silent = silent;
   lines = λ on asked k b.
@@ -260,7 +262,7 @@ writes_answer {x} {y} kept clause done before after old new g keeps known fresh 
         d.puts,
         record {
           tracks = d.tracks;
-          atoms = d.atoms_stay ∙ ap (atoms_in y.arena) (sym (atoms_stay g));
+          atoms = d.atoms_stay ∙ ap (atoms_in y.store.arena) (sym (atoms_stay g));
           clauses = d.clauses ∙ ap (λ (ks : Kept). if done then with_denial ks clause else ks) b.clauses
               ∙ sym (kept_answer kept clause done);
           known = have_behind kept clause done g known b.known;
@@ -271,22 +273,19 @@ writes_answer {x} {y} kept clause done before after old new g keeps known fresh 
 
 pub answers_denied : EmptyHolds → EmptyIsExact → {x y : Strings} {entries : List Assigned} {before after : Spending}
     (constant : ℕ) (clause : List Lit) (done : Bool) (answer : Checked) (old new : Option (List ℕ))
-    → answer ≡ answer_of done clause → IsDenied x entries constant clause → Grows x y
-    → KeepsEntries x.graph.memo y.graph.memo → Stands y entries → Ticks before after done
-    → (x.proves ≡ false → y.trace ≡ x.trace)
-    → (x.proves ≡ true → Denying (sofar x.arena x.graph x.trace before old) (sofar y.arena y.graph y.trace after new)
-    x.atoms clause done)
+    → answer ≡ answer_of done clause → IsDenied x entries constant clause → Grows x y → Stands y entries
+    → Ticks before after done → (x.proves ≡ false → y.trace ≡ x.trace)
+    → (x.proves ≡ true → Denying (sofar_of x before old) (sofar_of y after new) x.atoms clause done)
     → Answers x y entries before after old new answer
-answers_denied holds exact {x} {y} {entries} {before} {after} constant clause done answer old new is d g keeps stands
-    ticks silent puts =
+answers_denied holds exact {x} {y} {entries} {before} {after} constant clause done answer old new is d g stands ticks
+    silent puts =
     subst (λ (a : Checked). Answers x y entries before after old new a) (sym is) (record {
       stands = stands;
       agrees = λ fine. absurd (never_fine clause done fine);
       fair = fair_answer entries constant clause done g d
-          (is_valid holds exact x.arena x.atoms constant clause d.denial);
+          (is_valid holds exact x.store.arena x.atoms constant clause d.denial);
       paid = paid_answer clause done ticks;
       writes = λ kept none_false.
-          writes_answer kept clause done before after old new g keeps
-          (about_atoms x.atoms constant clause d.denial.about)
+          writes_answer kept clause done before after old new g (about_atoms x.atoms constant clause d.denial.about)
           (no_subset kept (held entries) clause none_false d.is_false) silent puts;
     })

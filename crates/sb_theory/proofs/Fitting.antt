@@ -118,10 +118,10 @@ row_true p row n all h = sym (ap (list_all p) (take_all n row all)) ∙ h
 pub agrees_settled : (x : Strings) (entries : List Assigned) → Holds x → x.changed ≡ [] → x.taken.items ≡ entries
     → Agrees x entries
 agrees_settled x entries h none taken =
-    ap (λ (es : List Assigned). list_all (is_true_by x.arena x.atoms x.words.items) (wanted_on x.wanted es)) (sym taken)
-    ∙ all_true x.arena x.atoms x.words.items (wanted_on x.wanted x.taken.items) (λ n.
-    ap (list_all (is_true_of x.arena x.atoms (word_at x.words.items n))) (sym (h.rows.members n))
-    ∙ row_true (is_true_of x.arena x.atoms (word_at x.words.items n)) (row_at x.members.items n)
+    ap (λ (es : List Assigned). list_all (is_true_by x.store.arena x.atoms x.words.items) (wanted_on x.wanted es))
+    (sym taken) ∙ all_true x.store.arena x.atoms x.words.items (wanted_on x.wanted x.taken.items) (λ n.
+    ap (list_all (is_true_of x.store.arena x.atoms (word_at x.words.items n))) (sym (h.rows.members n))
+    ∙ row_true (is_true_of x.store.arena x.atoms (word_at x.words.items n)) (row_at x.members.items n)
     (number_at x.fitting.items n) (h.rows.fit.whole n (ap (λ (cs : List Serial). is_in cs n) none))
     (h.rows.fit.front n))
 

@@ -1,35 +1,46 @@
 -- What stays and what grows, step behind step.
-use Rattle.sb_theory.proofs.Words.{◌++◌, ◌∙◌, ◌≡◌, Bool, List, ap, arith, length, refl, subst, sym, ℕ, AreClashing, AreLevelled, Assigned, Atom, AtomOver, Frame, Grows, HasClash, Holds, Intake, IsAsked, IsSettled, IsTaught, Keeps, Lit, Looks, Stands, Strings, Writes, Written, atoms_in, atoms_kept, clash_grown, clause_holds, explores_none, extends_more, frame_of, intake_of, is_of_wanted, list_all, row_at, take_all, wanted_on, writes_grown, Explores}
+use Rattle.sb_theory.proofs.Words.{◌++◌, ◌∙◌, ◌≡◌, Bool, List, ap, arith, length, refl, subst, sym, ℕ, AreClashing, AreLevelled, Assigned, Atom, ArenaGrows, AtomOver, Frame, Grows, HasClash, Holds, Intake, IsAsked, IsSettled, IsTaught, Keeps, Lit, Looks, RegexesGrow, Stands, Store, Strings, Writes, Written, atoms_in, atoms_kept, clash_grown, clause_holds, frame_of, intake_of, is_of_wanted, list_all, regexes_both, regexes_kept, regexes_same, row_at, take_all, wanted_on, writes_grown, Explores, Findings, Regex, explored}
+use Rattle.sb_theory.proofs.Fitting.{rows_grown}
 use Rattle.sb_theory.proofs.Rows.{row_about}
 
-pub keeps_explored : {x y : Strings} → Holds x → Explores x.arena y.arena x.graph y.graph
-    → frame_of y ≡ frame_of x → y.trace ≡ x.trace → Keeps x y
-keeps_explored h e frame trace = record {
-  grows = record { frame = frame; below = h.regexes; extends = e.extends };
-  trace = trace;
-  derivatives = e.derivatives;
-}
+-- The store where regexes were explored.
+pub store_explored : ArenaGrows → (x : Store) (rs : List Regex) (g : Findings) → Explores x.arena rs x.graph g
+    → RegexesGrow x (record x { arena = rs; graph = g })
+store_explored grow x rs g e = explored grow x rs g e.extends e.graph e.derivatives
 
-pub looks_explored : {x y : Strings} → Holds x → Explores x.arena y.arena x.graph y.graph
-    → frame_of y ≡ frame_of x → y.trace ≡ x.trace → intake_of y ≡ intake_of x → Looks x y
-looks_explored h e frame trace intake = record { keeps = keeps_explored h e frame trace; intake = intake }
+-- Where the store grows,
+
+pub keeps_grown : {x y : Strings} → Holds x → RegexesGrow x.store y.store → frame_of y ≡ frame_of x
+    → y.trace ≡ x.trace → Keeps x y
+keeps_grown h g frame trace =
+    record { grows = record { frame = frame; below = h.regexes; store = g }; trace = trace }
+
+pub looks_grown : {x y : Strings} → Holds x → RegexesGrow x.store y.store → frame_of y ≡ frame_of x
+    → y.trace ≡ x.trace → intake_of y ≡ intake_of x → Looks x y
+looks_grown h g frame trace intake = record { keeps = keeps_grown h g frame trace; intake = intake }
 
 pub looks_none : {x : Strings} → Holds x → Looks x x
-looks_none h = looks_explored h (explores_none h.graph) refl refl refl
+looks_none {x} h = looks_grown h (regexes_same x.store) refl refl refl
+
+-- what holds goes on to where nothing else changes
+pub holds_grown : {x y : Strings} → RegexesGrow x.store y.store → y ≡ record x { store = y.store; trace = y.trace }
+    → Holds x → Holds y
+holds_grown {x} {y} g is h =
+    subst Holds (sym is) (record {
+      store = g.right h.store;
+      regexes = regexes_kept x.store.arena y.store.arena x.atoms g.extends h.regexes;
+      rows = rows_grown g.extends h.regexes h.rows;
+    })
 
 pub grows_both : {x y z : Strings} → Grows x y → Grows y z → Grows x z
 grows_both {x} {y} {z} p q = record {
   frame = q.frame ∙ p.frame;
   below = p.below;
-  extends = extends_more x.arena y.arena z.arena p.extends q.extends;
+  store = regexes_both x.store y.store z.store p.store q.store;
 }
 
 pub keeps_both : {x y z : Strings} → Keeps x y → Keeps y z → Keeps x z
-keeps_both p q = record {
-  grows = grows_both p.grows q.grows;
-  trace = q.trace ∙ p.trace;
-  derivatives = λ n pieces h. q.derivatives n pieces (p.derivatives n pieces h);
-}
+keeps_both p q = record { grows = grows_both p.grows q.grows; trace = q.trace ∙ p.trace }
 
 pub looks_both : {x y z : Strings} → Looks x y → Looks y z → Looks x z
 looks_both p q = record { keeps = keeps_both p.keeps q.keeps; intake = q.intake ∙ p.intake }
@@ -45,21 +56,21 @@ entries_stay l = ap (λ (t : Intake). t.entries) l.intake
 pub rows_stay : {x y : Strings} → Looks x y → y.members.items ≡ x.members.items
 rows_stay l = ap (λ (t : Intake). t.rows) l.intake
 
-pub table_stays : {x y : Strings} → Grows x y → atoms_in y.arena x.atoms ≡ atoms_in x.arena x.atoms
-table_stays {x} {y} g = atoms_kept x.arena y.arena x.atoms g.extends g.below
+pub table_stays : {x y : Strings} → Grows x y → atoms_in y.store.arena x.atoms ≡ atoms_in x.store.arena x.atoms
+table_stays {x} {y} g = atoms_kept x.store.arena y.store.arena x.atoms g.store.extends g.below
 
-pub taught_grows : {x y : Strings} → Grows x y → (clause : List Lit) → IsTaught x.arena x.atoms x.wanted clause
-    → IsTaught y.arena y.atoms y.wanted clause
+pub taught_grows : {x y : Strings} → Grows x y → (clause : List Lit)
+    → IsTaught x.store.arena x.atoms x.wanted clause → IsTaught y.store.arena y.atoms y.wanted clause
 taught_grows {x} {y} g clause taught = (
   ap (λ (f : Frame). list_all (is_of_wanted f.wanted) clause) g.frame ∙ taught.0,
   λ v words. ap (λ (table : List Atom). clause_holds v table clause)
-      (ap (atoms_in y.arena) (atoms_stay g) ∙ table_stays g) ∙ taught.1 v words,
+      (ap (atoms_in y.store.arena) (atoms_stay g) ∙ table_stays g) ∙ taught.1 v words,
 )
 
 pub writes_kept : {x y : Strings} → Keeps x y → (proof : Written) → Writes x y proof proof
 writes_kept {x} {y} k proof =
     writes_grown x y proof (atoms_stay k.grows) (ap (λ (f : Frame). f.proves) k.grows.frame) k.trace
-    (table_stays k.grows) k.grows.extends k.derivatives
+    (table_stays k.grows) k.grows.store
 
 -- what was taken in stands on the trail where it is as it was
 pub stands_looked : {x y : Strings} {entries : List Assigned} → Holds y → y.taken.items ≡ x.taken.items
@@ -74,10 +85,11 @@ stands_looked holds same h = record {
 -- A row that has no word has none as the arena grows.
 pub clash_looked : {x y : Strings} (constant : ℕ) → Holds x → Looks x y → HasClash x constant → HasClash y constant
 clash_looked {x} {y} constant h looks clash =
-    subst (λ (ts : List (AtomOver ℕ)). AreClashing y.arena ts (row_at y.members.items constant))
+    subst (λ (ts : List (AtomOver ℕ)). AreClashing y.store.arena ts (row_at y.members.items constant))
     (sym (atoms_stay looks.keeps.grows))
-    (subst (λ (rows : List (List Lit)). AreClashing y.arena x.atoms (row_at rows constant)) (sym (rows_stay looks))
-    (clash_grown x.arena y.arena x.atoms constant (row_at x.members.items constant) looks.keeps.grows.extends h.regexes
+    (subst (λ (rows : List (List Lit)). AreClashing y.store.arena x.atoms (row_at rows constant))
+    (sym (rows_stay looks)) (clash_grown x.store.arena y.store.arena x.atoms constant
+    (row_at x.members.items constant) looks.keeps.grows.store.extends h.regexes
     (row_about x.atoms constant x.members.items (wanted_on x.wanted x.taken.items) h.rows.members) clash))
 
 -- where the whole row was asked for
@@ -86,7 +98,7 @@ pub settled_by : {x y : Strings} {constant : ℕ} {row : List Lit} (found : Bool
 settled_by {x} {y} {constant} {row} found h is = record {
   holds = h.holds;
   whole = λ alive. omega (arith, h.fits alive, ap length is);
-  clash = λ dead. subst (λ (ls : List Lit). AreClashing y.arena y.atoms ls)
+  clash = λ dead. subst (λ (ls : List Lit). AreClashing y.store.arena y.atoms ls)
       (take_all (length row) (row_at y.members.items constant) (omega (arith, ap length is))) (h.clash dead);
   rises = h.rises;
 }

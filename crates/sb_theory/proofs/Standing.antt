@@ -1,17 +1,15 @@
 -- What was taken in of a trail, as it grows and as levels are taken back.
-use Rattle.sb_theory.proofs.Words.{[], inl, inr, ◌++◌, ◌+◌, ◌-◌, ◌<◌, ◌||◌, ◌∙◌, ◌∷◌, ◌≡◌, ◌≤◌, Bool, List, Option, Some, ap, append_assoc, arith, false, get_or, length, nat_eq, nat_le, nat_lt, refl, slice_get, subst, suc, sym, take, true, ℕ, AreLevelled, AreRows, Assigned, AtomOver, HaveRegexesBelow, Holds, Intake, IsCut, IsGraph, IsRight, IsSettled, IsWhole, Lit, Looks, Regex, Serial, Stands, Strings, current_level, eqb-true, filter-append, is_in, nat_tests, or_cases, row_at, same_Some, up_to, wanted_on, list_any_more, level_after-push, up_to-all, up_to-push_above, level_after}
+use Rattle.sb_theory.proofs.Words.{[], inl, inr, ◌++◌, ◌+◌, ◌-◌, ◌<◌, ◌||◌, ◌∙◌, ◌∷◌, ◌≡◌, ◌≤◌, Bool, List, Option, Some, ap, append_assoc, arith, false, get_or, length, nat_eq, nat_le, nat_lt, refl, slice_get, subst, suc, sym, take, true, ℕ, AreLevelled, AreRows, Assigned, AtomOver, HaveRegexesBelow, Holds, Intake, IsCut, IsSettled, IsStore, IsWhole, Lit, Looks, Regex, Serial, Stands, Strings, current_level, eqb-true, filter-append, is_in, nat_tests, or_cases, row_at, same_Some, up_to, wanted_on, list_any_more, level_after-push, up_to-all, up_to-push_above, level_after}
 use Rattle.sb_theory.proofs.Fitting.{rows_none}
 use Rattle.sb_theory.proofs.Moving.{rows_stay}
 
-pub stands_new : (x : Strings) → IsGraph x.arena x.graph → IsRight x.arena x.plain
-    → HaveRegexesBelow (length x.arena) x.atoms → x.taken.items ≡ [] → x.members.items ≡ [] → x.fitting.items ≡ []
-    → Stands x []
-stands_new x graph plain regexes none no_members no_numbers = record {
+pub stands_new : (x : Strings) → IsStore x.store → HaveRegexesBelow (length x.store.arena) x.atoms
+    → x.taken.items ≡ [] → x.members.items ≡ [] → x.fitting.items ≡ [] → Stands x []
+stands_new x store regexes none no_members no_numbers = record {
   holds = record {
-    graph = graph;
-    plain = plain;
+    store = store;
     regexes = regexes;
-    rows = rows_none x.arena x.atoms x.words.items x.members.items x.fitting.items x.changed
+    rows = rows_none x.store.arena x.atoms x.words.items x.members.items x.fitting.items x.changed
         (wanted_on x.wanted x.taken.items) no_members no_numbers (ap (wanted_on x.wanted) none);
   };
   levelled = subst (λ (es : List Assigned). AreLevelled 0 es) (sym none) tt;

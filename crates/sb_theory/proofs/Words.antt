@@ -28,18 +28,23 @@ pub use Rattle.sb_rulebook.specs.Kept.{nothing_kept}
 pub use Rattle.sb_sound.specs.HintLaws.{Ascend, HasNoSubset}
 pub use Rattle.sb_sound.specs.MembershipLaws.{AreEmpty, EmptyHolds, EmptyIsExact, HasNone}
 pub use Rattle.sb_proof.specs.declared.tape.TapeFault.{TapeFault}
-pub use Rattle.sb_regex.proofs.CallerLemmas.{at_kept, extends_more, extends_same}
+pub use Rattle.sb_regex.proofs.CallerLemmas.{at_kept}
+pub use Rattle.sb_regex.specs.Numbered.{Extends}
+pub use Rattle.sb_store.proofs.CallerLemmas.{explored, regexes_both, regexes_same, walked}
+pub use Rattle.sb_store.specs.Stores.{ArenaGrows}
+pub use Rattle.sb_store.specs.declared.store.Store.{Store}
 pub use Rattle.sb_clauses.specs.Propagation.{HasNoneFalse, has_room_for, is_reserved}
 pub use Rattle.sb_search.specs.Asking.{AreAllKnown, CountsFaults, Falls, IsFair}
 pub use Rattle.sb_search.specs.declared.theory.Checked.{Checked}
 pub use Rattle.sb_atoms.proofs.CallerLemmas.{atoms_kept, regexes_kept}
+pub use Rattle.sb_graph.specs.Findings.{Findings}
 pub use Rattle.sb_graph.specs.Witness.{IsFinding}
 pub use Rattle.sb_graph.specs.declared.graph.Explored.{Explored}
 pub use Rattle.sb_trace.proofs.CallerLemmas.{counts_none, counts_on, spent_none}
 pub use Rattle.sb_trace.specs.Putting.{CountsTapeFault}
-pub use Rattle.sb_clash.proofs.CallerLemmas.{clash_grown, count_cons, denied_all, explores_arena, explores_none, in_all, is_denial, list_permuted, one_if, regex_below}
+pub use Rattle.sb_clash.proofs.CallerLemmas.{clash_grown, count_cons, denied_all, in_all, is_denial, list_permuted, one_if, regex_below}
 pub use Rattle.sb_clash.specs.Asked.{Explores}
-pub use Rattle.sb_clash.specs.Denials.{Denying, IsDenial, Ticks, sofar, with_denial}
+pub use Rattle.sb_clash.specs.Denials.{Denying, IsDenial, Sofar, Ticks, sofar, with_denial}
 pub use Rattle.sb_clash.specs.Literals.{AreAbout, AreClashing, AreFewer, AreSingle, IsAbout, asked_by, asked_by_all, number_in}
 pub use Rattle.sb_theory.specs.Fronts.{AreFitting, AreRows, IsNoted, IsSet, IsWhole, Rises, is_front_true, is_in, number_at}
 pub use Rattle.sb_theory.specs.Laws.{have_more, writes_both, writes_grown}
@@ -47,5 +52,5 @@ pub use Rattle.sb_theory.specs.Memberships.{AreMembers, HaveAtoms, IsPut, IsVali
 pub use Rattle.sb_theory.specs.Places.{IsAdded, IsCut, IsDropped, is_above}
 pub use Rattle.sb_theory.specs.Strings.{Agrees, Answers, AreFew, Frame, Grows, HasClash, Holds, Intake, IsAsked, IsDenied, IsLook, IsPaid, IsSettled, Keeps, Looks, Stands, Writes, frame_of, intake_of}
 pub use Rattle.sb_theory.specs.Wanted.{IsTaught, is_of_wanted, is_wanted, wanted_of, wanted_on}
-pub use Rattle.sb_theory.specs.Words.{AllKept, AreLevelled, Ask, Assigned, Atom, AtomOver, Extends, Fine, HaveRegexesBelow, IsGraph, IsRight, KeepsEntries, Kept, KeptClause, Lemma, Lit, Names, Regex, Serial, Spent, Written, atoms_in, bool_atom, clause_holds, constant_piece, current_level, held, in_atom, kept_behind, list_all, regex_at, up_to, written}
+pub use Rattle.sb_theory.specs.Words.{AllKept, AreLevelled, Ask, Assigned, Atom, AtomOver, Fine, HaveRegexesBelow, IsStore, Kept, KeptClause, Lemma, Lit, Names, Regex, RegexesGrow, Serial, Spent, Written, atoms_in, bool_atom, clause_holds, constant_piece, current_level, held, in_atom, kept_behind, list_all, regex_at, up_to, written}
 pub use Rattle.sb_theory.specs.declared.strings.Strings.{Strings}

@@ -1,6 +1,6 @@
 -- Lines that the search puts over the theory, and lines behind lines.
 use Rattle.std.proofs.Common.{◌≡◌, ◌⊎◌, ℕ, zero, suc, ◌+◌, ◌<◌, Bool, true, false, not, ◌&&◌, nat_lt, if◌then◌else◌, List, [], ◌∷◌, ◌++◌, length, Some, Result, Ok, Err, refl, sym, ap, subst, ◌∙◌, inl, inr, arith, append_assoc}
-use Rattle.sb_theory.specs.Words.{AllKept, Asked, Assigned, Atom, AtomOver, Extends, KeepsEntries, Kept, KeptClause, Lit, Regex, Traced, Tracks, Written, atoms_in, counting, kept_at, list_all, most_counted, over, rests_of_any, true_or_false, with_clause, with_gate, with_learned}
+use Rattle.sb_theory.specs.Words.{AllKept, Asked, Assigned, Atom, AtomOver, Kept, KeptClause, Lit, Regex, RegexesGrow, Traced, Tracks, Written, atoms_in, counting, kept_at, list_all, most_counted, over, rests_of_any, true_or_false, with_clause, with_gate, with_learned}
 use Rattle.std.proofs.lemmas.Bool.{and_from, or_left, or_right, le-ltb, eq-eqb, lt-ltb}
 use Rattle.std.proofs.lemmas.List.{length-map}
 use Rattle.std.proofs.lemmas.Option.{same_Some}
@@ -8,13 +8,13 @@ use Rattle.sb_lit.specs.Clauses.{is_among, is_same_literal, are_ascending}
 use Rattle.sb_lit.specs.Hints.{Unlearned, learned}
 use Rattle.sb_lit.proofs.CallerLemmas.{is_same_literal-self, all_from_among}
 use Rattle.sb_analyze.specs.Learning.{IsLesson}
-use Rattle.sb_regex.proofs.CallerLemmas.{extends_same, extends_more}
 use Rattle.sb_rulebook.specs.AtomRules.{are_known}
 use Rattle.sb_rulebook.specs.ClauseRules.{Refusal, refusal_of, unknown_id}
 use Rattle.sb_rulebook.specs.Gates.{is_gate, has_both_signs}
 use Rattle.sb_rulebook.specs.Follows.{follows}
 use Rattle.sb_rulebook.specs.Lines.{learned_line, rule_line, gate}
 use Rattle.sb_rulebook.specs.LineLaws.{has_text}
+use Rattle.sb_store.proofs.CallerLemmas.{regexes_same, regexes_both}
 use Rattle.sb_trace.proofs.CallerLemmas.{puts_none, puts_one, puts_both, tracks_grow}
 pub use Rattle.sb_clash.proofs.CallerLemmas.{tracks_kept}
 use Rattle.sb_search.specs.Asking.{AreKnown}
@@ -35,8 +35,7 @@ pub writes_both : (x y z : Strings) (before between after : Written) → Writes 
 writes_both x y z before between after p q = record {
   atoms = q.atoms ∙ p.atoms;
   proves = q.proves ∙ p.proves;
-  extends = extends_more x.arena y.arena z.arena p.extends q.extends;
-  derivatives = λ n pieces h. q.derivatives n pieces (p.derivatives n pieces h);
+  store = regexes_both x.store y.store z.store p.store q.store;
   known = λ h. q.known (p.known h);
   silent = λ off. q.silent (p.proves ∙ off) ∙ p.silent off;
   lines = λ on asked kept backs.
@@ -48,24 +47,24 @@ writes_both x y z before between after p q = record {
       );
 }
 
--- where the arena and what is known of derivatives grow
+-- where more is known of regexes
 pub writes_grown : (x y : Strings) (proof : Written) → y.atoms ≡ x.atoms → y.proves ≡ x.proves → y.trace ≡ x.trace
-    → atoms_in y.arena x.atoms ≡ atoms_in x.arena x.atoms → Extends x.arena y.arena
-    → KeepsEntries x.graph.memo y.graph.memo → Writes x y proof proof
-writes_grown x y proof atoms proves trace table e keeps = record {
+    → atoms_in y.store.arena x.atoms ≡ atoms_in x.store.arena x.atoms → RegexesGrow x.store y.store
+    → Writes x y proof proof
+writes_grown x y proof atoms proves trace table g = record {
   atoms = atoms;
   proves = proves;
-  extends = e;
-  derivatives = keeps;
+  store = g;
   known = λ h. subst (λ (ts : List (AtomOver ℕ)). HaveAtoms ts proof.kept) (sym atoms) h;
   silent = λ off. trace;
   lines = λ on asked kept b. (
     kept,
     puts_none asked kept proof.told,
     record {
-      tracks = subst (λ (t : Traced). Tracks y.arena y.graph.memo t kept) (sym trace)
-          (tracks_grow x.arena y.arena x.graph.memo y.graph.memo x.trace kept e keeps b.tracks);
-      atoms = b.atoms ∙ sym table ∙ ap (atoms_in y.arena) (sym atoms);
+      tracks = subst (λ (t : Traced). Tracks y.store.arena y.store.graph.memo t kept) (sym trace)
+          (tracks_grow x.store.arena y.store.arena x.store.graph.memo y.store.graph.memo x.trace kept g.extends
+          g.derivatives b.tracks);
+      atoms = b.atoms ∙ sym table ∙ ap (atoms_in y.store.arena) (sym atoms);
       clauses = b.clauses;
       known = subst (λ (ts : List (AtomOver ℕ)). HaveAtoms ts proof.kept) (sym atoms) b.known;
       counted = b.counted;
@@ -74,7 +73,7 @@ writes_grown x y proof atoms proves trace table e keeps = record {
 }
 
 pub writes_none : (x : Strings) (proof : Written) → Writes x x proof proof
-writes_none x proof = writes_grown x x proof refl refl refl refl (extends_same x.arena) (λ n pieces h. h)
+writes_none x proof = writes_grown x x proof refl refl refl refl (regexes_same x.store)
 
 -- Atoms of clauses that are kept.
 
@@ -131,12 +130,11 @@ writes_learned x proof clause hints level lesson all text room =
     record {
       atoms = refl;
       proves = refl;
-      extends = extends_same x.arena;
-      derivatives = λ n pieces h. h;
+      store = regexes_same x.store;
       known = λ h. have_more x.atoms proof.kept clause level h new;
       silent = λ off. refl;
       lines = λ on asked kept b.
-          let known = are_known_in x.arena x.atoms kept.atoms clause b.atoms new in
+          let known = are_known_in x.store.arena x.atoms kept.atoms clause b.atoms new in
           let accepted = ap (λ (ks : Kept). learned ks clause hints) b.clauses ∙ lesson.accepted in
           let after : AllKept = record (with_clause kept clause level (rests_of_any kept hints)) {
             counted = kept.counted + 1;
@@ -146,7 +144,8 @@ writes_learned x proof clause hints level lesson all text room =
                 (learned_follows asked kept clause hints level known accepted
                 (omega (arith, room, b.counted.spent, b.counted.limit))) text refl,
             record {
-              tracks = tracks_kept x.arena x.graph.memo x.trace kept after.clauses after.rests after.counted b.tracks;
+              tracks = tracks_kept x.store.arena x.store.graph.memo x.trace kept after.clauses after.rests after.counted
+                  b.tracks;
               atoms = b.atoms;
               clauses = ap (λ (ks : Kept). ks ++ Some (record { literals = clause; level = level }) ∷ []) b.clauses;
               known = have_more x.atoms proof.kept clause level b.known new;
@@ -184,19 +183,19 @@ pub writes_gate : (x : Strings) (proof : Written) (atom : ℕ) → is_atom x.ato
 writes_gate x proof atom there text = record {
   atoms = refl;
   proves = refl;
-  extends = extends_same x.arena;
-  derivatives = λ n pieces h. h;
+  store = regexes_same x.store;
   known = λ h. have_more x.atoms proof.kept (true_or_false atom) 0 h (both_known x.atoms atom there);
   silent = λ off. refl;
   lines = λ on asked kept b.
       let new = both_known x.atoms atom there in
-      let known = are_known_in x.arena x.atoms kept.atoms (true_or_false atom) b.atoms new in
+      let known = are_known_in x.store.arena x.atoms kept.atoms (true_or_false atom) b.atoms new in
       let after : AllKept = with_clause kept (true_or_false atom) 0 [] in (
         after,
         puts_one asked kept after (rule_line gate (true_or_false atom)) proof.told (with_gate atom proof).told
             (gate_follows asked kept atom known) text refl,
         record {
-          tracks = tracks_kept x.arena x.graph.memo x.trace kept after.clauses after.rests kept.counted b.tracks;
+          tracks = tracks_kept x.store.arena x.store.graph.memo x.trace kept after.clauses after.rests kept.counted
+              b.tracks;
           atoms = b.atoms;
           clauses = ap (λ (ks : Kept). ks ++ Some (record { literals = true_or_false atom; level = 0 }) ∷ []) b.clauses;
           known = have_more x.atoms proof.kept (true_or_false atom) 0 b.known new;

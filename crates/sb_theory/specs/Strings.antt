@@ -1,6 +1,6 @@
 -- What the theory has taken in of a trail, and what its lines make of a proof.
 use Rattle.std.specs.Prelude.{◌≡◌, ℕ, ◌<◌, ◌≤◌, Bool, true, false, List, [], ◌++◌, length, take, Option, Some, None, Result, IfOk}
-use Rattle.sb_theory.specs.Words.{AllKept, AreLevelled, Ask, Asked, Assigned, AtomOver, Extends, Fine, HaveRegexesBelow, IsGraph, IsRight, KeepsEntries, Kept, Lemma, Lit, Serial, Spent, Tracks, Written, atoms_in, held, kept_behind, list_all, written}
+use Rattle.sb_theory.specs.Words.{AllKept, AreLevelled, Ask, Asked, Assigned, AtomOver, Fine, HaveRegexesBelow, IsStore, Kept, Lemma, Lit, RegexesGrow, Serial, Spent, Tracks, Written, atoms_in, held, kept_behind, list_all, written}
 use Rattle.sb_lit.specs.Budgets.{Spending}
 use Rattle.sb_lit.specs.Clauses.{is_false_clause}
 use Rattle.sb_clauses.specs.Propagation.{HasNoneFalse}
@@ -15,13 +15,12 @@ use Rattle.sb_theory.specs.Memberships.{row_at, is_true_by, is_atom, HaveAtoms}
 use Rattle.sb_theory.specs.Wanted.{is_of_wanted, wanted_on, IsTaught}
 use Rattle.sb_theory.specs.Fronts.{number_at, IsWhole, Rises, AreRows}
 
--- What holds of the theory: its tables are right, the rows are those of the literals of wanted atoms that were taken in,
+-- What holds of the theory: its store is right, the rows are those of the literals of wanted atoms that were taken in,
 -- and it is known how much of each of them is true of the words.
 pub record Holds (x : Strings) : Type 0 where
-  pub graph : IsGraph x.arena x.graph
-  pub plain : IsRight x.arena x.plain
-  pub regexes : HaveRegexesBelow (length x.arena) x.atoms
-  pub rows : AreRows x.arena x.atoms x.words.items x.members.items x.fitting.items x.changed
+  pub store : IsStore x.store
+  pub regexes : HaveRegexesBelow (length x.store.arena) x.atoms
+  pub rows : AreRows x.store.arena x.atoms x.words.items x.members.items x.fitting.items x.changed
       (wanted_on x.wanted x.taken.items)
 
 -- What was taken in is the front of the trail.
@@ -33,7 +32,7 @@ pub record Stands (x : Strings) (entries : List Assigned) : Type 0 where
 
 -- each literal of a wanted atom on the trail is true of the words
 abbrev pub Agrees : Strings → List Assigned → Type 0
-Agrees x entries = list_all (is_true_by x.arena x.atoms x.words.items) (wanted_on x.wanted entries) ≡ true
+Agrees x entries = list_all (is_true_by x.store.arena x.atoms x.words.items) (wanted_on x.wanted entries) ≡ true
 
 -- what stays whatever is asked
 pub record Frame : Type 0 where
@@ -44,17 +43,16 @@ pub record Frame : Type 0 where
 abbrev pub frame_of : Strings → Frame
 frame_of x = record { atoms = x.atoms; wanted = x.wanted; proves = x.proves }
 
--- Regexes may be added, and nothing else that others know changes.
+-- More may be known of regexes, and nothing else that others know changes.
 pub record Grows (x y : Strings) : Type 0 where
   pub frame : frame_of y ≡ frame_of x
-  pub below : HaveRegexesBelow (length x.arena) x.atoms
-  pub extends : Extends x.arena y.arena
+  pub below : HaveRegexesBelow (length x.store.arena) x.atoms
+  pub store : RegexesGrow x.store y.store
 
--- Regexes and derivatives may be added, and no lines are put.
+-- So it is, and no lines are put.
 pub record Keeps (x y : Strings) : Type 0 where
   pub grows : Grows x y
   pub trace : y.trace ≡ x.trace
-  pub derivatives : KeepsEntries x.graph.memo y.graph.memo
 
 -- what was taken in, and what is to be looked at
 pub record Intake : Type 0 where
@@ -72,11 +70,11 @@ pub record Looks (x y : Strings) : Type 0 where
 
 -- no word makes the row of the constant true
 abbrev pub HasClash : Strings → ℕ → Type 0
-HasClash x constant = AreClashing x.arena x.atoms (row_at x.members.items constant)
+HasClash x constant = AreClashing x.store.arena x.atoms (row_at x.members.items constant)
 
 -- nor so many first literals of it
 abbrev pub HasClashIn : ℕ → Strings → ℕ → Type 0
-HasClashIn long x constant = AreClashing x.arena x.atoms (take long (row_at x.members.items constant))
+HasClashIn long x constant = AreClashing x.store.arena x.atoms (take long (row_at x.members.items constant))
 
 -- A word was asked for of so many first literals of a constant's row: it is the constant's, or there is none.
 pub record IsAsked (long : ℕ) (x y : Strings) (constant : ℕ) (found : Bool) : Type 0 where
@@ -109,23 +107,22 @@ pub record IsFront (y : Strings) (constant long : ℕ) : Type 0 where
 pub record AreFew (y : Strings) (constant : ℕ) (few : List Lit) : Type 0 where
   pub holds : Holds y
   pub fewer : AreFewer few (row_at y.members.items constant)
-  pub clash : AreClashing y.arena y.atoms few
+  pub clash : AreClashing y.store.arena y.atoms few
 
 -- The reader of the proof keeps what the theory knows of regexes and atoms, and these clauses, whose atoms it knows.
 pub record Backs (asked : Asked) (x : Strings) (kept : AllKept) (proof : Written) : Type 0 where
-  pub tracks : Tracks x.arena x.graph.memo x.trace kept
-  pub atoms : kept.atoms ≡ atoms_in x.arena x.atoms
+  pub tracks : Tracks x.store.arena x.store.graph.memo x.trace kept
+  pub atoms : kept.atoms ≡ atoms_in x.store.arena x.atoms
   pub clauses : kept.clauses ≡ proof.kept
   pub known : HaveAtoms x.atoms proof.kept
   pub counted : IsCounted asked kept proof.budget
 
 -- Where lines are put, those between the one proof and the other follow; where none are, what stands of regexes in the
--- proof stays. Atoms stay, and so do regexes and derivatives. New clauses have known atoms.
+-- proof stays. Atoms stay, and so does what is known of regexes. New clauses have known atoms.
 pub record Writes (x y : Strings) (before after : Written) : Type 0 where
   pub atoms : y.atoms ≡ x.atoms
   pub proves : y.proves ≡ x.proves
-  pub extends : Extends x.arena y.arena
-  pub derivatives : KeepsEntries x.graph.memo y.graph.memo
+  pub store : RegexesGrow x.store y.store
   pub known : HaveAtoms x.atoms before.kept → HaveAtoms y.atoms after.kept
   pub silent : x.proves ≡ false → y.trace ≡ x.trace
   pub lines : x.proves ≡ true → (asked : Asked) (kept : AllKept) → Backs asked x kept before
@@ -133,7 +130,7 @@ pub record Writes (x y : Strings) (before after : Written) : Type 0 where
 
 -- The clause is of wanted memberships of one constant, no word makes it false, and it is false on the trail.
 pub record IsDenied (x : Strings) (entries : List Assigned) (constant : ℕ) (clause : List Lit) : Type 0 where
-  pub denial : IsDenial x.arena x.atoms constant clause
+  pub denial : IsDenial x.store.arena x.atoms constant clause
   pub asked : list_all (is_of_wanted x.wanted) clause ≡ true
   pub is_false : is_false_clause (held entries) clause ≡ true
 
@@ -150,7 +147,7 @@ pub record Answers (x y : Strings) (entries : List Assigned) (before after : Spe
   where
     pub stands : Stands y entries
     pub agrees : answer ≡ Fine → Agrees y entries
-    pub fair : IsFair (λ atom. is_atom y.atoms atom ≡ true) (IsTaught y.arena y.atoms y.wanted) entries answer
+    pub fair : IsFair (λ atom. is_atom y.atoms atom ≡ true) (IsTaught y.store.arena y.atoms y.wanted) entries answer
     pub paid : IsPaid before after answer
     pub writes : (kept : Kept) → HasNoneFalse kept (held entries)
         → Writes x y (written kept before old) (written (kept_behind kept answer) after new)

@@ -3,12 +3,10 @@ pub use Rattle.std.specs.List.{list_all, list_any}
 pub use Rattle.sb_lit.specs.Kept.{Kept, KeptClause, kept_at}
 pub use Rattle.sb_lit.specs.declared.clause.Lit.{Lit}
 pub use Rattle.sb_lang.specs.Regex.{Regex, eps, none}
-pub use Rattle.sb_regex.specs.Numbered.{Extends, regex_at}
+pub use Rattle.sb_regex.specs.Numbered.{regex_at}
 pub use Rattle.sb_trail.specs.Assignments.{AreLevelled, current_level, held, up_to}
 pub use Rattle.sb_trail.specs.declared.assigned.Assigned.{Assigned}
-pub use Rattle.sb_deriv.specs.Faithful.{KeepsEntries}
-pub use Rattle.sb_graph.specs.Findings.{IsGraph}
-pub use Rattle.sb_plain.specs.Memory.{IsRight}
+pub use Rattle.sb_store.specs.Stores.{IsStore, RegexesGrow}
 pub use Rattle.sb_term.specs.declared.term.Serial.{Serial}
 pub use Rattle.sb_script.specs.Pieces.{constant_piece}
 pub use Rattle.sb_rulebook.specs.Atoms.{Atom, AtomOver, bool_atom, clause_holds, in_atom}

@@ -1,7 +1,7 @@
 //! Literals that are matched with the words of their constants.
 
 ghost use Rattle.std.specs.Prelude.{◌≡◌, ◌<◌, ◌^◌, ◌∷◌, ◌++◌, [], List, length, IfOk, OnOk};
-ghost use Rattle.sb_theory.specs.Words.{Extends, HaveRegexesBelow, IsRight, Lit as TheLit};
+ghost use Rattle.sb_theory.specs.Words.{HaveRegexesBelow, IsStore, Lit as TheLit, RegexesGrow};
 ghost use Rattle.sb_theory.specs.Memberships.{is_true_by};
 ghost use Rattle.sb_theory.specs.Wanted.{wanted_of};
 ghost use Rattle.sb_theory.specs.Fronts.{AreRows, IsNoted};
@@ -14,30 +14,27 @@ use crate::row::{Row, put_member, row_of};
 use crate::wanted::WantedAtoms;
 use sb_atoms::Atoms;
 use sb_lit::Lit;
-use sb_plain::Plain;
-use sb_regex::Arena;
+use sb_store::Store;
 use sb_term::Serial;
 use sb_word::Word;
 use std::alloc::{AllocError, Global};
 
 /// Whether the word of a literal's constant makes it true, and so where it is about none.
 pub(crate) fn fits(
-    arena: &mut Arena,
-    plain: &mut Plain,
+    store: &mut Store,
     atoms: &Atoms,
     words: &[Option<Word>],
     literal: Lit,
 ) -> Result<bool, AllocError>
-    requires regexes { HaveRegexesBelow (length arena.old) atoms.now }
-    requires right { IsRight arena.old plain.old }
-    ensures fits { IfOk result (λ b. b ≡ is_true_by arena.old atoms.now words.now literal) }
-    ensures extends { Extends arena.old arena.new }
-    ensures right { IsRight arena.new plain.new }
+    requires regexes { HaveRegexesBelow (length store.old.arena) atoms.now }
+    requires store { IsStore store.old }
+    ensures fits { IfOk result (λ b. b ≡ is_true_by store.old.arena atoms.now words.now literal) }
+    ensures grows { RegexesGrow store.old store.new }
 {
     let Some(member) = membership(atoms, literal) else {
         return Ok(true);
     };
-    let is_in = contains(arena, plain, words, member.serial, member.regex)?;
+    let is_in = contains(store, words, member.serial, member.regex)?;
     Ok(is_in == literal.positive)
 }
 
@@ -46,8 +43,7 @@ pub(crate) fn fits(
 /// was longer is then known of what is left of it.
 pub(crate) fn take_literal(
     alloc: Global,
-    arena: &mut Arena,
-    plain: &mut Plain,
+    store: &mut Store,
     wanted: &WantedAtoms,
     atoms: &Atoms,
     words: &[Option<Word>],
@@ -56,14 +52,13 @@ pub(crate) fn take_literal(
     changed: &mut Changed,
     literal: Lit,
 ) -> Result<(), AllocError>
-    requires regexes { HaveRegexesBelow (length arena.old) atoms.now }
-    requires right { IsRight arena.old plain.old }
+    requires regexes { HaveRegexesBelow (length store.old.arena) atoms.now }
+    requires store { IsStore store.old }
     ensures rows { OnOk result ((ls : List TheLit)
-        → AreRows arena.old atoms.now words.now rows.old.items fitting.old.items changed.old ls
-        → AreRows arena.new atoms.now words.now rows.new.items fitting.new.items changed.new
+        → AreRows store.old.arena atoms.now words.now rows.old.items fitting.old.items changed.old ls
+        → AreRows store.new.arena atoms.now words.now rows.new.items fitting.new.items changed.new
         (ls ++ wanted_of wanted.now (literal ∷ []))) }
-    ensures extends { Extends arena.old arena.new }
-    ensures right { IsRight arena.new plain.new }
+    ensures grows { RegexesGrow store.old store.new }
 {
     let Some(member) = asked(wanted, atoms, literal) else {
         return Ok(());
@@ -72,7 +67,7 @@ pub(crate) fn take_literal(
     if number_of(fitting, member.serial) < long {
         return put_member(alloc, rows, member.serial, literal);
     }
-    let matches = fits(arena, plain, atoms, words, literal)?;
+    let matches = fits(store, atoms, words, literal)?;
     note_next(fitting, changed, member.serial, long, matches)?;
     put_member(alloc, rows, member.serial, literal)
 }

@@ -2,13 +2,13 @@
 
 ghost use Rattle.std.specs.Prelude.{◌≡◌, ◌<◌, length, IfOk, OnOk};
 ghost use Rattle.sb_lang.specs.Language.{language};
-ghost use Rattle.sb_theory.specs.Words.{Extends, IsRight, regex_at};
+ghost use Rattle.sb_theory.specs.Words.{IsStore, RegexesGrow, regex_at};
 ghost use Rattle.sb_theory.specs.Memberships.{word_at, IsPut};
 ghost use Rattle.sb_theory.specs.Places.{is_above};
 
 use sb_lang::derivative::nullable_has_empty_word;
-use sb_plain::Plain;
-use sb_regex::{Arena, RegexId};
+use sb_regex::RegexId;
+use sb_store::{Store, regexes_grow};
 use sb_term::Serial;
 use sb_trail::Entry;
 use sb_word::Word;
@@ -16,22 +16,21 @@ use std::alloc::AllocError;
 
 /// Whether the word that a constant has is in the language of a regex.
 pub(crate) fn contains(
-    arena: &mut Arena,
-    plain: &mut Plain,
+    store: &mut Store,
     words: &[Option<Word>],
     serial: Serial,
     regex: RegexId,
 ) -> Result<bool, AllocError>
-    requires known { regex < length arena.old }
-    requires right { IsRight arena.old plain.old }
-    ensures ok { IfOk result (λ b. b ≡ language (regex_at arena.old regex) (word_at words.now serial.0)) }
-    ensures extends { Extends arena.old arena.new }
-    ensures right { IsRight arena.new plain.new }
+    requires known { regex < length store.old.arena }
+    requires store { IsStore store.old }
+    ensures ok { IfOk result (λ b. b ≡ language (regex_at store.old.arena regex) (word_at words.now serial.0)) }
+    ensures grows { RegexesGrow store.old store.new }
 {
+    regexes_grow();
     nullable_has_empty_word();
     match words.get(serial.0 as usize) {
-        Some(Some(word)) => plain.matches(arena, word, regex),
-        Some(None) | None => Ok(arena.nullable(regex)),
+        Some(Some(word)) => store.plain.matches(&mut store.arena, word, regex),
+        Some(None) | None => Ok(store.arena.nullable(regex)),
     }
 }
 

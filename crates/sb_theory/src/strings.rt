@@ -2,7 +2,7 @@
 
 ghost use Rattle.std.specs.Prelude.{◌≡◌, ◌+◌, ◌<◌, ◌≤◌, [], true, length, if◌then◌else◌, IfOk, OnOk};
 ghost use Rattle.std.proofs.Common.{rules};
-ghost use Rattle.sb_theory.specs.Words.{HaveRegexesBelow, IsGraph, IsRight, Lemma, Spent, current_level};
+ghost use Rattle.sb_theory.specs.Words.{HaveRegexesBelow, IsStore, Lemma, Spent, current_level};
 ghost use Rattle.sb_theory.specs.Memberships.{row_at, is_atom};
 ghost use Rattle.sb_theory.specs.Wanted.{IsTaught};
 ghost use Rattle.sb_theory.specs.Fronts.{number_at};
@@ -19,14 +19,13 @@ use crate::wanted::WantedAtoms;
 use sb_atoms::Atoms;
 use sb_clash::{core, denial, least_word, put_denial, tick};
 use sb_clauses::Clauses;
-use sb_graph::{Explored, Graph, graph_stays};
+use sb_graph::Explored;
 use sb_lang::constructors::{mkand_keeps_language, mknot_keeps_language};
 use sb_lit::{Budget, Clause, Lit};
-use sb_plain::{Plain, right_stays};
 use sb_proof::{Tape, TapeFault};
-use sb_regex::Arena;
 use sb_search::{Checked, Theory};
 use sb_sound::memberships::{empty_holds, empty_is_exact};
+use sb_store::{Store, regexes_grow};
 use sb_term::Serial;
 use sb_trace::Trace;
 use sb_trail::{Entry, Trail};
@@ -37,9 +36,7 @@ use std::alloc::{AllocError, Global};
 #[derive(Drop)]
 pub struct Strings {
     alloc: Global,
-    pub arena: Arena,
-    pub graph: Graph,
-    pub plain: Plain,
+    pub store: Store,
     pub trace: Trace,
     pub atoms: Atoms,
     /// Whether lines are put.
@@ -65,7 +62,7 @@ impl Theory for Strings {
 
     ghost passes = { λ x atom. is_atom x.atoms atom ≡ true };
 
-    ghost teaches = { λ x clause. IsTaught x.arena x.atoms x.wanted clause };
+    ghost teaches = { λ x clause. IsTaught x.store.arena x.atoms x.wanted clause };
 
     ghost measure = { λ _ _ _. 0 };
 
@@ -118,23 +115,20 @@ impl Theory for Strings {
 }
 
 impl Strings {
-    /// The theory over these tables, where nothing was taken in and all constants are empty. Takes no memory.
+    /// The theory over this store and these tables, where nothing was taken in and all constants are empty. Takes no
+    /// memory.
     pub fn new(
         alloc: Global,
-        arena: Arena,
-        graph: Graph,
-        plain: Plain,
+        store: Store,
         trace: Trace,
         atoms: Atoms,
         proves: bool,
         wanted: WantedAtoms,
     ) -> Strings
-        requires graph { IsGraph arena graph }
-        requires plain { IsRight arena plain }
-        requires regexes { HaveRegexesBelow (length arena) atoms }
+        requires store { IsStore store }
+        requires regexes { HaveRegexesBelow (length store.arena) atoms }
         ensures stands { Stands result [] }
-        ensures arena { result.arena ≡ arena }
-        ensures graph { result.graph ≡ graph }
+        ensures store { result.store ≡ store }
         ensures trace { result.trace ≡ trace }
         ensures atoms { result.atoms ≡ atoms }
         ensures proves { result.proves ≡ proves }
@@ -142,9 +136,7 @@ impl Strings {
     {
         Strings {
             alloc,
-            arena,
-            graph,
-            plain,
+            store,
             trace,
             atoms,
             proves,
@@ -199,12 +191,10 @@ impl Strings {
             × (length self.new.taken.items ≡ length self.old.taken.items + 1)) }
         ensures keeps { Keeps self.old self.new }
     {
-        graph_stays();
         let entry = trail.literals()[self.taken.len()];
         take_literal(
             self.alloc,
-            &mut self.arena,
-            &mut self.plain,
+            &mut self.store,
             &self.wanted,
             &self.atoms,
             &self.words,
@@ -258,13 +248,13 @@ impl Strings {
         ensures ok { IfOk result (IsAsked long self.old self.new serial.0) }
         ensures looks { Looks self.old self.new }
     {
-        right_stays();
+        regexes_grow();
         mkand_keeps_language();
         mknot_keeps_language();
         let explored = least_word(
             self.alloc,
-            &mut self.arena,
-            &mut self.graph,
+            &mut self.store.arena,
+            &mut self.store.graph,
             &self.atoms,
             serial,
             front_of(&self.members, serial, long),
@@ -311,15 +301,15 @@ impl Strings {
             → few.items ≡ row_at self.new.members.items serial.0) }
         ensures looks { Looks self.old self.new }
     {
-        right_stays();
+        regexes_grow();
         if trail.current_level() == 0 {
             return Vec::from_slice(self.alloc, row_of(&self.members, serial));
         }
         let long = self.clashing_front(serial)?;
         core(
             self.alloc,
-            &mut self.arena,
-            &mut self.graph,
+            &mut self.store.arena,
+            &mut self.store.graph,
             &self.atoms,
             serial,
             front_of(&self.members, serial, long),
@@ -354,15 +344,8 @@ impl Strings {
         ensures ok { IfOk result (IsAsked long self.old self.new serial.0) }
         ensures looks { Looks self.old self.new }
     {
-        graph_stays();
         let literal = literal_at(&self.members, serial, long - 1);
-        let matches = fits(
-            &mut self.arena,
-            &mut self.plain,
-            &self.atoms,
-            &self.words,
-            literal,
-        )?;
+        let matches = fits(&mut self.store, &self.atoms, &self.words, literal)?;
         if matches {
             put_number(&mut self.fitting, serial, long)?;
             return Ok(true);
@@ -384,7 +367,7 @@ impl Strings {
         ensures { IsLook self.old self.new trail.now.literals budget.old budget.new (L.Tape.told tape.old)
             (L.Tape.told tape.new) (L.Tape.faults tape.old) (L.Tape.faults tape.new) result }
     {
-        right_stays();
+        regexes_grow();
         empty_holds();
         empty_is_exact();
         if !self.proves {
@@ -394,8 +377,8 @@ impl Strings {
         let done = put_denial(
             self.alloc,
             &mut self.trace,
-            &mut self.arena,
-            &mut self.graph,
+            &mut self.store.arena,
+            &mut self.store.graph,
             &self.atoms,
             serial,
             &clause,

@@ -1,9 +1,10 @@
-use Rattle.std.proofs.Common.{arith, ◌∙◌}
+use Rattle.std.proofs.Common.{subst, sym}
 use Rattle.std.proofs.lemmas.Result.{err_from_is_err_and}
 use Rattle.sb_stack.specs.Steps.{entry_of}
+use Rattle.sb_check.specs.declared.check.Run.{Run}
+use Rattle.sb_check.specs.Standing.{IsStanding}
 use Rattle.sb_check.proofs.GoingLemmas.{entry_goes, entry_ends, entry_said}
 use Rattle.sb_check.proofs.StopLemmas.{entry_stops, verdict_stops, at_error}
-use Rattle.sb_check.proofs.TurnLemmas.{said_steady}
 use Rattle.sb_check.proofs.check.check_entry.Goals as goal
 
 pub returns-in_err-command-clause-err : goal.returns-in_err-command-clause-err
@@ -12,7 +13,7 @@ returns-in_err-command-clause-err g c =
     at_error c.from_residual.result e.0 _ (entry_of c.args.entry.now) c.args.run.now
     (g.W.World.outside c.args.world.now) (g.W.World.outside c.command.new.world) e.1 e.2
     (entry_stops _ (entry_of c.args.entry.now) c.args.run.now c.command.new.lines (g.W.World.outside c.args.world.now)
-    (g.W.World.outside c.command.new.world) c.requires.steady.lines_limit c.in_err-command.ensures.err)
+    (g.W.World.outside c.command.new.world) c.in_err-command.ensures.err)
 
 pub returns-in_err-write_verdict-in-Said-clause-err :
     goal.returns-in_err-write_verdict-in-Said-clause-err
@@ -48,28 +49,8 @@ returns-in_ok-write_verdict-in-Said-clause-ok g c =
     c.in_ok-command.ensures.leads c.in_ok-command.ensures.ok c.in_ok-write_verdict-in-Said.ensures.run
     c.in_ok-write_verdict-in-Said.ensures.ok
 
-pub returns-in-Goes-clause-steady : goal.returns-in-Goes-clause-steady
-returns-in-Goes-clause-steady g c = record {
-  standing = c.in_ok-command.ensures.standing;
-  lines = omega (arith, c.in_ok-command.ensures.room, c.requires.steady.lines);
-  entries = c.requires.steady.entries;
-  lines_limit = c.in_ok-command.ensures.ok.reads.limit ∙ c.requires.steady.lines_limit;
-  entries_limit = c.requires.steady.entries_limit;
-}
-
-pub returns-in-Ends-clause-steady : goal.returns-in-Ends-clause-steady
-returns-in-Ends-clause-steady g c = record {
-  standing = c.in_ok-command.ensures.standing;
-  lines = omega (arith, c.in_ok-command.ensures.room, c.requires.steady.lines);
-  entries = c.requires.steady.entries;
-  lines_limit = c.in_ok-command.ensures.ok.reads.limit ∙ c.requires.steady.lines_limit;
-  entries_limit = c.requires.steady.entries_limit;
-}
-
-pub returns-in_ok-write_verdict-in-Said-clause-steady :
-    goal.returns-in_ok-write_verdict-in-Said-clause-steady
-returns-in_ok-write_verdict-in-Said-clause-steady g c =
-    said_steady (record c.args.run.now { checker = c.command.new.self; lines = c.command.new.lines })
-    c.write_verdict.new.run c.in_ok-write_verdict-in-Said.ensures.run c.in_ok-command.ensures.standing
-    (omega (arith, c.in_ok-command.ensures.room, c.requires.steady.lines)) c.requires.room
-    (c.in_ok-command.ensures.ok.reads.limit ∙ c.requires.steady.lines_limit) c.requires.steady.entries_limit
+pub returns-in_ok-write_verdict-in-Said-clause-standing :
+    goal.returns-in_ok-write_verdict-in-Said-clause-standing
+returns-in_ok-write_verdict-in-Said-clause-standing g c =
+    subst (λ (run : Run). IsStanding run.checker.judge) (sym c.in_ok-write_verdict-in-Said.ensures.run)
+    c.in_ok-command.ensures.standing

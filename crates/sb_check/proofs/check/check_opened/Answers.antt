@@ -1,18 +1,7 @@
 use Rattle.std.proofs.Common.{refl}
 use Rattle.sb_check.specs.declared.check.Run.{Run}
-use Rattle.sb_check.proofs.Opening.{goes_at_first, steady_at_first, concluded}
+use Rattle.sb_check.proofs.Opening.{goes_at_first, concluded}
 use Rattle.sb_check.proofs.check.check_opened.Goals as goal
-
-pub check_script-outcome-requires : goal.check_script-outcome-requires
-check_script-outcome-requires g c =
-    let run : Run = record {
-      alloc = c.args.alloc;
-      entries = c.new.result;
-      lines = c.new-2.result;
-      checker = c.new-3.result;
-      next_check = 1;
-    } in
-    steady_at_first run c.new.ensures c.new-2.ensures c.new-3.ensures.standing c.new-3.ensures.next refl
 
 pub returns-clause-run : goal.returns-clause-run
 returns-clause-run g c script proof left =
@@ -24,12 +13,12 @@ returns-clause-run g c script proof left =
       next_check = 1;
     } in
     let old = g.W.World.outside c.args.world.now in
-    c.conclude.ensures.run script proof old
-    (concluded c.check_script-outcome.result run script proof old old
+    c.conclude.ensures.run c.args.limit script proof old
+    (concluded c.check_script-outcome.result run c.args.limit script proof old old
     (g.W.World.outside c.check_script-outcome.new.world) c.check_script-outcome.ensures.ok
     c.check_script-outcome.ensures.err
-    (goes_at_first run script proof old c.new.ensures c.new-2.ensures c.new-3.ensures.at c.new-3.ensures.state refl
-    left))
+    (goes_at_first run c.args.limit script proof old c.new.ensures c.new-2.ensures c.new-3.ensures.at
+    c.new-3.ensures.state refl left))
 
 pub returns-clause-faults : goal.returns-clause-faults
 returns-clause-faults g c =

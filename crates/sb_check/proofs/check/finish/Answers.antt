@@ -9,4 +9,4 @@ returns-clause-ok g c =
 pub returns-clause-err : goal.returns-clause-err
 returns-clause-err g c =
     finish_stops c.finish.result c.args.run.now c.finish.new.lines (g.W.World.outside c.args.world.now)
-    (g.W.World.outside c.finish.new.world) c.requires.lines_limit c.finish.ensures.err
+    (g.W.World.outside c.finish.new.world) c.finish.ensures.err

@@ -1,7 +1,7 @@
 use Rattle.std.proofs.Common.{rules}
 use Rattle.std.proofs.lemmas.Result.{err_from_is_err_and}
 use Rattle.sb_stack.specs.Steps.{IsEntry}
-use Rattle.sb_check.proofs.TurnLemmas.{finds_end, finds_limit, finds_none, stops_by, turn_goes, turn_stops, turn_steady}
+use Rattle.sb_check.proofs.TurnLemmas.{finds_end, finds_limit, finds_none, stops_by, turn_goes, turn_stops}
 use Rattle.sb_check.proofs.check.turn.Goals as goal
 
 pub returns-in_err-next-clause-err : goal.returns-in_err-next-clause-err
@@ -15,7 +15,7 @@ returns-in_err-next-clause-err g c =
 pub returns-in-NotYet-clause-err : goal.returns-in-NotYet-clause-err
 returns-in-NotYet-clause-err g c =
     finds_limit c.in_ok-next.next c.args.run.now c.advance.new.entries (g.W.World.outside c.args.world.now)
-    (g.W.World.outside c.advance.new.world) c.in-NotYet.is c.requires.entries_limit c.in_ok-next.ensures.ok
+    (g.W.World.outside c.advance.new.world) c.in-NotYet.is c.in_ok-next.ensures.ok
 
 pub returns-in-Ended-clause-ok : goal.returns-in-Ended-clause-ok
 returns-in-Ended-clause-ok g c =
@@ -35,6 +35,3 @@ returns-clause-err g c =
     turn_stops c.check_entry.result c.in_ok-next.next c.args.run.now c.advance.new.entries
     (g.W.World.outside c.args.world.now) (g.W.World.outside c.advance.new.world)
     (g.W.World.outside c.check_entry.new.world) is c.in_ok-next.ensures.ok c.check_entry.ensures.err
-
-pub returns-clause-steady : goal.returns-clause-steady
-returns-clause-steady g c = turn_steady c.check_entry.result c.check_entry.new.run c.check_entry.ensures.steady

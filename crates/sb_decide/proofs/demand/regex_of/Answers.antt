@@ -1,15 +1,19 @@
-use Rattle.sb_decide.proofs.Words.{IfOk-from_err, extends_more, names_below, normal}
-use Rattle.sb_term.proofs.CallerLemmas as table
+use Rattle.std.proofs.Common.{refl}
+use Rattle.sb_decide.proofs.Words.{IfOk-from_err, grows_both, names_below, normal}
 use Rattle.sb_decide.proofs.DemandFacts.{no_regex, positive_regex, negative_regex}
+use Rattle.sb_store.proofs.CallerLemmas.{normalized}
 use Rattle.sb_decide.proofs.demand.regex_of.Goals as goal
+
+pub pattern-requires : goal.pattern-requires
+pattern-requires c = record { known = c.requires.number; normals = c.requires.store.normals }
 
 pub returns-in_err-id : goal.returns-in_err-id
 returns-in_err-id c =
     let x = c.from_residual in
+    let e = c.pattern.ensures in
     record {
       number = IfOk-from_err x.result _ x.ensures.0;
-      extends = c.pattern.ensures.extends;
-      normals = c.pattern.ensures.normals;
+      store = normalized c.regexes_grow.ensures.arena c.args.table.now c.args.store.now _ _ e.extends e.normals;
     }
 
 pub returns-in_default : goal.returns-in_default
@@ -17,8 +21,7 @@ returns-in_default c =
     let e = c.in_ok-id.ensures in
     record {
       number = no_regex c.pattern.new.arena c.args.table.now c.args.demand (rw c.in_default.is at e.number);
-      extends = e.extends;
-      normals = e.normals;
+      store = normalized c.regexes_grow.ensures.arena c.args.table.now c.args.store.now _ _ e.extends e.normals;
     }
 
 pub returns-then-demand : goal.returns-then-demand
@@ -27,8 +30,7 @@ returns-then-demand c =
     record {
       number = positive_regex c.pattern.new.arena c.args.table.now c.args.demand c.in-Some.id c.if-demand.true
           (rw c.in-Some.is at e.number);
-      extends = e.extends;
-      normals = e.normals;
+      store = normalized c.regexes_grow.ensures.arena c.args.table.now c.args.store.now _ _ e.extends e.normals;
     }
 
 pub not-requires : goal.not-requires
@@ -40,20 +42,22 @@ pub returns-in_err-complement : goal.returns-in_err-complement
 returns-in_err-complement c =
     let x = c.from_residual-in_err-complement in
     let e = c.in_ok-id.ensures in
+    let law = c.regexes_grow.ensures in
     record {
       number = IfOk-from_err x.result _ x.ensures.0;
-      extends = extends_more _ _ _ e.extends c.not.ensures.extends;
-      normals = c.normals_stay.ensures c.args.table.now c.args.table.now c.pattern.new.arena c.not.new.self
-          c.pattern.new.self (table.extends_same c.args.table.now) c.not.ensures.extends e.normals;
+      store = grows_both _ _ _ _
+          (normalized law.arena c.args.table.now c.args.store.now c.pattern.new.arena c.pattern.new.self e.extends
+          e.normals) (law.alone _ _ _ (law.arena _ _ c.not.ensures.extends refl));
     }
 
 pub returns : goal.returns
 returns c =
     let e = c.in_ok-id.ensures in
+    let law = c.regexes_grow.ensures in
     record {
       number = negative_regex c.pattern.new.arena c.not.new.self c.args.table.now c.args.demand c.in-Some.id
           c.in_ok-complement.complement c.if-demand.false (rw c.in-Some.is at e.number) c.in_ok-complement.ensures.ok;
-      extends = extends_more _ _ _ e.extends c.not.ensures.extends;
-      normals = c.normals_stay.ensures c.args.table.now c.args.table.now c.pattern.new.arena c.not.new.self
-          c.pattern.new.self (table.extends_same c.args.table.now) c.not.ensures.extends e.normals;
+      store = grows_both _ _ _ _
+          (normalized law.arena c.args.table.now c.args.store.now c.pattern.new.arena c.pattern.new.self e.extends
+          e.normals) (law.alone _ _ _ (law.arena _ _ c.not.ensures.extends refl));
     }

@@ -2,4 +2,4 @@ use Rattle.sb_decide.proofs.Knowledge as fact
 use Rattle.sb_decide.proofs.laws.knows_grown.Goals as goal
 
 pub returns : goal.returns
-returns c = fact.knows_grown c.graph_stays.ensures c.right_stays.ensures
+returns c = fact.knows_grown

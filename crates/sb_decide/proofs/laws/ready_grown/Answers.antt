@@ -2,4 +2,4 @@ use Rattle.sb_decide.proofs.TakingOver as fact
 use Rattle.sb_decide.proofs.laws.ready_grown.Goals as goal
 
 pub returns : goal.returns
-returns c = fact.ready_grown c.graph_stays.ensures c.right_stays.ensures
+returns c = fact.ready_grown

@@ -1,42 +1,37 @@
 use Rattle.std.proofs.Common.{sym, ◌∙◌, arith}
-use Rattle.sb_decide.proofs.Words.{IfOk-from_err, extends_more, extends_same, false≢true, number_kept}
+use Rattle.sb_decide.proofs.Words.{IfOk-from_err, false≢true, number_kept, regexes_both, regexes_same}
 use Rattle.sb_decide.proofs.KeptWords.{matched_none, matched_next, matched_all, number_there}
+use Rattle.sb_store.proofs.CallerLemmas.{walked}
 use Rattle.sb_decide.proofs.standing.is_in_each.Goals as goal
 
 pub loop-place-init : goal.loop-place-init
 loop-place-init c = (
-  matched_none c.args.arena.now c.args.members.now c.args.word.now,
-  extends_same c.args.arena.now,
-  c.requires.right,
+  matched_none c.args.store.now.arena c.args.members.now c.args.word.now,
+  regexes_same c.args.store.now,
 )
 
 pub bounds-members-place : goal.bounds-members-place
 bounds-members-place c = c.requires.within c.loop-place.place-index _ c.loop-place-test.true
 
 pub returns-in_default : goal.returns-in_default
-returns-in_default c = record {
-  all = λ all. absurd (false≢true all);
-  extends = c.loop-place.invariant.1;
-  right = c.loop-place.invariant.2;
-}
+returns-in_default c = record { all = λ all. absurd (false≢true all); store = c.loop-place.invariant.1 }
 
 pub matches-requires : goal.matches-requires
 matches-requires c =
+    let grows = c.loop-place.invariant.1 in
     let within = c.requires.within c.loop-place.place-index _ c.loop-place-test.true in
-    let low = number_there c.args.arena.now c.args.members.now _ _ c.in-Some.member c.requires.numbers within
+    let low = number_there c.args.store.now.arena c.args.members.now _ _ c.in-Some.member c.requires.numbers within
     c.in-Some.is in
-    record {
-      known = number_kept _ _ _ c.loop-place.invariant.1 low;
-      right = c.loop-place.invariant.2;
-    }
+    record { known = number_kept _ _ _ grows.extends low; right = (grows.right c.requires.store).plain }
 
 pub returns-in_err-matches : goal.returns-in_err-matches
 returns-in_err-matches c =
     let x = c.from_residual in
+    let e = c.matches.ensures in
     record {
       all = IfOk-from_err x.result _ x.ensures.0;
-      extends = extends_more _ _ _ c.loop-place.invariant.1 c.matches.ensures.extends;
-      right = c.matches.ensures.right;
+      store = regexes_both _ _ _ c.loop-place.invariant.1
+          (walked c.regexes_grow.ensures.arena c.loop-place.store _ _ e.extends e.right);
     }
 
 pub returns-then-not-branch : goal.returns-then-not-branch
@@ -44,28 +39,26 @@ returns-then-not-branch c =
     let e = c.in_ok-matches.ensures in
     record {
       all = λ all. absurd (false≢true all);
-      extends = extends_more _ _ _ c.loop-place.invariant.1 e.extends;
-      right = e.right;
+      store = regexes_both _ _ _ c.loop-place.invariant.1
+          (walked c.regexes_grow.ensures.arena c.loop-place.store _ _ e.extends e.right);
     }
 
 pub loop-place-preserved : goal.loop-place-preserved
 loop-place-preserved c =
     let e = c.in_ok-matches.ensures in
+    let grows = c.loop-place.invariant.1 in
     let within = c.requires.within c.loop-place.place-index _ c.loop-place-test.true in
-    let low = number_there c.args.arena.now c.args.members.now _ _ c.in-Some.member c.requires.numbers within
+    let low = number_there c.args.store.now.arena c.args.members.now _ _ c.in-Some.member c.requires.numbers within
     c.in-Some.is in (
-      matched_next c.loop-place.arena c.matches.new.arena c.args.members.now c.args.places.now c.args.word.now
+      matched_next c.loop-place.store.arena c.matches.new.arena c.args.members.now c.args.places.now c.args.word.now
           c.loop-place.place-index _ _ c.in-Some.member e.extends c.loop-place.invariant.0 c.loop-place-test.true within
-          c.in-Some.is (number_kept _ _ _ c.loop-place.invariant.1 low)
-          (sym (sym c.if-not-branch.false ∙ e.ok)),
-      extends_more _ _ _ c.loop-place.invariant.1 e.extends,
-      e.right,
+          c.in-Some.is (number_kept _ _ _ grows.extends low) (sym (sym c.if-not-branch.false ∙ e.ok)),
+      regexes_both _ _ _ grows (walked c.regexes_grow.ensures.arena c.loop-place.store _ _ e.extends e.right),
     )
 
 pub returns : goal.returns
 returns c = record {
-  all = λ _. matched_all c.loop-place.arena c.args.members.now c.args.places.now c.args.word.now
+  all = λ _. matched_all c.loop-place.store.arena c.args.members.now c.args.places.now c.args.word.now
       c.loop-place.place-index (omega (arith, c.loop-place-test.false)) c.loop-place.invariant.0;
-  extends = c.loop-place.invariant.1;
-  right = c.loop-place.invariant.2;
+  store = c.loop-place.invariant.1;
 }

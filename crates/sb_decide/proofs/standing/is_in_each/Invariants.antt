@@ -1,9 +1,8 @@
 use Rattle.std.proofs.Common.{take}
-use Rattle.sb_decide.proofs.Words.{Extends, IsInEach, IsRight}
+use Rattle.sb_decide.proofs.Words.{IsInEach, RegexesGrow}
 use Rattle.sb_decide.proofs.standing.is_in_each.Given as goal
 
 abbrev pub invariant-loop-place : goal.invariant-loop-place
 invariant-loop-place l =
-    IsInEach l.arena l.fn.members (take l.place-index l.fn.places) l.fn.word
-    × Extends l.fn.arena l.arena
-    × IsRight l.arena l.plain
+    IsInEach l.store.arena l.fn.members (take l.place-index l.fn.places) l.fn.word
+    × RegexesGrow l.fn.store l.store

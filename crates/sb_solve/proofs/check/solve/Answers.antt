@@ -1,40 +1,26 @@
-use Rattle.sb_solve.proofs.Words.{subst, IfOk-from_err, IfOk-weaker, err_from_is_err_and, Global, Vec, Lit, extends_more, counts_on, CountsTapeFault}
-use Rattle.sb_term.proofs.CallerLemmas.{extends_same}
+use Rattle.sb_solve.proofs.Words.{subst, IfOk-from_err, IfOk-weaker, err_from_is_err_and, Global, Vec, Lit, grows_both, counts_on, CountsTapeFault}
 use Rattle.sb_solve.proofs.Answering.{puts, sound, answer, levels}
 use Rattle.sb_solve.proofs.check.solve.Goals as goal
 
 pub search_for-requires : goal.search_for-requires
 search_for-requires g c =
     let stated = c.in_ok-literals.ensures.stated in
-    record {
-      graph = c.graph_stays.ensures c.args.arena.now c.literals.new.arena c.args.graph.now stated.extends
-          c.requires.graph;
-      plain = c.right_stays.ensures c.args.arena.now c.literals.new.arena c.args.plain.now stated.extends
-          c.requires.plain;
-      regexes = stated.regexes;
-    }
+    record { store = (stated.store.right c.requires.store).regexes; regexes = stated.regexes }
 
 pub returns : goal.returns
 returns g c =
     let r = c.search_for.result in
     let ok = rw c.deref.ensures.value at c.search_for.ensures.done in
     let stated = c.in_ok-literals.ensures.stated in
-    let ts = c.args.stack.now.table in
     record {
-      puts = IfOk-weaker r _ _ (λ x done. puts _ _ _ _ _ _ _ _ _ _ _ _ _ _ _ _ _ _ _ stated done) ok;
-      answer = IfOk-weaker r _ _ (λ x done. answer _ _ _ _ _ _ _ _ _ _ _ _ _ _ _ _ _ _ _ stated done) ok;
+      puts = IfOk-weaker r _ _ (λ x done. puts _ _ _ _ _ _ _ _ _ _ _ _ _ _ _ _ stated done) ok;
+      answer = IfOk-weaker r _ _ (λ x done. answer _ _ _ _ _ _ _ _ _ _ _ _ _ _ _ _ stated done) ok;
       sound = IfOk-weaker r _ _
-          (λ x done. sound _ _ _ _ _ _ _ _ _ _ _ _ _ _ _ _ _ _ _ stated done c.follows_by_rule.ensures
+          (λ x done. sound _ _ _ _ _ _ _ _ _ _ _ _ _ _ _ _ stated done c.follows_by_rule.ensures
           c.line_stays_sound.ensures c.counted_again_stays_sound.ensures) ok;
-      levels = IfOk-weaker r _ _ (λ x done. levels _ _ _ _ _ _ _ _ _ _ _ _ _ _ _ _ _ _ _ stated done) ok;
-      extends = IfOk-weaker r _ _ (λ x done. extends_more _ _ _ stated.extends done.searched.extends) ok;
-      derivatives_stay = IfOk-weaker r _ _ (λ x done. done.searched.derivatives) ok;
-      graph = IfOk-weaker r _ _ (λ x done. done.searched.graph) ok;
-      plain = IfOk-weaker r _ _ (λ x done. done.searched.plain) ok;
-      right = IfOk-weaker r _ _ (λ x done. c.in_ok-literals.ensures.right) ok;
-      normals = IfOk-weaker r _ _
-          (λ x done. c.normals_stay.ensures ts ts c.literals.new.arena _ c.literals.new.normals (extends_same ts)
-          done.searched.extends c.in_ok-literals.ensures.normals) ok;
+      levels = IfOk-weaker r _ _ (λ x done. levels _ _ _ _ _ _ _ _ _ _ _ _ _ _ _ _ stated done) ok;
+      store = IfOk-weaker r _ _
+          (λ x done. grows_both _ _ _ _ stated.store (c.regexes_grow.ensures.alone _ _ _ done.searched.store)) ok;
       regexes = IfOk-weaker r _ _ (λ x done. done.searched.regexes) ok;
       counts = subst (λ old. CountsTapeFault r old (g.L.Tape.faults c.search_for.new.tape))
           c.in_ok-literals.ensures.counts
@@ -50,12 +36,7 @@ returns-in_err-literals g c =
       answer = IfOk-from_err x.result _ x.ensures.0;
       sound = IfOk-from_err x.result _ x.ensures.0;
       levels = IfOk-from_err x.result _ x.ensures.0;
-      extends = IfOk-from_err x.result _ x.ensures.0;
-      derivatives_stay = IfOk-from_err x.result _ x.ensures.0;
-      graph = IfOk-from_err x.result _ x.ensures.0;
-      plain = IfOk-from_err x.result _ x.ensures.0;
-      right = IfOk-from_err x.result _ x.ensures.0;
-      normals = IfOk-from_err x.result _ x.ensures.0;
+      store = IfOk-from_err x.result _ x.ensures.0;
       regexes = IfOk-from_err x.result _ x.ensures.0;
       counts = counts_on (Vec Lit Global) x.result p.0 _ _ _ p.1 p.2 c.in_err-literals.ensures.counts;
     }

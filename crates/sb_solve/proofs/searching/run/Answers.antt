@@ -5,7 +5,10 @@ use Rattle.sb_solve.proofs.searching.run.Goals as goal
 pub search-requires-clause-passes : goal.search-requires-clause-passes
 search-requires-clause-passes g c =
     let b = c.args.tables.now in
-    record { clauses = all_known b.strings.atoms b.engine.kept c.requires.known; assumed = λ l h. absurd (false≢true h) }
+    record {
+      clauses = all_known b.strings.atoms b.engine.kept c.requires.known;
+      assumed = λ l h. absurd (false≢true h);
+    }
 
 pub returns-in_err-found : goal.returns-in_err-found
 returns-in_err-found g c =

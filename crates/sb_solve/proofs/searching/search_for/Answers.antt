@@ -13,8 +13,8 @@ run-requires g c =
 
 pub put_back-requires : goal.put_back-requires
 put_back-requires g c = record {
-  known = room_left _ _ _ _ _ _ _ _ _ _ _ _ _ c.taken-tables.ensures c.in-Ok.ensures.runs;
-  stands = stand_left _ _ _ _ _ _ _ _ _ _ _ _ _ c.taken-tables.ensures c.in-Ok.ensures.runs;
+  known = room_left _ _ _ _ _ _ _ _ _ _ _ _ c.taken-tables.ensures c.in-Ok.ensures.runs;
+  stands = stand_left _ _ _ _ _ _ _ _ _ _ _ _ c.taken-tables.ensures c.in-Ok.ensures.runs;
 }
 
 pub numbered-requires : goal.numbered-requires
@@ -31,8 +31,8 @@ pub returns-in-Ok : goal.returns-in-Ok
 returns-in-Ok g c =
     let w = c.in_ok-wanted.ensures in
     record {
-      done = rw (c.put_back.ensures.arena, c.put_back.ensures.graph, c.put_back.ensures.plain)
-          (done _ _ _ _ _ _ _ _ _ _ _ _ _ c.taken-tables.ensures c.in-Ok.ensures.runs c.args.literals.now _ _
+      done = rw c.put_back.ensures.store
+          (done _ _ _ _ _ _ _ _ _ _ _ _ c.taken-tables.ensures c.in-Ok.ensures.runs c.args.literals.now _ _
           (subst AreDistinct c.atoms.ensures c.wanted_of.ensures.distinct)
           (subst (λ (ts : List (AtomOver ℕ)). AreWanted ts c.args.literals.now c.in_ok-wanted.wanted) c.atoms.ensures
           w.wanted)

@@ -5,9 +5,8 @@ pub new-strings-requires : goal.new-strings-requires
 new-strings-requires c =
     let is = c.into_parts-trace.ensures.backing ∙ c.replace.ensures.value in
     record {
-      graph = rw (c.replace-arena.ensures.value, c.replace-graph.ensures.value) c.requires.graph;
-      plain = rw (c.replace-arena.ensures.value, c.replace-plain.ensures.value) c.requires.plain;
-      regexes = rw (c.replace-arena.ensures.value, ap (λ (e : Backing). e.atoms) is) c.requires.regexes;
+      store = rw c.replace-store.ensures.value c.requires.store;
+      regexes = rw (c.replace-store.ensures.value, ap (λ (e : Backing). e.atoms) is) c.requires.regexes;
     }
 
 pub returns : goal.returns
@@ -18,8 +17,7 @@ returns c =
       stands = s.stands;
       stand = subst Stand is c.into_parts-trace.ensures.stands;
       backing = rw (s.trace, s.atoms) is;
-      arena = s.arena ∙ c.replace-arena.ensures.value;
-      graph = s.graph ∙ c.replace-graph.ensures.value;
+      store = s.store ∙ c.replace-store.ensures.value;
       wanted = s.wanted;
       proves = s.proves;
       trail = c.into_parts-trace.ensures.trail;

@@ -8,7 +8,7 @@ returns c =
       model = record {
         characters = v.characters;
         given = λ places literals kept answered.
-            v.given c.args.tables.now.strings.arena places literals kept
+            v.given c.args.tables.now.strings.store.arena places literals kept
             (rw (c.replace-words.ensures.value, c.atoms.ensures, c.trail.ensures) answered);
       };
       rest = refl;

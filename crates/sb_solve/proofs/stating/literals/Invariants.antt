@@ -1,10 +1,8 @@
-use Rattle.sb_solve.proofs.Words.{◌≡◌, take, AreMeasures, AreNormals, AreStated}
+use Rattle.sb_solve.proofs.Words.{◌≡◌, take, AreStated}
 use Rattle.sb_solve.proofs.stating.literals.Given as goal
 
 abbrev pub invariant-loop-place : goal.invariant-loop-place
 invariant-loop-place g l =
-    AreMeasures l.fn.stack.table l.measures
-    × AreNormals l.fn.stack.table l.arena l.normals
-    × (g.L.Tape.faults l.tape ≡ g.L.Tape.faults l.fn.tape)
-    × AreStated l.fn.stack (take l.place-index l.fn.places) l.fn.arena l.arena l.fn.evidence l.evidence
+    (g.L.Tape.faults l.tape ≡ g.L.Tape.faults l.fn.tape)
+    × AreStated l.fn.stack (take l.place-index l.fn.places) l.fn.store l.store l.fn.evidence l.evidence
     (g.L.Tape.told l.fn.tape) (g.L.Tape.told l.tape) l.literals.items

@@ -6,7 +6,6 @@ add_all-added-requires g c = rw c.new-atoms.ensures (no_atoms _)
 
 pub new-theory-requires : goal.new-theory-requires
 new-theory-requires g c = record {
-  graph = c.new-graph.ensures.graph _;
-  plain = c.new-plain.ensures _;
+  store = record { graph = c.new.ensures.graph _; plain = c.new-2.ensures _ };
   regexes = c.add_all-added.ensures;
 }

@@ -1,34 +1,28 @@
-use Rattle.sb_theory.proofs.Words.{ap, sym, IfOk-from_err, extends_same, fits_subject}
+use Rattle.sb_theory.proofs.Words.{ap, sym, IfOk-from_err, fits_subject, regexes_same}
 use Rattle.sb_theory.proofs.Fitting.{true_by_word}
 use Rattle.sb_theory.proofs.fit.fits.Goals as goal
 
 pub contains-requires : goal.contains-requires
 contains-requires c = record {
   known = c.requires.regexes c.args.literal.atom _ c.in-Some.ensures.some;
-  right = c.requires.right;
+  store = c.requires.store;
 }
 
 pub returns-in_default : goal.returns-in_default
 returns-in_default c = record {
-  fits = sym (ap (fits_subject c.args.arena.now c.args.atoms.now c.args.words.now c.args.literal)
+  fits = sym (ap (fits_subject c.args.store.now.arena c.args.atoms.now c.args.words.now c.args.literal)
       c.in_default.ensures.none);
-  extends = extends_same c.args.arena.now;
-  right = c.requires.right;
+  grows = regexes_same c.args.store.now;
 }
 
 pub returns-in_err-is_in : goal.returns-in_err-is_in
 returns-in_err-is_in c =
     let x = c.from_residual in
-    record {
-      fits = IfOk-from_err x.result _ x.ensures.0;
-      extends = c.in_err-is_in.ensures.extends;
-      right = c.in_err-is_in.ensures.right;
-    }
+    record { fits = IfOk-from_err x.result _ x.ensures.0; grows = c.in_err-is_in.ensures.grows }
 
 pub returns : goal.returns
 returns c = record {
-  fits = true_by_word c.args.arena.now c.args.atoms.now c.args.words.now c.args.literal c.in-Some.member.serial.0
+  fits = true_by_word c.args.store.now.arena c.args.atoms.now c.args.words.now c.args.literal c.in-Some.member.serial.0
       c.in-Some.member.regex c.in_ok-is_in.is_in c.in-Some.ensures.some c.in_ok-is_in.ensures.ok;
-  extends = c.in_ok-is_in.ensures.extends;
-  right = c.in_ok-is_in.ensures.right;
+  grows = c.in_ok-is_in.ensures.grows;
 }

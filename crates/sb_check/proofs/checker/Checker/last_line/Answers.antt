@@ -1,4 +1,4 @@
-use Rattle.std.proofs.Common.{true, false, refl, ◌∙◌, arith}
+use Rattle.std.proofs.Common.{true, false, refl, ◌∙◌}
 use Rattle.std.proofs.lemmas.Result.{err_from_is_err_and}
 use Rattle.sb_check.proofs.EndTurns.{last_none, last_more, last_stops}
 use Rattle.sb_check.proofs.checker.Checker.last_line.Goals as goal
@@ -16,7 +16,6 @@ pub loop-init : goal.loop-init
 loop-init g c = record {
   goes = last_none c.args.self.now.judge c.args.lines.now (g.W.World.outside c.args.world.now);
   standing = c.requires.standing;
-  room = omega arith;
   faults = refl;
 }
 
@@ -25,6 +24,5 @@ loop-preserved g c = record {
   goes = last_more false _ _ _ _ _ _ _ _ _ c.loop.invariant.goes
       (rw c.if-branch.false at c.in_ok-last_turn.ensures.ok);
   standing = c.in_ok-last_turn.ensures.standing;
-  room = omega (arith, c.in_ok-last_turn.ensures.room, c.loop.invariant.room);
   faults = c.in_ok-last_turn.ensures.faults ∙ c.loop.invariant.faults;
 }

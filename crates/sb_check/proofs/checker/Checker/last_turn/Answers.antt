@@ -1,6 +1,16 @@
+use Rattle.std.proofs.Common.{refl}
 use Rattle.std.proofs.lemmas.Result.{err_from_is_err_and}
-use Rattle.sb_check.proofs.EndTurns.{last_taken, last_refused, last_missing}
+use Rattle.sb_rulebook.specs.Judging.{at_end}
+use Rattle.sb_check.proofs.EndTurns.{last_taken, last_refused, last_missing, last_limit, last_cut}
 use Rattle.sb_check.proofs.checker.Checker.last_turn.Goals as goal
+
+pub returns-in_err-ended-clause-err : goal.returns-in_err-ended-clause-err
+returns-in_err-ended-clause-err g c =
+    let e = err_from_is_err_and c.from_residual.result c.from_residual.ensures.1 in
+    last_cut c.from_residual.result e.0 _ at_end _ _ _ _ _ e.1 e.2 c.in_err-ended.ensures.err
+
+pub returns-in-Limit-clause-err : goal.returns-in-Limit-clause-err
+returns-in-Limit-clause-err g c = last_limit at_end _ _ _ _ _ _ refl c.in-Limit.is c.in_ok-ended.ensures.ok
 
 pub returns-in_err-take_last-in-Line-clause-err : goal.returns-in_err-take_last-in-Line-clause-err
 returns-in_err-take_last-in-Line-clause-err g c =

@@ -1,5 +1,19 @@
-use Rattle.sb_check.proofs.EndTurns.{behind_refused}
+use Rattle.std.proofs.Common.{refl}
+use Rattle.std.proofs.lemmas.Result.{err_from_is_err_and}
+use Rattle.sb_rulebook.specs.Judging.{behind_end}
+use Rattle.sb_check.proofs.EndTurns.{behind_refused, behind_ended, last_limit, last_cut}
 use Rattle.sb_check.proofs.checker.Checker.nothing_behind.Goals as goal
+
+pub returns-in_err-ended-clause-err : goal.returns-in_err-ended-clause-err
+returns-in_err-ended-clause-err g c =
+    let e = err_from_is_err_and c.from_residual.result c.from_residual.ensures.1 in
+    last_cut c.from_residual.result e.0 _ behind_end _ _ _ _ _ e.1 e.2 c.in_err-ended.ensures.err
+
+pub returns-in-End-clause-ok : goal.returns-in-End-clause-ok
+returns-in-End-clause-ok g c = behind_ended _ _ _ _ _ c.in-End.is c.in_ok-ended.ensures.ok
+
+pub returns-in-Limit-clause-err : goal.returns-in-Limit-clause-err
+returns-in-Limit-clause-err g c = last_limit behind_end _ _ _ _ _ _ refl c.in-Limit.is c.in_ok-ended.ensures.ok
 
 pub returns-in-Line-clause-err : goal.returns-in-Line-clause-err
 returns-in-Line-clause-err g c =

@@ -1,6 +1,14 @@
 use Rattle.std.proofs.lemmas.Result.{err_from_is_err_and}
-use Rattle.sb_check.proofs.CheckTurns.{turn_taken, turn_refused, turn_ended}
+use Rattle.sb_check.proofs.CheckTurns.{turn_taken, turn_refused, turn_ended, turn_limit, turn_cut}
 use Rattle.sb_check.proofs.checker.Checker.turn.Goals as goal
+
+pub returns-in_err-ended-clause-err : goal.returns-in_err-ended-clause-err
+returns-in_err-ended-clause-err g c =
+    let e = err_from_is_err_and c.from_residual.result c.from_residual.ensures.1 in
+    turn_cut c.from_residual.result e.0 _ _ _ _ _ _ e.1 e.2 c.in_err-ended.ensures.err
+
+pub returns-in-Limit-clause-err : goal.returns-in-Limit-clause-err
+returns-in-Limit-clause-err g c = turn_limit _ _ _ _ _ _ c.in-Limit.is c.in_ok-ended.ensures.ok
 
 pub returns-in_err-take-in-Line-clause-err : goal.returns-in_err-take-in-Line-clause-err
 returns-in_err-take-in-Line-clause-err g c =

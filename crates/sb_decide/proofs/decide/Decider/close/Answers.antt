@@ -33,8 +33,7 @@ returns-in_err-words c =
       knows = IfOk-from_err x.result _ x.ensures.0;
       taken = IfOk-from_err x.result _ x.ensures.0;
       rest = c.take_found.ensures.rest;
-      arena = c.take_found.ensures.arena;
-      graph = c.take_found.ensures.graph;
+      store = c.take_found.ensures.store;
     }
 
 pub returns-in_err-put_found : goal.returns-in_err-put_found
@@ -45,8 +44,7 @@ returns-in_err-put_found c =
       knows = IfOk-from_err x.result _ x.ensures.0;
       taken = IfOk-from_err x.result _ x.ensures.0;
       rest = c.take_found.ensures.rest;
-      arena = c.take_found.ensures.arena;
-      graph = c.take_found.ensures.graph;
+      store = c.take_found.ensures.store;
     }
 
 pub returns : goal.returns
@@ -71,6 +69,5 @@ returns c =
           (λ k d l. let one = e.listed k d l in omega (arith, one, ap length c.deref_mut.ensures.value));
       taken = c.in_ok-words.ensures.taken;
       rest = c.take_found.ensures.rest;
-      arena = c.take_found.ensures.arena;
-      graph = c.take_found.ensures.graph;
+      store = c.take_found.ensures.store;
     }

@@ -1,6 +1,6 @@
 use Rattle.std.proofs.Common.{◌∙◌}
-use Rattle.sb_decide.proofs.Words.{IfOk-from_err, extends_more, state_of}
-use Rattle.sb_decide.proofs.TakingOver.{dead_given, same_memo}
+use Rattle.sb_decide.proofs.Words.{IfOk-from_err, grows_both, state_of}
+use Rattle.sb_decide.proofs.TakingOver.{dead_given}
 use Rattle.sb_decide.proofs.decide.Decider.decide.Goals as goal
 
 pub returns-in_err-take_in : goal.returns-in_err-take_in
@@ -9,8 +9,7 @@ returns-in_err-take_in c =
     record {
       knows = IfOk-from_err x.result _ x.ensures.0;
       decided = IfOk-from_err x.result _ x.ensures.0;
-      extends = IfOk-from_err x.result _ x.ensures.0;
-      derivatives_stay = IfOk-from_err x.result _ x.ensures.0;
+      store = IfOk-from_err x.result _ x.ensures.0;
     }
 
 pub returns-then-not-branch : goal.returns-then-not-branch
@@ -19,8 +18,7 @@ returns-then-not-branch c =
     record {
       knows = e.knows;
       decided = c.fragment_is_of_each.ensures (state_of c.args.stack.now) ∙ e.outside c.if-not-branch.true;
-      extends = e.extends;
-      derivatives_stay = same_memo _ _ e.graph;
+      store = e.store;
     }
 
 pub find_words-requires : goal.find_words-requires
@@ -34,8 +32,7 @@ returns-in_err-find_words c =
     record {
       knows = IfOk-from_err x.result _ x.ensures.0;
       decided = IfOk-from_err x.result _ x.ensures.0;
-      extends = IfOk-from_err x.result _ x.ensures.0;
-      derivatives_stay = IfOk-from_err x.result _ x.ensures.0;
+      store = IfOk-from_err x.result _ x.ensures.0;
     }
 
 pub returns-then-not-branch-2 : goal.returns-then-not-branch-2
@@ -49,8 +46,7 @@ returns-then-not-branch-2 c =
         dead_given c.fragment_is_of_each.ensures c.normal_has_terms_words.ensures c.find_words.new.self
             c.args.stack.now e.knows e.all (e.dead c.if-not-branch-2.true) before.named before.fit,
       );
-      extends = extends_more _ _ _ before.extends e.extends;
-      derivatives_stay = λ n pieces h. e.entries n pieces (same_memo _ _ before.graph n pieces h);
+      store = grows_both _ _ _ _ before.store e.store;
     }
 
 pub returns : goal.returns
@@ -60,6 +56,5 @@ returns c =
     record {
       knows = e.knows;
       decided = e.ready c.if-not-branch-2.false;
-      extends = extends_more _ _ _ before.extends e.extends;
-      derivatives_stay = λ n pieces h. e.entries n pieces (same_memo _ _ before.graph n pieces h);
+      store = grows_both _ _ _ _ before.store e.store;
     }

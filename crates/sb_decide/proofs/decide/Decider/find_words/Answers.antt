@@ -1,7 +1,7 @@
-use Rattle.std.proofs.Common.{refl, subst, sym, ◌∙◌}
-use Rattle.sb_decide.proofs.Words.{Extends, extends_same, false≢true}
+use Rattle.std.proofs.Common.{refl, sym, ◌∙◌}
+use Rattle.sb_decide.proofs.Words.{false≢true, grows_both, grows_same}
 use Rattle.sb_decide.proofs.Knowledge.{knows_dead}
-use Rattle.sb_decide.proofs.TakingOver.{knows_searched, ready_searched, same_memo}
+use Rattle.sb_decide.proofs.TakingOver.{knows_searched, ready_searched}
 use Rattle.sb_decide.proofs.decide.Decider.find_words.Goals as goal
 
 pub set_aside-requires : goal.set_aside-requires
@@ -16,8 +16,7 @@ least_words-requires c =
       places = rw (c.deref.ensures.value, c.deref-2.ensures.value) taken.counted.places;
       listed = rw (c.deref-2.ensures.value, c.deref-3.ensures.value) taken.counted.listed;
       kept = rw (c.deref.ensures.value, c.deref-2.ensures.value, c.words.ensures) knows.words;
-      graph = taken.graph;
-      plain = taken.plain;
+      store = taken.store.regexes;
     }
 
 pub returns-then-is_some : goal.returns-then-is_some
@@ -26,8 +25,7 @@ returns-then-is_some c = record {
   all = c.requires.all;
   ready = λ t. absurd (false≢true t);
   dead = λ _. sym c.is_some.ensures ∙ c.if-is_some.true;
-  extends = extends_same c.args.self.now.arena;
-  entries = λ n pieces h. h;
+  store = grows_same c.args.stack.now.table c.args.self.now.store;
 }
 
 pub returns-in-Dead : goal.returns-in-Dead
@@ -35,16 +33,15 @@ returns-in-Dead c =
     let aside = c.in_ok-set_aside.ensures in
     let e = c.in_ok-serial.ensures in
     let s = rw c.deref.ensures.value at e.searches in
+    let alone = c.regexes_grow.ensures.alone in
     record {
       knows = knows_dead _ c.in-Dead.serial c.args.stack.now (rw (c.in-Dead.is, c.deref.ensures.value) at e.words)
-          (knows_searched c.normals_stay.ensures c.set_aside.new.self c.least_words.new.arena c.least_words.new.graph
-          c.least_words.new.plain c.least_words.new.roots c.set_aside.new.self.found c.args.stack.now aside.knows s
-          e.plain);
+          (knows_searched alone c.set_aside.new.self c.least_words.new.store c.least_words.new.roots
+          c.set_aside.new.self.found c.args.stack.now aside.knows s);
       all = aside.all;
       ready = λ t. absurd (false≢true t);
       dead = λ _. refl;
-      extends = subst (λ rs. Extends rs c.least_words.new.arena) aside.arena s.extends;
-      entries = λ n pieces h. s.entries n pieces (same_memo _ _ aside.graph n pieces h);
+      store = grows_both _ _ _ _ aside.store (alone _ _ _ s.store);
     }
 
 pub returns-in-Found : goal.returns-in-Found
@@ -52,17 +49,15 @@ returns-in-Found c =
     let aside = c.in_ok-set_aside.ensures in
     let e = c.in_ok-serial.ensures in
     let s = rw c.deref.ensures.value at e.searches in
+    let alone = c.regexes_grow.ensures.alone in
     record {
-      knows = knows_searched c.normals_stay.ensures c.set_aside.new.self c.least_words.new.arena
-          c.least_words.new.graph c.least_words.new.plain c.least_words.new.roots c.in-Found.found c.args.stack.now
-          aside.knows s e.plain;
+      knows = knows_searched alone c.set_aside.new.self c.least_words.new.store c.least_words.new.roots
+          c.in-Found.found c.args.stack.now aside.knows s;
       all = aside.all;
-      ready = λ _. ready_searched c.normals_stay.ensures c.set_aside.new.self c.least_words.new.arena
-          c.least_words.new.graph c.least_words.new.plain c.least_words.new.roots c.in-Found.found c.args.stack.now
-          aside.knows aside.all c.requires.named s e.plain aside.spoken aside.left
+      ready = λ _. ready_searched alone c.set_aside.new.self c.least_words.new.store c.least_words.new.roots
+          c.in-Found.found c.args.stack.now aside.knows aside.all c.requires.named s aside.spoken aside.left
           (rw (c.in-Found.is, c.deref.ensures.value, c.deref-2.ensures.value, c.words.ensures, c.deref-3.ensures.value)
           at e.words);
       dead = λ t. absurd (false≢true (sym t));
-      extends = subst (λ rs. Extends rs c.least_words.new.arena) aside.arena s.extends;
-      entries = λ n pieces h. s.entries n pieces (same_memo _ _ aside.graph n pieces h);
+      store = grows_both _ _ _ _ aside.store (alone _ _ _ s.store);
     }

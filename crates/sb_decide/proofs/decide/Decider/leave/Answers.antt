@@ -1,45 +1,32 @@
-use Rattle.std.proofs.Common.{refl, arith}
+use Rattle.std.proofs.Common.{refl, arith, ◌∙◌}
 use Rattle.sb_decide.proofs.Words.{IfOk-from_err, nat_tests}
-use Rattle.sb_decide.proofs.Knowledge.{knows_left, same_again}
+use Rattle.sb_decide.proofs.Knowledge.{knows_left}
 use Rattle.sb_decide.proofs.decide.Decider.leave.Goals as goal
 
 pub loop-self-init : goal.loop-self-init
-loop-self-init c =
-    (λ stack k. k, record { arena = refl; graph = refl; normals = refl; measures = refl; plain = refl })
+loop-self-init c = (λ stack k. k, refl)
 
 pub loop-self-preserved : goal.loop-self-preserved
 loop-self-preserved c =
     let before = c.loop-self.invariant in
     let back = c.in_ok-take_last_back.ensures in (
       λ stack k. back.knows stack (before.0 stack k),
-      same_again c.args.self.now c.loop-self.self c.take_last_back.new.self before.1 back.same,
+      back.same ∙ before.1,
     )
 
 pub returns-in_err-take_last_back : goal.returns-in_err-take_last_back
 returns-in_err-take_last_back c =
-    let same = same_again c.args.self.now c.loop-self.self c.take_last_back.new.self c.loop-self.invariant.1
-    c.take_last_back.ensures.same in
     let x = c.from_residual in
     record {
       knows = IfOk-from_err x.result _ x.ensures.0;
-      arena = same.arena;
-      graph = same.graph;
-      normals = same.normals;
-      measures = same.measures;
-      plain = same.plain;
+      store = c.take_last_back.ensures.same ∙ c.loop-self.invariant.1;
     }
 
 pub returns : goal.returns
-returns c =
-    let same = c.loop-self.invariant.1 in
-    record {
-      knows = λ old new e longer few words declared k.
-          knows_left c.normals_stay.ensures c.loop-self.self old new e longer
-          (grind (arith, nat_tests, few, c.loop-self-test.false, c.len.ensures, c.loop-self.self.members.ok.0)) words
-          declared (c.loop-self.invariant.0 old k);
-      arena = same.arena;
-      graph = same.graph;
-      normals = same.normals;
-      measures = same.measures;
-      plain = same.plain;
-    }
+returns c = record {
+  knows = λ old new e longer few words declared k.
+      knows_left c.normals_stay.ensures c.loop-self.self old new e longer
+      (grind (arith, nat_tests, few, c.loop-self-test.false, c.len.ensures, c.loop-self.self.members.ok.0)) words
+      declared (c.loop-self.invariant.0 old k);
+  store = c.loop-self.invariant.1;
+}

@@ -1,10 +1,10 @@
-use Rattle.std.proofs.Common.{length}
-use Rattle.sb_decide.proofs.Words.{IsSameElsewhere, Knows, Stacked}
+use Rattle.std.proofs.Common.{◌≡◌, length}
+use Rattle.sb_decide.proofs.Words.{Knows, Stacked}
 use Rattle.sb_decide.proofs.decide.Decider.leave.Given as goal
 
 abbrev pub invariant-loop-self : goal.invariant-loop-self
 invariant-loop-self l = ((stack : Stacked) → Knows l.fn.self stack → Knows l.self stack)
-    × IsSameElsewhere l.fn.self l.self
+    × (l.self.store ≡ l.fn.self.store)
 
 abbrev pub decreases-loop-self : goal.decreases-loop-self
 decreases-loop-self l = length l.self.members.items

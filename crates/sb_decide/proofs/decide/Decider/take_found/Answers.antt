@@ -28,8 +28,7 @@ returns-in_err-fill c =
       over = IfOk-from_err x.result _ x.ensures.0;
       taken = IfOk-from_err x.result _ x.ensures.0;
       rest = ap without_words c.take_words-words.ensures.rest;
-      arena = refl;
-      graph = refl;
+      store = refl;
     }
 
 pub returns : goal.returns
@@ -50,7 +49,7 @@ returns c =
     record {
       over = record {
         over = subst₂
-            (λ cs ws. IsTakingOver kept.arena kept.members.items kept.left.items kept.constants.items cs ws [])
+            (λ cs ws. IsTakingOver kept.store.arena kept.members.items kept.left.items kept.constants.items cs ws [])
             (sym constants) (sym words) over;
         changed = c.replace.ensures.value;
         nothing = ap (λ v. v.items) c.replace.ensures.after ∙ c.new-2.ensures.items;
@@ -58,6 +57,5 @@ returns c =
       };
       taken = c.take_words-words.ensures.rest;
       rest = ap without_words c.take_words-words.ensures.rest;
-      arena = refl;
-      graph = refl;
+      store = refl;
     }

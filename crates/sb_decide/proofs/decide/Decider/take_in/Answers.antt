@@ -1,5 +1,5 @@
-use Rattle.std.proofs.Common.{◌≡◌, ◌≤◌, length, ◌∙◌, arith, refl, sym, ap}
-use Rattle.sb_decide.proofs.Words.{extends_more, extends_same, false≢true}
+use Rattle.std.proofs.Common.{◌≡◌, ◌≤◌, length, ◌∙◌, arith, sym, ap}
+use Rattle.sb_decide.proofs.Words.{false≢true, grows_both, grows_same}
 use Rattle.sb_decide.proofs.Knowledge.{taken_roomy, kept_roomy}
 use Rattle.sb_decide.proofs.MemberFacts.{members_few}
 use Rattle.sb_decide.proofs.TakingOver.{live_outside}
@@ -14,13 +14,12 @@ loop-assertions-init c =
       record {
         taken = taken_roomy c.args.self.now c.make_room.new.constants c.declared.result c.args.stack.now.table
             c.args.stack.now.assertions room more c.requires.taken;
-        words = kept_roomy c.args.self.now.arena c.args.self.now.members.items c.args.self.now.constants.items
+        words = kept_roomy c.args.self.now.store.arena c.args.self.now.members.items c.args.self.now.constants.items
             c.make_room.new.constants.items c.declared.result c.args.stack.now.words room more c.requires.words;
         declared = omega (arith, room.long, count);
       },
       room.long ∙ count,
-      extends_same c.args.self.now.arena,
-      refl,
+      grows_same c.args.stack.now.table c.args.self.now.store,
     )
 
 pub loop-assertions-preserved : goal.loop-assertions-preserved
@@ -33,8 +32,7 @@ loop-assertions-preserved c =
         declared = omega (arith, kept.0, before.0.declared);
       },
       kept.0 ∙ before.1,
-      extends_more _ _ _ before.2 c.in_ok-take_one.ensures.extends,
-      c.in_ok-take_one.ensures.graph ∙ before.3,
+      grows_both _ _ _ _ before.2 (rw c.table-table.ensures at c.in_ok-take_one.ensures.store),
     )
 
 pub returns-then-not-branch : goal.returns-then-not-branch
@@ -53,8 +51,7 @@ returns-then-not-branch c =
           (c.in_ok-take_one.ensures.outside c.if-not-branch.true);
       named = c.assertions-assertions.ensures.named;
       fit = c.declared.ensures.fit;
-      extends = extends_more _ _ _ before.2 c.in_ok-take_one.ensures.extends;
-      graph = c.in_ok-take_one.ensures.graph ∙ before.3;
+      store = grows_both _ _ _ _ before.2 (rw c.table-table.ensures at c.in_ok-take_one.ensures.store);
     }
 
 pub take_one-requires-clause-taken : goal.take_one-requires-clause-taken
@@ -68,8 +65,8 @@ take_one-requires-clause-numbers c =
 pub returns : goal.returns
 returns c =
     let now = c.loop-assertions.invariant in
-    let few = members_few c.loop-assertions.self.arena c.args.stack.now.table c.loop-assertions.self.members.items
-    c.args.stack.now.assertions now.0.taken.members in
+    let few = members_few c.loop-assertions.self.store.arena c.args.stack.now.table
+    c.loop-assertions.self.members.items c.args.stack.now.assertions now.0.taken.members in
     let same = ap length c.assertions-assertions.ensures.value in
     record {
       knows = now.0;
@@ -80,6 +77,5 @@ returns c =
       outside = λ t. absurd (false≢true (sym t));
       named = c.assertions-assertions.ensures.named;
       fit = c.declared.ensures.fit;
-      extends = now.2;
-      graph = now.3;
+      store = now.2;
     }

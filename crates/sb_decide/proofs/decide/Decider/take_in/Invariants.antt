@@ -1,11 +1,10 @@
 use Rattle.std.proofs.Common.{◌≡◌, ◌-◌, length}
-use Rattle.sb_decide.proofs.Words.{Extends, Knows}
+use Rattle.sb_decide.proofs.Words.{Grows, Knows}
 use Rattle.sb_decide.proofs.decide.Decider.take_in.Given as goal
 
 abbrev pub invariant-loop-assertions : goal.invariant-loop-assertions
 invariant-loop-assertions l = Knows l.self l.fn.stack × (length l.self.constants.items ≡ length l.fn.stack.scope.sorts)
-    × Extends l.fn.self.arena l.self.arena
-    × (l.self.graph ≡ l.fn.self.graph)
+    × Grows l.fn.stack.table l.fn.self.store l.self.store
 
 abbrev pub decreases-loop-assertions : goal.decreases-loop-assertions
 decreases-loop-assertions l = length l.fn.stack.assertions - length l.self.members.items

@@ -20,7 +20,7 @@ returns-then-self-len c =
           (heard_same stack.table stack.assertions kept.others.items others.items kept.heard kept.spoken.keys
           (take_front kept.others.items others.items _ kept.heard rest few) few);
       fewer = λ _. omega (arith, ap length was, length-append c.pop.new.self.items (None ∷ []));
-      same = record { arena = refl; graph = refl; normals = refl; measures = refl; plain = refl };
+      same = refl;
     }
 
 pub returns-in_default-last : goal.returns-in_default-last
@@ -40,7 +40,7 @@ returns-in_default-last c =
           stack was c.pop-2.ensures.rest c.pop-in_default-last.ensures.rest (λ _. heard_none stack.table
           stack.assertions others.items 0 c.clear.new.self.keys refl c.clear.ensures.empty);
       fewer = λ _. omega (arith, ap length was, length-append c.pop.new.self.items (None ∷ []));
-      same = record { arena = refl; graph = refl; normals = refl; measures = refl; plain = refl };
+      same = refl;
     }
 
 pub returns-then-member-len : goal.returns-then-member-len
@@ -52,7 +52,7 @@ returns-then-member-len c =
           let low = last_within c.args.self.now c.in-Some-last.member c.pop.new.self.items stack was k in
           absurd (omega (arith, low, c.if-member-len.true, c.len-2.ensures, c.args.self.now.constants.ok.0));
       fewer = λ _. omega (arith, ap length was, one);
-      same = record { arena = refl; graph = refl; normals = refl; measures = refl; plain = refl };
+      same = refl;
     }
 
 pub returns-in_err-put_back : goal.returns-in_err-put_back
@@ -63,7 +63,7 @@ returns-in_err-put_back c =
     record {
       knows = IfOk-from_err x.result _ x.ensures.0;
       fewer = λ _. omega (arith, ap length was, one);
-      same = record { arena = refl; graph = refl; normals = refl; measures = refl; plain = refl };
+      same = refl;
     }
 
 pub returns : goal.returns
@@ -89,5 +89,5 @@ returns c =
           (λ h. c.unlist.ensures.listed (length c.args.self.now.constants.items)
           ((rw c.deref_mut.ensures.value at e.listed) h)) k;
       fewer = λ _. omega (arith, ap length was, one);
-      same = record { arena = refl; graph = refl; normals = refl; measures = refl; plain = refl };
+      same = refl;
     }

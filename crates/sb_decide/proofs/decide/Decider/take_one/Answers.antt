@@ -1,8 +1,9 @@
-use Rattle.std.proofs.Common.{◌≡◌, Some, None, length, refl, sym, subst, ◌∙◌, arith, ◌∷◌, [], length-append, ap, append-nil}
-use Rattle.sb_decide.proofs.Words.{Extends, Member, expression_in, extends_same, false≢true, term_at, with_items}
+use Rattle.std.proofs.Common.{◌≡◌, Some, None, length, refl, sym, ◌∙◌, arith, ◌∷◌, [], length-append, ap, append-nil}
+use Rattle.sb_decide.proofs.Words.{Member, expression_in, false≢true, grows_both, grows_same, term_at, with_items}
 use Rattle.sb_decide.proofs.Constants.{put_some}
 use Rattle.sb_decide.proofs.DemandFacts.{other_kind, too_large}
-use Rattle.sb_decide.proofs.Knowledge.{at_place, is_member, is_other, number_within, term_outside, serial_within, taken_grown, taken_measured, stay_grown, stay_put, taken_more}
+use Rattle.sb_decide.proofs.Knowledge.{at_place, is_member, is_other, number_within, term_outside, serial_within, taken_grown, stay_grown, stay_put, taken_more}
+use Rattle.sb_store.proofs.CallerLemmas.{measured}
 use Rattle.sb_decide.proofs.TakingOver.{put_here, settled_through}
 use Rattle.sb_decide.proofs.decide.Decider.take_one.Goals as goal
 
@@ -12,8 +13,7 @@ returns-in_default c =
     record {
       taken = c.requires.taken;
       words = λ words kept. (refl, kept);
-      extends = extends_same c.args.self.now.arena;
-      graph = refl;
+      store = grows_same c.args.table.now c.args.self.now.store;
       further = λ t. absurd (false≢true t);
       outside = λ _. term_outside c.args.table.now c.args.assertions.now _ c.index-assertions-place.result None
           c.requires.more there c.in_default.is refl;
@@ -29,7 +29,7 @@ take_other-requires c =
     record {
       number = number_within _ _ _ _ _ c.requires.numbers c.requires.more
           (at_place c.args.self.now.members _ _ _ c.len-place.ensures c.index-assertions-place.is) c.in-Some.is;
-      measures = c.requires.taken.measures;
+      store = c.requires.taken.store;
     }
 
 pub returns-in_default-demand_of : goal.returns-in_default-demand_of
@@ -42,9 +42,7 @@ returns-in_default-demand_of c =
           c.in_default-demand_of.ensures.parts (sym e.ok ∙ is))
           c.requires.taken;
       words = e.words;
-      extends = subst (Extends c.args.self.now.arena) (sym e.arena)
-          (extends_same c.args.self.now.arena);
-      graph = e.graph;
+      store = e.store;
       further = e.further;
       outside = λ is. term_outside _ _ _ _ (Some c.in-Some.term) c.requires.more there c.in-Some.is (sym e.ok ∙ is);
     }
@@ -53,35 +51,52 @@ pub returns-then-not-branch : goal.returns-then-not-branch
 returns-then-not-branch c =
     let demand = c.in-Some-demand_of in
     let there = at_place c.args.self.now.members _ _ _ c.len-place.ensures c.index-assertions-place.is in
+    let grows = measured c.args.table.now c.args.self.now.store c.is_regular.new.self c.in_ok-is_regular.ensures.right
+    in
     record {
-      taken = taken_measured c.args.self.now c.is_regular.new.self c.args.table.now c.args.assertions.now
-          c.in_ok-is_regular.ensures.right c.requires.taken;
+      taken = taken_grown c.args.self.now _ c.args.table.now c.args.assertions.now grows c.requires.taken;
       words = λ words kept. (refl, kept);
-      extends = extends_same c.args.self.now.arena;
-      graph = refl;
+      store = grows;
       further = λ t. absurd (false≢true t);
       outside = λ _. term_outside _ _ _ _ (Some c.in-Some.term) c.requires.more there c.in-Some.is
           (too_large (term_at c.args.table.now c.in-Some.term)
           (demand.ensures.limits ∙ (sym c.in_ok-is_regular.ensures.ok ∙ c.if-not-branch.true)));
     }
 
-pub regex_of-requires-clause-normals : goal.regex_of-requires-clause-normals
-regex_of-requires-clause-normals c = c.requires.taken.normals
+pub is_regular-requires : goal.is_regular-requires
+is_regular-requires c =
+    let low = number_within _ _ _ _ _ c.requires.numbers c.requires.more
+    (at_place c.args.self.now.members _ _ _ c.len-place.ensures c.index-assertions-place.is) c.in-Some.is in
+    record {
+      number = omega (arith, low, c.in-Some-demand_of.ensures.smaller);
+      right = c.requires.taken.store.measures;
+    }
+
+pub regex_of-requires : goal.regex_of-requires
+regex_of-requires c =
+    let low = number_within _ _ _ _ _ c.requires.numbers c.requires.more
+    (at_place c.args.self.now.members _ _ _ c.len-place.ensures c.index-assertions-place.is) c.in-Some.is in
+    let grows = measured c.args.table.now c.args.self.now.store c.is_regular.new.self
+    c.in_ok-is_regular.ensures.right in
+    record {
+      number = omega (arith, low, c.in-Some-demand_of.ensures.smaller);
+      store = grows.right c.requires.taken.store;
+    }
 
 pub returns-in_default-2 : goal.returns-in_default-2
 returns-in_default-2 c =
     let e = c.in_ok-regex.ensures in
     let demand = c.in-Some-demand_of in
     let there = at_place c.args.self.now.members _ _ _ c.len-place.ensures c.index-assertions-place.is in
+    let grows = grows_both _ _ _ _
+    (measured c.args.table.now c.args.self.now.store c.is_regular.new.self c.in_ok-is_regular.ensures.right) e.store in
     record {
-      taken = taken_grown c.graph_stays.ensures c.right_stays.ensures c.args.self.now _ _ _ _ _ e.extends
-          e.normals c.in_ok-is_regular.ensures.right c.requires.taken;
+      taken = taken_grown c.args.self.now _ _ _ grows c.requires.taken;
       words = λ words kept. (
         refl,
-        stay_grown c.args.self.now _ _ _ e.extends c.requires.taken words kept,
+        stay_grown c.args.self.now _ _ _ e.store.extends c.requires.taken words kept,
       );
-      extends = e.extends;
-      graph = refl;
+      store = grows;
       further = λ t. absurd (false≢true t);
       outside = λ _. term_outside _ _ _ _ (Some c.in-Some.term) c.requires.more there c.in-Some.is
           (other_kind (term_at c.args.table.now c.in-Some.term) demand.demand.serial.0
@@ -111,19 +126,13 @@ returns c =
     let one = length-append c.args.self.now.members.items (Some member ∷ []) in
     let put = put_some member _ _ _
     (put_here c.args.self.now.constants _ _ _ _ _ c.deref_mut.ensures.value place c.in_ok-put.ensures.put) in
+    let grows = grows_both _ _ _ _
+    (measured c.args.table.now c.args.self.now.store c.is_regular.new.self c.in_ok-is_regular.ensures.right) e.store in
     record {
-      taken = taken_more
-          (record c.args.self.now {
-            arena = c.regex_of.new.arena;
-            normals = c.regex_of.new.normals;
-            measures = c.is_regular.new.self;
-          })
-          c.args.table.now c.args.assertions.now c.index-assertions-place.result (Some member) c.push.new.self
-          c.push-2.new.self c.args.self.now.others (with_items c.args.self.now.constants c.put.new.constants)
-          c.put.new.changed
-          (taken_grown c.graph_stays.ensures c.right_stays.ensures c.args.self.now _ _ _ _ _ e.extends
-          e.normals c.in_ok-is_regular.ensures.right c.requires.taken)
-          c.requires.more there
+      taken = taken_more (record c.args.self.now { store = c.regex_of.new.store }) c.args.table.now
+          c.args.assertions.now c.index-assertions-place.result (Some member) c.push.new.self c.push-2.new.self
+          c.args.self.now.others (with_items c.args.self.now.constants c.put.new.constants) c.put.new.changed
+          (taken_grown c.args.self.now _ _ _ grows c.requires.taken) c.requires.more there
           (is_member _ _ _ _ _ member _ _ c.requires.numbers c.requires.more there
           c.in-Some.is demand.ensures.parts (demand.ensures.limits ∙ regular)
           (rw c.in-Some-2.is at e.number))
@@ -136,18 +145,15 @@ returns c =
           (rw c.deref_mut.ensures.value at c.in_ok-put.ensures.listed);
       words = stay_put c.args.self.now
           (record c.args.self.now {
-            arena = c.regex_of.new.arena;
-            normals = c.regex_of.new.normals;
-            measures = c.is_regular.new.self;
+            store = c.regex_of.new.store;
             members = c.push.new.self;
             roots = c.push-2.new.self;
             constants = with_items c.args.self.now.constants c.put.new.constants;
             changed = c.put.new.changed;
           })
           (Some member) (length c.args.self.now.members.items) c.in_ok-push.ensures.items put
-          (stay_grown c.args.self.now _ _ _ e.extends c.requires.taken);
-      extends = e.extends;
-      graph = refl;
+          (stay_grown c.args.self.now _ _ _ e.store.extends c.requires.taken);
+      store = grows;
       further = λ _. omega (arith, ap length c.in_ok-push.ensures.items, one);
       outside = λ t. absurd (false≢true (sym t));
     }

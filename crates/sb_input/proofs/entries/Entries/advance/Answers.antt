@@ -1,13 +1,22 @@
-use Rattle.std.proofs.Common.{◌∙◌}
+use Rattle.std.proofs.Common.{◌∙◌, ◌≤◌, subst}
 use Rattle.std.proofs.lemmas.Result.{err_from_is_err_and}
-use Rattle.sb_input.proofs.EntryLemmas.{found_behind, sofar_on, cut_behind, turns_left-smaller}
+use Rattle.sb_input.specs.TakingEntries.{EntriesState}
+use Rattle.sb_input.proofs.EntryLemmas.{found_behind, sofar_on, cut_now, cut_behind, turns_left-smaller}
 use Rattle.sb_input.proofs.entries.Entries.advance.Goals as goal
 
 pub returns-in-Some-clause-ok : goal.returns-in-Some-clause-ok
 returns-in-Some-clause-ok g c =
     let found = rw c.in-Some.is at c.in_ok-next.ensures.ok in
-    found_behind c.entry_stays.ensures c.one_entry.ensures.bytes c.in-Some.next _ _ _ _ _ c.loop-next.invariant.sofar
-    found c.in_ok-next.ensures.within
+    found_behind c.one_entry.ensures.bytes c.in-Some.next _ _ _ _ _ c.loop-next.invariant.sofar found
+    c.in_ok-next.ensures.within
+
+pub returns-in_err-next-clause-err : goal.returns-in_err-next-clause-err
+returns-in_err-next-clause-err g c =
+    let p = err_from_is_err_and c.from_residual.result c.from_residual.ensures.1 in
+    let same = c.in_err-next.ensures.err in
+    rw p.1
+    (cut_now _ _ _ _ c.loop-next.invariant.sofar
+    (subst (λ (s : EntriesState). s.read ≤ s.limit) same c.in_err-next.ensures.within.most))
 
 pub loop-next-preserved : goal.loop-next-preserved
 loop-next-preserved g c =
@@ -20,7 +29,8 @@ loop-next-preserved g c =
 pub returns-in_err-read_on-clause-err : goal.returns-in_err-read_on-clause-err
 returns-in_err-read_on-clause-err g c =
     let p = err_from_is_err_and c.from_residual-in_err-read_on.result c.from_residual-in_err-read_on.ensures.1 in
-    rw p.1 (cut_behind _ _ _ _ _ c.loop-next.invariant.sofar c.in_err-read_on.ensures.err)
+    let none = rw c.in_default.is at c.in_ok-next.ensures.ok in
+    rw p.1 (cut_behind _ _ _ _ _ _ c.loop-next.invariant.sofar none c.in_err-read_on.ensures.err)
 
 pub loop-next-smaller : goal.loop-next-smaller
 loop-next-smaller g c =

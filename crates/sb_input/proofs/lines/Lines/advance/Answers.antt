@@ -6,6 +6,7 @@ use Rattle.sb_input.proofs.lines.Lines.advance.Goals as goal
 pub returns-in-Some-clause-ok : goal.returns-in-Some-clause-ok
 returns-in-Some-clause-ok g c =
     found_behind c.in-Some.found _ _ _ _ _ c.loop-found.invariant.sofar c.in-Some.ensures.found c.in-Some.ensures.within
+    c.in-Some.ensures.below
 
 pub loop-found-preserved : goal.loop-found-preserved
 loop-found-preserved g c = record {

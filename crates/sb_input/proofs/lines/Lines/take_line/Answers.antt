@@ -12,6 +12,7 @@ invariant_of-self-in-None c =
       within = omega (arith, c.self.invariant.within);
       none = none_searched l.bytes.items l.start l.searched c.self.invariant.none c.len.result (omega arith) h;
       limited = c.self.invariant.limited;
+      below = c.self.invariant.below;
     }
 
 pub returns-in-Some-clause-taken : goal.returns-in-Some-clause-taken

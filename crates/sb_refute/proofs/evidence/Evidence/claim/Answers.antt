@@ -1,4 +1,4 @@
-use Rattle.sb_refute.proofs.Words.{◌∷◌, ◌++◌, [], ◌<◌, Some, length, refl, sym, ap, subst, arith, ◌∙◌, Asserted, Backing, unit_at, placed}
+use Rattle.sb_refute.proofs.Words.{◌<◌, Some, length, refl, sym, ap, subst, arith, ◌∙◌, Asserted, Backing, placed}
 use Rattle.sb_refute.proofs.Asserting.{claimed-new, claims-alone}
 use Rattle.sb_refute.proofs.Exits.{called-none, called-on}
 use Rattle.sb_refute.proofs.evidence.Evidence.claim.Goals as goal
@@ -20,9 +20,7 @@ returns g c =
       ok = claimed-new c.assertion_lines_are_exact.ensures e c.keep.new.self c.args.place one
           (g.L.Tape.told c.args.tape.now) (g.L.Tape.told c.put_line.new.tape) c.stands.ensures c.requires.lacks
           c.requires.known c.in_ok-clause.ensures.number (omega arith) (omega arith) c.in_ok-put_line.ensures.told is;
-      rest = claims-alone e c.keep.new.self (e.kept ++ Some (unit_at one) ∷ [])
-          (placed e.asserted c.args.place (Some one))
-          is;
+      rest = claims-alone e c.keep.new.self _ _ is;
       counts = c.in_ok-put_line.ensures.counts;
     }
 

@@ -1,4 +1,5 @@
-use Rattle.sb_refute.proofs.Words.{◌≡◌, length, ℕ, Some, IfSome, List, option_map, sym, ap, subst, ◌∙◌, IfOk-weaker, IfOk-from_err, err_from_is_err_and, AtomOver, atoms_in, Extends, HaveRegexesBelow, brought_translation, StaysNumbered, stays_same, counts_none, Asserted, Backing, Backs, HasGates, asserted_at, backing_of, term_at}
+use Rattle.sb_store.proofs.CallerLemmas.{termed}
+use Rattle.sb_refute.proofs.Words.{◌≡◌, length, ℕ, Some, IfSome, List, option_map, refl, sym, ap, subst, ◌∙◌, IfOk-weaker, IfOk-from_err, err_from_is_err_and, AtomOver, atoms_in, Extends, HaveRegexesBelow, brought_translation, StaysNumbered, stays_same, counts_none, Asserted, Backing, Backs, HasGates, asserted_at, backing_of, term_at}
 use Rattle.sb_refute.proofs.Backs.{backs-grown}
 use Rattle.sb_refute.proofs.Holding.{stand-atoms}
 use Rattle.sb_refute.proofs.Asserting.{due-stated, is-statement}
@@ -19,6 +20,11 @@ invariant_of-self-2 g c = (
   c.self.invariant.1,
 )
 
+pub translate-requires-clause-regexes : goal.translate-requires-clause-regexes
+translate-requires-clause-regexes g c =
+    subst (λ (e : Backing). HaveRegexesBelow (length c.args.store.now.arena) e.atoms) (sym c.self.view_is)
+    c.requires.regexes
+
 pub returns : goal.returns
 returns g c =
     let old = c.args.self.now in
@@ -31,8 +37,10 @@ returns g c =
     let same = c.lines.ensures.rest.1 in
     let literal = translated.ok ∙ ap (λ (ts : List (AtomOver ℕ)). brought_translation (atoms_in more ts) t)
     (sym same) in
+    let r = c.lines.result in
+    let ok = c.lines.ensures.ok in
     record {
-      puts = IfOk-weaker c.lines.result _ _
+      puts = IfOk-weaker r _ _
           (λ found h asked memo before b live.
           h.0.puts asked memo
           (due-stated asked w.atoms atoms known c.args.place c.args.level t live translated.defined c.len-known.ensures)
@@ -41,39 +49,35 @@ returns g c =
           (subst (λ (ts : List (AtomOver ℕ)). Backs more memo (record w { atoms = ts }) before)
           (sym (front-of w.atoms atoms known translated.extends c.len-known.ensures))
           (subst (λ (e : Backing). Backs more memo e before) (sym c.self.view_is)
-          (backs-grown c.args.arena.now more memo memo old before translated.arena (λ n pieces h. h) c.requires.regexes
-          b))))
-          c.lines.ensures.ok;
-      asserted = IfOk-weaker c.lines.result _ _ (λ found h. h.0.asserted) c.lines.ensures.ok;
-      literal = IfOk-weaker c.lines.result _ _ (λ found h. h.0.literal_is ∙ literal) c.lines.ensures.ok;
-      level = IfOk-weaker c.lines.result _ _ (λ found h. h.0.level_is) c.lines.ensures.ok;
-      none = IfOk-weaker c.lines.result _ _
-          (λ found h none. translated.none (sym h.0.literal_is ∙ ap (option_map (λ (a : Asserted). a.literal)) none))
-          c.lines.ensures.ok;
-      gates = IfOk-weaker c.lines.result _ _
-          (λ found h. subst (λ n. HasGates n c.lines.new.self.atoms c.lines.new.self.kept) h.1 h.0.gated)
-          c.lines.ensures.ok;
-      stays = IfOk-weaker c.lines.result _ _
+          (backs-grown c.args.store.now.arena more memo memo old before translated.arena (λ n pieces h. h)
+          c.requires.regexes b)))) ok;
+      asserted = IfOk-weaker r _ _ (λ found h. h.0.asserted) ok;
+      literal = IfOk-weaker r _ _ (λ found h. h.0.literal_is ∙ literal) ok;
+      level = IfOk-weaker r _ _ (λ found h. h.0.level_is) ok;
+      none = IfOk-weaker r _ _
+          (λ found h none.
+          translated.none (sym h.0.literal_is ∙ ap (option_map (λ (a : Asserted). a.literal)) none)) ok;
+      gates = IfOk-weaker r _ _
+          (λ found h. subst (λ n. HasGates n c.lines.new.self.atoms c.lines.new.self.kept) h.1 h.0.gated) ok;
+      stays = IfOk-weaker r _ _
           (λ found h own q b there.
           h.0.stays
           (subst (λ (e : Backing). IfSome (asserted_at e.asserted c.args.place)
           (λ a. (a.level ≡ c.args.level) × (Some a.literal ≡ c.in_ok-found.found))) (sym c.self.view_is)
           (subst (λ o. IfSome (asserted_at old.asserted c.args.place)
           (λ a. (a.level ≡ c.args.level) × (Some a.literal ≡ o))) (sym literal) own)) q b
-          (ap (λ (e : Backing). asserted_at e.asserted q) c.self.view_is ∙ there))
-          c.lines.ensures.ok;
-      others = IfOk-weaker c.lines.result _ _
+          (ap (λ (e : Backing). asserted_at e.asserted q) c.self.view_is ∙ there)) ok;
+      others = IfOk-weaker r _ _
           (λ found h other apart.
-          h.0.others other apart ∙ ap (λ (e : Backing). asserted_at e.asserted other) c.self.view_is)
-          c.lines.ensures.ok;
+          h.0.others other apart ∙ ap (λ (e : Backing). asserted_at e.asserted other) c.self.view_is) ok;
       numbers_stay = subst (λ (e : Backing). StaysNumbered e.trace c.lines.new.self.trace) c.self.view_is
           c.lines.ensures.rest.0;
       extends = subst (Extends old.atoms) (sym same)
           (subst (λ (e : Backing). Extends e.atoms atoms) c.self.view_is c.translate.ensures.extends);
       regexes = subst (HaveRegexesBelow (length more)) (sym same) c.translate.ensures.regexes;
-      right = c.translate.ensures.right;
-      normals = c.translate.ensures.normals;
-      arena = c.translate.ensures.arena;
+      store = termed c.regexes_grow.ensures.arena _ _ _ _ _ c.translate.ensures.arena
+          (λ h. (c.translate.ensures.normals, c.translate.ensures.right));
+      graph = refl;
       counts = c.lines.ensures.counts;
     }
 
@@ -95,8 +99,8 @@ returns-in_err-found g c =
       extends = subst (λ (f : Backing). Extends f.atoms c.translate.new.self) c.self.view_is
           c.translate.ensures.extends;
       regexes = c.translate.ensures.regexes;
-      right = c.translate.ensures.right;
-      normals = c.translate.ensures.normals;
-      arena = c.translate.ensures.arena;
+      store = termed c.regexes_grow.ensures.arena _ _ _ _ _ c.translate.ensures.arena
+          (λ h. (c.translate.ensures.normals, c.translate.ensures.right));
+      graph = refl;
       counts = counts_none x.result p.0 _ p.1 p.2;
     }

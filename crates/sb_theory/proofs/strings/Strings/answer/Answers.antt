@@ -1,7 +1,6 @@
-use Rattle.sb_theory.proofs.Words.{◌∙◌, Bool, refl, sym, IfOk-from_err, counts_on, err_from_is_err_and, false≢true, regexes_kept}
+use Rattle.sb_theory.proofs.Words.{◌∙◌, Bool, refl, sym, IfOk-from_err, counts_on, err_from_is_err_and, false≢true}
 use Rattle.sb_theory.proofs.Denied.{answers_denied}
-use Rattle.sb_theory.proofs.Fitting.{rows_grown}
-use Rattle.sb_theory.proofs.Moving.{looks_none, stands_looked}
+use Rattle.sb_theory.proofs.Moving.{holds_grown, looks_none, stands_looked, store_explored}
 use Rattle.sb_theory.proofs.strings.Strings.answer.Goals as goal
 
 pub returns-then-not-self : goal.returns-then-not-self
@@ -11,9 +10,8 @@ returns-then-not-self g c =
     record {
       answers = answers_denied c.empty_holds.ensures c.empty_is_exact.ensures c.args.serial.0 c.args.clause
           c.tick-done.result c.answered.result (g.L.Tape.told c.args.tape.now) (g.L.Tape.told c.args.tape.now)
-          c.answered.ensures c.requires.denied looks.keeps.grows looks.keeps.derivatives c.requires.stands
-          c.tick-done.ensures.ticks (λ off. refl)
-          (λ on. absurd (false≢true (sym c.if-not-self.true ∙ on)));
+          c.answered.ensures c.requires.denied looks.keeps.grows c.requires.stands c.tick-done.ensures.ticks
+          (λ off. refl) (λ on. absurd (false≢true (sym c.if-not-self.true ∙ on)));
       grows = looks.keeps.grows;
       steps = c.tick-done.ensures.steps;
       counts = refl;
@@ -26,7 +24,11 @@ returns-in_err-done g c =
     let e = c.in_err-done.ensures in
     record {
       answers = IfOk-from_err r.result _ r.ensures.0;
-      grows = record { frame = refl; below = c.requires.stands.holds.regexes; extends = e.explores.extends };
+      grows = record {
+        frame = refl;
+        below = c.requires.stands.holds.regexes;
+        store = store_explored c.regexes_grow.ensures.arena _ _ _ e.explores;
+      };
       steps = e.steps;
       counts = counts_on Bool r.result p.0 _ _ _ p.1 p.2 e.counts;
     }
@@ -36,21 +38,15 @@ returns g c =
     let x = c.args.self.now in
     let h = c.requires.stands.holds in
     let e = c.in_ok-done.ensures in
-    let rs = c.put_denial.new.arena in
-    let extends = e.explores.extends in
+    let grows = store_explored c.regexes_grow.ensures.arena x.store c.put_denial.new.arena c.put_denial.new.graph
+    e.explores in
     record {
       answers = answers_denied c.empty_holds.ensures c.empty_is_exact.ensures c.args.serial.0 c.args.clause
           c.in_ok-done.done c.answered-2.result (g.L.Tape.told c.args.tape.now) (g.L.Tape.told c.put_denial.new.tape)
-          c.answered-2.ensures c.requires.denied (record { frame = refl; below = h.regexes; extends = extends })
-          e.explores.derivatives
-          (stands_looked (record {
-            graph = e.explores.graph;
-            plain = c.right_stays.ensures x.arena rs x.plain extends h.plain;
-            regexes = regexes_kept x.arena rs x.atoms extends h.regexes;
-            rows = rows_grown extends h.regexes h.rows;
-          }) refl c.requires.stands) e.ticks
+          c.answered-2.ensures c.requires.denied (record { frame = refl; below = h.regexes; store = grows })
+          (stands_looked (holds_grown grows refl h) refl c.requires.stands) e.ticks
           (λ off. absurd (false≢true (sym off ∙ c.if-not-self.false))) (λ on. e.puts);
-      grows = record { frame = refl; below = h.regexes; extends = extends };
+      grows = record { frame = refl; below = h.regexes; store = grows };
       steps = e.steps;
       counts = e.counts;
     }

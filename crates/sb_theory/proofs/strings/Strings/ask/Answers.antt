@@ -1,6 +1,6 @@
 use Rattle.sb_theory.proofs.Words.{◌∙◌, List, ap, arith, refl, subst, take, AreClashing, IfOk-from_err, Lit, asked_by_all, false≢true, language, number_at, regexes_kept, row_at, true≢false, wanted_on, IsFinding, Explored}
 use Rattle.sb_theory.proofs.Fitting.{rises_set, rows_grown, rows_put}
-use Rattle.sb_theory.proofs.Moving.{looks_explored}
+use Rattle.sb_theory.proofs.Moving.{holds_grown, looks_grown, store_explored}
 use Rattle.sb_theory.proofs.Rows.{front_about, put_at}
 use Rattle.sb_theory.proofs.strings.Strings.ask.Goals as goal
 
@@ -13,7 +13,7 @@ least_word-requires c =
           (wanted_on x.wanted x.taken.items) c.front_of.result.now c.deref.ensures.value c.front_of.ensures
           h.rows.members;
       regexes = h.regexes;
-      graph = h.graph;
+      graph = h.store.graph;
     }
 
 pub returns-in_err-explored : goal.returns-in_err-explored
@@ -21,7 +21,8 @@ returns-in_err-explored c =
     let r = c.from_residual in
     record {
       ok = IfOk-from_err r.result _ r.ensures.0;
-      looks = looks_explored c.requires.holds c.in_err-explored.ensures.explores refl refl refl;
+      looks = looks_grown c.requires.holds
+          (store_explored c.regexes_grow.ensures.arena _ _ _ c.in_err-explored.ensures.explores) refl refl refl;
     }
 
 pub returns-in_err-put_word-in-Alive : goal.returns-in_err-put_word-in-Alive
@@ -29,7 +30,8 @@ returns-in_err-put_word-in-Alive c =
     let r = c.from_residual-in_err-put_word-in-Alive in
     record {
       ok = IfOk-from_err r.result _ r.ensures.0;
-      looks = looks_explored c.requires.holds c.in_ok-explored.ensures.explores refl refl refl;
+      looks = looks_grown c.requires.holds
+          (store_explored c.regexes_grow.ensures.arena _ _ _ c.in_ok-explored.ensures.explores) refl refl refl;
     }
 
 pub returns-in_err-put_number-in-Alive : goal.returns-in_err-put_number-in-Alive
@@ -37,7 +39,8 @@ returns-in_err-put_number-in-Alive c =
     let r = c.from_residual-in_err-put_number-in-Alive in
     record {
       ok = IfOk-from_err r.result _ r.ensures.0;
-      looks = looks_explored c.requires.holds c.in_ok-explored.ensures.explores refl refl refl;
+      looks = looks_grown c.requires.holds
+          (store_explored c.regexes_grow.ensures.arena _ _ _ c.in_ok-explored.ensures.explores) refl refl refl;
     }
 
 pub returns-in_ok-put_number-in-Alive : goal.returns-in_ok-put_number-in-Alive
@@ -47,6 +50,7 @@ returns-in_ok-put_number-in-Alive c =
     let n = c.args.serial.0 in
     let e = c.in_ok-explored.ensures in
     let rs = c.least_word.new.arena in
+    let grows = store_explored c.regexes_grow.ensures.arena x.store rs c.least_word.new.graph e.explores in
     let set = c.in_ok-put_number-in-Alive.ensures in
     let row = c.front_of.ensures
     ∙ ap (λ (rows : List (List Lit)). take c.args.long (row_at rows n)) c.deref.ensures.value in
@@ -55,13 +59,12 @@ returns-in_ok-put_number-in-Alive c =
     record {
       ok = record {
         holds = record {
-          graph = e.explores.graph;
-          plain = c.right_stays.ensures x.arena rs x.plain e.explores.extends h.plain;
-          regexes = regexes_kept x.arena rs x.atoms e.explores.extends h.regexes;
+          store = grows.right h.store;
+          regexes = regexes_kept x.store.arena rs x.atoms grows.extends h.regexes;
           rows = rows_put c.mkand_keeps_language.ensures c.mknot_keeps_language.ensures c.put_word.new.words.items
               c.put_number.new.numbers.items c.front_of.result.now n c.args.long c.in-Alive.word
               c.in_ok-put_word-in-Alive.ensures set c.requires.more c.requires.within row found
-              (rows_grown e.explores.extends h.regexes h.rows);
+              (rows_grown grows.extends h.regexes h.rows);
         };
         fits = λ alive. put_at (number_at c.put_number.new.numbers.items) (number_at x.fitting.items) (λ y. c.args.long) n
             set;
@@ -69,7 +72,7 @@ returns-in_ok-put_number-in-Alive c =
         rises = rises_set x.fitting.items c.put_number.new.numbers.items n c.args.long set
             (omega (arith, c.requires.more));
       };
-      looks = looks_explored h e.explores refl refl refl;
+      looks = looks_grown h grows refl refl refl;
     }
 
 pub returns-in-Dead : goal.returns-in-Dead
@@ -78,14 +81,10 @@ returns-in-Dead c =
     let h = c.requires.holds in
     let e = c.in_ok-explored.ensures in
     let rs = c.least_word.new.arena in
+    let grows = store_explored c.regexes_grow.ensures.arena x.store rs c.least_word.new.graph e.explores in
     record {
       ok = record {
-        holds = record {
-          graph = e.explores.graph;
-          plain = c.right_stays.ensures x.arena rs x.plain e.explores.extends h.plain;
-          regexes = regexes_kept x.arena rs x.atoms e.explores.extends h.regexes;
-          rows = rows_grown e.explores.extends h.regexes h.rows;
-        };
+        holds = holds_grown grows refl h;
         fits = λ alive. absurd (false≢true alive);
         clash = λ dead. subst (λ (ls : List Lit). AreClashing rs x.atoms ls)
             (c.front_of.ensures
@@ -94,5 +93,5 @@ returns-in-Dead c =
             c.in-Dead.is e.found);
         rises = λ y. omega arith;
       };
-      looks = looks_explored h e.explores refl refl refl;
+      looks = looks_grown h grows refl refl refl;
     }

@@ -64,7 +64,7 @@ returns c =
       front = record {
         holds = before.holds;
         within = omega (arith, whole);
-        clash = subst (λ (ls : List Lit). AreClashing y.arena y.atoms ls)
+        clash = subst (λ (ls : List Lit). AreClashing y.store.arena y.atoms ls)
             (sym (take_all (length c.row_of-whole.result.now) (row_at y.members.items n) (omega (arith, whole))))
             (clash_looked n c.requires.holds before.looks c.requires.clash);
       };

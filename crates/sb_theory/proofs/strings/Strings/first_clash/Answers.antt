@@ -1,5 +1,5 @@
-use Rattle.sb_theory.proofs.Words.{◌∙◌, List, ap, arith, length, refl, subst, HasClash, IfOk-from_err, Intake, IsSettled, Serial, explores_none, false≢true, is_in, same_Some, take_all}
-use Rattle.sb_theory.proofs.Moving.{entries_stay, keeps_both, keeps_explored, looks_both, looks_none}
+use Rattle.sb_theory.proofs.Words.{◌∙◌, List, ap, arith, length, refl, subst, HasClash, IfOk-from_err, Intake, IsSettled, Serial, false≢true, is_in, regexes_same, same_Some, take_all}
+use Rattle.sb_theory.proofs.Moving.{entries_stay, keeps_both, keeps_grown, looks_both, looks_none}
 use Rattle.sb_theory.proofs.Standing.{rows_settled, whole_more}
 use Rattle.sb_theory.proofs.strings.Strings.first_clash.Goals as goal
 
@@ -65,8 +65,7 @@ returns c =
     record {
       ok = record {
         holds = record {
-          graph = h.graph;
-          plain = h.plain;
+          store = h.store;
           regexes = h.regexes;
           rows = rows_settled c.clear.new.self
               (λ n there. before.whole n
@@ -78,5 +77,5 @@ returns c =
         settled = λ none. c.clear.ensures;
         clash = λ s is. absurd (Prim.cc (is));
       };
-      keeps = keeps_both before.looks.keeps (keeps_explored h (explores_none h.graph) refl refl);
+      keeps = keeps_both before.looks.keeps (keeps_grown h (regexes_same x.store) refl refl);
     }

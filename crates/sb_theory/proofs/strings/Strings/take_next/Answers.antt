@@ -1,6 +1,6 @@
-use Rattle.sb_theory.proofs.Words.{[], ◌∙◌, ◌∷◌, ap, length, refl, IfOk-from_err, explores_arena, length-append, regexes_kept, wanted_of, wanted_on}
+use Rattle.sb_theory.proofs.Words.{[], ◌∙◌, ◌∷◌, ap, length, refl, IfOk-from_err, length-append, regexes_kept, wanted_of, wanted_on}
 use Rattle.sb_theory.proofs.Fitting.{rows_taken}
-use Rattle.sb_theory.proofs.Moving.{keeps_explored}
+use Rattle.sb_theory.proofs.Moving.{keeps_grown}
 use Rattle.sb_theory.proofs.Rows.{wanted_push}
 use Rattle.sb_theory.proofs.Standing.{stands_next}
 use Rattle.sb_theory.proofs.strings.Strings.take_next.Goals as goal
@@ -8,21 +8,17 @@ use Rattle.sb_theory.proofs.strings.Strings.take_next.Goals as goal
 pub returns-in_err-take_literal : goal.returns-in_err-take_literal
 returns-in_err-take_literal c =
     let r = c.from_residual in
-    let h = c.requires.stands.holds in
     record {
       ok = IfOk-from_err r.result _ r.ensures.0;
-      keeps = keeps_explored h (explores_arena c.graph_stays.ensures c.in_err-take_literal.ensures.extends h.graph) refl
-          refl;
+      keeps = keeps_grown c.requires.stands.holds c.in_err-take_literal.ensures.grows refl refl;
     }
 
 pub returns-in_err-push : goal.returns-in_err-push
 returns-in_err-push c =
     let r = c.from_residual-in_err-push in
-    let h = c.requires.stands.holds in
     record {
       ok = IfOk-from_err r.result _ r.ensures.0;
-      keeps = keeps_explored h (explores_arena c.graph_stays.ensures c.in_ok-take_literal.ensures.extends h.graph) refl
-          refl;
+      keeps = keeps_grown c.requires.stands.holds c.in_ok-take_literal.ensures.grows refl refl;
     }
 
 pub returns : goal.returns
@@ -32,16 +28,14 @@ returns c =
     let e = c.index-literals-len.result in
     let took = c.in_ok-take_literal.ensures in
     let pushed = c.in_ok-push.ensures.items in
-    let explored = explores_arena c.graph_stays.ensures took.extends h.graph in
     record {
       ok = (
         stands_next c.literals.result.now c.len.result e c.requires.stands c.literals.ensures.value
             (c.len.ensures ∙ x.taken.ok.0) c.requires.more c.index-literals-len.is c.literals.ensures.trail.levelled
             pushed
             (record {
-              graph = explored.graph;
-              plain = took.right;
-              regexes = regexes_kept x.arena c.take_literal.new.arena x.atoms took.extends h.regexes;
+              store = took.grows.right h.store;
+              regexes = regexes_kept x.store.arena c.take_literal.new.store.arena x.atoms took.grows.extends h.regexes;
               rows = rows_taken x.words.items c.deref.result.now (wanted_of x.wanted (c.literal.result ∷ []))
                   c.deref.ensures.value
                   (wanted_push x.wanted x.taken.items c.push.new.self.items e c.literal.result pushed c.literal.ensures)
@@ -49,5 +43,5 @@ returns c =
             }),
         ap length pushed ∙ length-append x.taken.items (e ∷ []),
       );
-      keeps = keeps_explored h explored refl refl;
+      keeps = keeps_grown h took.grows refl refl;
     }

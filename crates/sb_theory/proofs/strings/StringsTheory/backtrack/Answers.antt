@@ -1,4 +1,4 @@
-use Rattle.sb_theory.proofs.Words.{refl, extends_same, wanted_on, writes_grown}
+use Rattle.sb_theory.proofs.Words.{refl, regexes_same, wanted_on, writes_grown}
 use Rattle.sb_theory.proofs.Fitting.{rows_cut}
 use Rattle.sb_theory.proofs.Rows.{wanted_front}
 use Rattle.sb_theory.proofs.Standing.{stands_cut}
@@ -10,8 +10,7 @@ returns-clause-stands c = λ entries h.
     let cut = c.cut.ensures.taken h.levelled in
     stands_cut c.args.level cut
     (record {
-      graph = h.holds.graph;
-      plain = h.holds.plain;
+      store = h.holds.store;
       regexes = h.holds.regexes;
       rows = rows_cut c.cut.new.rows.items (wanted_on x.wanted c.cut.new.taken.items) (wanted_on x.wanted cut.more)
           (wanted_front x.wanted x.taken.items c.cut.new.taken.items cut.more cut.front)
@@ -20,4 +19,4 @@ returns-clause-stands c = λ entries h.
 
 pub returns-clause-puts : goal.returns-clause-puts
 returns-clause-puts c = λ proof.
-    writes_grown c.args.self.now _ proof refl refl refl refl (extends_same c.args.self.now.arena) (λ n pieces h. h)
+    writes_grown c.args.self.now _ proof refl refl refl refl (regexes_same c.args.self.now.store)
