@@ -1,6 +1,5 @@
 -- Terms that ask something of one constant's word, among others: which they are, and which constants they speak of.
-use Rattle.std.proofs.Common.{◌≡◌, ℕ, Bool, true, false, not, ◌||◌, ◌&&◌, ◌==◌, Option, Some, None, List, [], ◌∷◌, if◌then◌else◌, refl, sym, ap, subst, ◌∙◌}
-use Rattle.sb_decide.proofs.Words.{Assertion, Sort, Term, Text, Valuation, a_mark, about, all_hold, and_parts, asking, asks_of, asserted, constant, demanded, eqb-true, false≢true, fits, holds, is_about, is_demand, is_member, is_plain_assertion, is_plain_term, list_all, occurs, speaks_of, terms_in, text, words_asked}
+use Rattle.sb_decide.proofs.Words.{◌≡◌, ℕ, Bool, true, false, not, ◌||◌, ◌&&◌, ◌==◌, Option, Some, None, List, [], ◌∷◌, if◌then◌else◌, refl, sym, ap, subst, ◌∙◌, Assertion, Sort, Term, Text, Valuation, a_mark, about, all_hold, and_parts, asking, asks_of, asserted, constant, demanded, eqb-true, false≢true, fits, holds, is_about, is_demand, is_member, is_plain_assertion, is_plain_term, list_all, occurs, speaks_of, terms_in, text, words_asked}
 use Rattle.sb_decide.proofs.DemandFacts.{demand_in, demanded_about, demanded_occurs, demanded_speaks}
 
 -- it asks something of this constant alone

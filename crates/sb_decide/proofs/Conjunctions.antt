@@ -1,8 +1,5 @@
 -- The words that regexes have in common.
-use Rattle.std.proofs.Common.{◌≡◌, ◌≢◌, ℕ, ◌<◌, true, ◌&&◌, List, [], ◌∷◌, ◌++◌, length, refl, sym, ap, ◌∙◌, arith}
-use Rattle.sb_decide.proofs.Words.{All-head, All-tail, AllNumbers, Extends, HasNoWord, IntersectionIsOfEach, IsShortestLeast, IsWord, Language, MkandKeepsLanguage, Names, Regex, and-true, and_assoc, are_characters, at_kept, in_each, language, list_all, mkand, names_at, regex_at, regexes_at}
-use Rattle.std.specs.Ordering.{nat_cmp}
-use Rattle.std.specs.Cmp.Lexicographic.{slice_cmp}
+use Rattle.sb_decide.proofs.Words.{◌≡◌, ◌≢◌, ℕ, ◌<◌, true, ◌&&◌, List, [], ◌∷◌, ◌++◌, length, refl, sym, ap, ◌∙◌, arith, All-head, All-tail, AllNumbers, Extends, HasNoWord, IntersectionIsOfEach, IsShortestLeast, IsWord, Language, MkandKeepsLanguage, Names, Regex, and-true, and_assoc, are_characters, at_kept, in_each, language, list_all, mkand, names_at, regex_at, regexes_at, nat_cmp, slice_cmp}
 use Rattle.std.specs.declared.cmp.Ordering.TheVariants.{Less}
 
 pub in_each-append : (rs : List Regex) (ids : List ℕ) (id : ℕ) (w : List ℕ)

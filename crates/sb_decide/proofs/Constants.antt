@@ -1,26 +1,12 @@
 -- Constants by their place, with the places of their memberships.
-use Rattle.std.proofs.Common.{◌≡◌, ◌≢◌, ℕ, zero, suc, ◌+◌, ◌-◌, ◌<◌, ◌≤◌, Bool, true, false, ◌||◌, ◌==◌, List, [], ◌∷◌, ◌++◌, length, get_or, set, slice_get, take, refl, sym, ap, subst, ◌∙◌, arith, length-append, Option, Some, None, append-nil, if◌then◌else◌}
-use Rattle.std.proofs.lemmas.List.Folds.{list_any_at}
-use Rattle.sb_decide.proofs.Words.{All, Conjoined, IsChangedAt, Member, RestSettled, Serial, and_from, and_parts, are_characters, are_words, conjoined_at, eq-eqb, eqb-false, eqb-true, false≢true, get_or_from_slice_get, is_listed, is_settled, nat_tests, or_parts, places_in, slice_get_within, take-append_seam, take_all, take_more, with_place, without_last, without_place, word_at}
-use Rattle.sb_decide.proofs.MemberFacts.{by_number, places_here, places_other}
-
-pub conjoined_within : (cs : List Conjoined) (n : ℕ) (c : Conjoined) → n < length cs → c ≡ get_or cs n c
-    → conjoined_at cs n ≡ c
-conjoined_within [] n c l is = absurd (omega arith)
-conjoined_within (x ∷ cs) zero c l is = sym is
-conjoined_within (x ∷ cs) (suc n) c l is = conjoined_within cs n c (omega (arith, l)) is
+use Rattle.sb_decide.proofs.Words.{All, Bool, Conjoined, IsChangedAt, List, Member, None, Option, RestSettled, Serial, Some, [], and_from, and_parts, ap, append-nil, are_characters, are_words, arith, conjoined_at, eq-eqb, eqb-false, eqb-true, false, false≢true, get_or, get_or_from_slice_get, if◌then◌else◌, is_listed, is_settled, length, length-append, list_any_at, ne_eqb, or_parts, places_in, refl, slice_get, slice_get_within, subst, suc, sym, take, take-append_seam, take_all, take_more, true, with_place, without_last, without_place, word_at, ℕ, ◌++◌, ◌+◌, ◌-◌, ◌<◌, ◌==◌, ◌||◌, ◌∙◌, ◌∷◌, ◌≡◌, ◌≢◌, ◌≤◌}
+use Rattle.sb_decide.proofs.MemberFacts.{by_number, default_behind, places_here, places_other}
 
 pub record Growing (old new : List Conjoined) (count : ℕ) : Type 0 where
   pub within : length new ≤ count
   pub same : (n : ℕ) → conjoined_at new n ≡ conjoined_at old n
 
 -- a new word
-word_blank : (words : List (List ℕ)) (n : ℕ) → word_at (words ++ [] ∷ []) n ≡ word_at words n
-word_blank [] zero = refl
-word_blank [] (suc n) = refl
-word_blank (w ∷ words) zero = refl
-word_blank (w ∷ words) (suc n) = word_blank words n
-
 words_blank : (words : List (List ℕ)) → are_words words ≡ true → are_words (words ++ [] ∷ []) ≡ true
 words_blank [] h = refl
 words_blank (w ∷ words) h =
@@ -36,23 +22,9 @@ pub filling_more : (old new new' : List (List ℕ)) (count : ℕ) (w : List ℕ)
     → length new < count → new' ≡ new ++ w ∷ [] → w ≡ [] → Filling old new' count
 filling_more old new new' count w g l more is = rw (more, is) (record {
   within = omega (arith, l, length-append new ([] ∷ []));
-  same = λ n. word_blank new n ∙ g.same n;
+  same = λ n. default_behind new [] n ∙ g.same n;
   characters = λ h. words_blank new (g.characters h);
 })
-
--- one constant is set
-pub conjoined_set : (cs : List Conjoined) (i : ℕ) (c : Conjoined) → i < length cs → conjoined_at (set cs i c) i ≡ c
-conjoined_set [] i c l = absurd (omega arith)
-conjoined_set (x ∷ cs) zero c l = refl
-conjoined_set (x ∷ cs) (suc i) c l = conjoined_set cs i c (omega (arith, l))
-
-pub conjoined_set_other : (cs : List Conjoined) (i n : ℕ) (c : Conjoined) → n ≢ i
-    → conjoined_at (set cs i c) n ≡ conjoined_at cs n
-conjoined_set_other [] i n c h = refl
-conjoined_set_other (x ∷ cs) zero zero c h = absurd (h refl)
-conjoined_set_other (x ∷ cs) zero (suc n) c h = refl
-conjoined_set_other (x ∷ cs) (suc i) zero c h = refl
-conjoined_set_other (x ∷ cs) (suc i) (suc n) c h = conjoined_set_other cs i n c (λ e. h (ap suc e))
 
 -- constants in a list, what holds of each of them, and the last one
 pub listed_at : (xs : List Serial) (k : ℕ) (d : Serial) → k < length xs → is_listed xs (get_or xs k d).0 ≡ true
@@ -70,10 +42,7 @@ listed_all P (x ∷ xs) n all h =
 
 pub listed_last : (rest : List Serial) (last : Serial) (n : ℕ) → is_listed rest n ≡ false → n ≢ last.0
     → is_listed (rest ++ last ∷ []) n ≡ false
-listed_last [] last n h other = ap (λ b. b || false) (differs last.0 n (λ e. other (sym e)))
-  where
-    differs : (a b : ℕ) → a ≢ b → (a == b) ≡ false
-    differs a b h = grind (arith, nat_tests)
+listed_last [] last n h other = ap (λ b. b || false) (ne_eqb last.0 n (λ e. other (sym e)))
 listed_last (s ∷ rest) last n h other =
     let parts = or_parts (s.0 == n) (is_listed rest n) h in
     ap (λ b. b || is_listed (rest ++ last ∷ []) n) parts.0 ∙ listed_last rest last n parts.1 other

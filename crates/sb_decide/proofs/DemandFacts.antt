@@ -1,11 +1,6 @@
 -- Terms that demand something of one constant's word: they ask for it, or are the denial of a term that does. Which
 -- constant stands in them, what they mean, when they are decided ones, and the regexes that they demand.
-use Rattle.std.proofs.Common.{◌≡◌, ℕ, Bool, true, false, ◌&&◌, ◌||◌, ◌==◌, nat_lt, Option, Some, None, option_map, not, List, [], ◌∷◌, length, if◌then◌else◌, refl, sym, ap, subst, ◌∙◌}
-use Rattle.sb_decide.proofs.Words.{IsAsking, IsNumberOf, IsRegexOf, Meaning, Names, RegLan, Regex, Sort, Term, Text, Valuation, a_membership, a_word_behind, a_word_in_front, all_true, and-false, and-true, and_from, and_parts, applied, apply, asked, asked_holds, asked_looks, asked_occurs, asked_regular, asked_structure, asserted, complement_of, constant, demanded, expression_in, false≢true, fits, has_serials_below, holds, in_re, is_about, is_decided, is_demand, is_of_constant, is_plain_term, is_regex, is_structure, meaning_of, means_number, means_reglan, means_truth, means_word, membership_of, mknot, names_at, negation_of, no_terms, normal, occurs, or_parts, pattern_in, re_comp, regex_at, speaks_of, terms_at, terms_of, text, truth_in, value_in, with_term, none-some}
-use Rattle.sb_script.specs.Sizes.{is_regular}
-use Rattle.sb_term.specs.Symbols.{symbol_in}
-use Rattle.sb_term.specs.declared.sort.Symbol.{Symbol}
-use Rattle.sb_decide.specs.declared.demand.Demand.{Demand}
+use Rattle.sb_decide.proofs.Words.{Bool, Demand, IsAsking, IsNumberOf, IsRegexOf, List, Meaning, Names, None, Option, RegLan, Regex, Some, Sort, Symbol, Term, Terms, Text, Valuation, [], a_membership, a_word_behind, a_word_in_front, all_true, and-false, and-true, and_from, and_parts, ap, applied, apply, asked, asked_holds, asked_looks, asked_occurs, asked_regular, asked_structure, asserted, complement_of, constant, demanded, expression_in, false, false≢true, fits, has_serials_below, have_serials_below, holds, if◌then◌else◌, in_re, is_about, is_decided, is_demand, is_of_constant, is_plain_term, is_regex, is_regular, is_structure, length, meaning_of, means_number, means_reglan, means_truth, means_word, membership_of, mknot, names_at, nat_lt, negation_of, no_terms, none-some, normal, not, occurs, option_map, or_parts, pattern_in, re_comp, refl, regex_at, speak_of, speaks_of, subst, sym, symbol_in, terms_at, terms_of, text, true, truth_in, value_in, with_term, ℕ, ◌&&◌, ◌==◌, ◌||◌, ◌∙◌, ◌∷◌, ◌≡◌}
 use Rattle.sb_meaning.specs.Terms as symbol
 use Rattle.sb_term.specs.declared.sort.Symbol.TheVariants as code
 
@@ -74,47 +69,36 @@ demanded_kind t serial R h =
 
 -- The constant stands in it.
 
-asking_speaks : (ns : List (ℕ × Sort)) (t : Term) (serial : ℕ) (R : Term) → asked t ≡ Some (serial, R)
-    → speaks_of ns t ≡ true → speaks_of ns (constant serial text) ≡ true
-asking_speaks ns t serial R h named = step (asked_looks t serial R h)
+-- where a term passes a test that asks for as much of each argument, the constant passes too
+demanded_passes : (test : Term → Bool) (tests : Terms → Bool)
+    → ((s : symbol.Symbol) (ts : Terms) → test (apply s ts) ≡ tests ts)
+    → ((t : Term) (ts : Terms) → tests (with_term t ts) ≡ (test t && tests ts)) → (t : Term) (serial : ℕ) (R : Term)
+    → demanded t ≡ Some (serial, R) → test t ≡ true → test (constant serial text) ≡ true
+demanded_passes test tests each first t serial R h passed = step (demanded_looks t serial R h)
   where
-    step : IsAsking serial t R → speaks_of ns (constant serial text) ≡ true
-    step (a_membership is) =
-        (and_parts (speaks_of ns (constant serial text)) (speaks_of ns R && true)
-        (sym (ap (speaks_of ns) is) ∙ named)).0
-    step (a_word_behind w is S) =
-        (and_parts (speaks_of ns (constant serial text)) true (sym (ap (speaks_of ns) is) ∙ named)).0
-    step (a_word_in_front w is S) =
-        (and_parts (speaks_of ns (constant serial text)) true (sym (ap (speaks_of ns) is) ∙ named)).0
+    parts : (t u : Term) (s : symbol.Symbol) (ts : Terms) → t ≡ apply s (with_term u ts) → test t ≡ true
+        → (test u ≡ true) × (tests ts ≡ true)
+    parts t u s ts is k = and_parts (test u) (tests ts)
+        (sym (ap test is ∙ (each s (with_term u ts) ∙ first u ts)) ∙ k)
+
+    asking : (u S : Term) → IsAsking serial u S → test u ≡ true → test (constant serial text) ≡ true
+    asking u S (a_membership is) k = (parts u _ _ _ is k).0
+    asking u S (a_word_behind w is _) k = (parts u _ _ _ is k).0
+    asking u S (a_word_in_front w is _) k =
+        (and_parts (test (constant serial text)) (tests no_terms)
+        (sym (first (constant serial text) no_terms) ∙ (parts u _ _ _ is k).1)).0
+
+    step : IsDemanding serial t R → test (constant serial text) ≡ true
+    step (an_asking asks) = asking t R (asked_looks t serial R asks) passed
+    step (a_denial u S is same asks) = asking u S (asked_looks u serial S asks) (parts t u _ _ is passed).0
 
 pub demanded_speaks : (ns : List (ℕ × Sort)) (t : Term) (serial : ℕ) (R : Term) → demanded t ≡ Some (serial, R)
     → speaks_of ns t ≡ true → speaks_of ns (constant serial text) ≡ true
-demanded_speaks ns t serial R h named = step (demanded_looks t serial R h)
-  where
-    step : IsDemanding serial t R → speaks_of ns (constant serial text) ≡ true
-    step (an_asking asks) = asking_speaks ns t serial R asks named
-    step (a_denial u S is same asks) =
-        asking_speaks ns u serial S asks (and_parts (speaks_of ns u) true (sym (ap (speaks_of ns) is) ∙ named)).0
-
-asking_below : (n : ℕ) (t : Term) (serial : ℕ) (R : Term) → asked t ≡ Some (serial, R)
-    → has_serials_below n t ≡ true → nat_lt serial n ≡ true
-asking_below n t serial R h below = step (asked_looks t serial R h)
-  where
-    step : IsAsking serial t R → nat_lt serial n ≡ true
-    step (a_membership is) =
-        (and_parts (nat_lt serial n) (has_serials_below n R && true) (sym (ap (has_serials_below n) is) ∙ below)).0
-    step (a_word_behind w is S) = (and_parts (nat_lt serial n) true (sym (ap (has_serials_below n) is) ∙ below)).0
-    step (a_word_in_front w is S) = (and_parts (nat_lt serial n) true (sym (ap (has_serials_below n) is) ∙ below)).0
+demanded_speaks ns = demanded_passes (speaks_of ns) (speak_of ns) (λ s ts. refl) (λ t ts. refl)
 
 pub demanded_below : (n : ℕ) (t : Term) (serial : ℕ) (R : Term) → demanded t ≡ Some (serial, R)
     → has_serials_below n t ≡ true → nat_lt serial n ≡ true
-demanded_below n t serial R h below = step (demanded_looks t serial R h)
-  where
-    step : IsDemanding serial t R → nat_lt serial n ≡ true
-    step (an_asking asks) = asking_below n t serial R asks below
-    step (a_denial u S is same asks) =
-        asking_below n u serial S asks
-        (and_parts (has_serials_below n u) true (sym (ap (has_serials_below n) is) ∙ below)).0
+demanded_below n = demanded_passes (has_serials_below n) (have_serials_below n) (λ s ts. refl) (λ t ts. refl)
 
 asking_occurs : (n : ℕ) (t : Term) (serial : ℕ) (R : Term) → asked t ≡ Some (serial, R) → occurs n t ≡ false
     → (n == serial) ≡ false

@@ -1,10 +1,8 @@
 -- The constants that were heard of, as terms and assertions come and go.
-use Rattle.std.proofs.Common.{◌≡◌, ℕ, zero, suc, ◌<◌, ◌≤◌, Bool, not, ◌&&◌, List, [], ◌∷◌, ◌++◌, length, get_or, slice_get, take, drop, Option, Some, None, IfSome, refl, sym, ap, ap₂, subst, ◌∙◌, arith}
-use Rattle.sb_decide.proofs.Words.{All, All-head, All-tail, All-take, AreHeard, AreMembers, HasNumberBelow, Hears, IsTakenAs, Member, Regex, Serial, Speaks, Term, is_silent, list_all, list_all-append, occurs, passes_at, take-append-drop, take-append-le}
+use Rattle.sb_decide.proofs.Words.{◌≡◌, ℕ, zero, suc, ◌<◌, ◌≤◌, Bool, not, ◌&&◌, List, [], ◌∷◌, ◌++◌, length, get_or, slice_get, take, drop, Option, Some, None, IfSome, refl, sym, ap, ap₂, subst, ◌∙◌, arith, All, All-head, All-tail, All-take, AreHeard, AreMembers, HasNumberBelow, Hears, IsTakenAs, Member, Regex, Serial, Speaks, Term, is_silent, list_all, list_all-append, occurs, passes_at, take-append-drop, take-append-le, passes, passes_in}
 use Rattle.sb_term.specs.declared.assertion.Assertion as code
 use Rattle.sb_term.specs.Numbered as table
 use Rattle.sb_term.proofs.CallerLemmas as table_facts
-use Rattle.sb_decide.specs.Speaking.{passes, passes_in}
 
 -- nothing was heard
 pub heard_none : (ts : List Term) (xs : List code.Assertion) (places : List ℕ) (count : ℕ) (serials : List Serial)

@@ -1,6 +1,5 @@
 -- Of how many first regexes a kept word is the least one, as regexes come and go.
-use Rattle.std.proofs.Common.{◌≡◌, ◌≢◌, ℕ, zero, suc, ◌+◌, ◌<◌, ◌≤◌, nat_le, Bool, true, false, ◌&&◌, ◌==◌, if◌then◌else◌, List, [], ◌∷◌, ◌++◌, length, get_or, set, take, drop, refl, sym, ap, ap₂, subst, subst₂, ◌∙◌, arith, Option, Some, None, unwrap_or, length-append}
-use Rattle.sb_decide.proofs.Words.{All, All-nil, All-push, All-same, All-take, AllNumbers, AreKept, Conjoined, Extends, HasRegexBelow, IsInEach, IsLeastOf, IsShortestLeast, IsWord, Language, Member, Regex, and_from, and_parts, are_characters, are_words, at_kept, conjoined_at, drop-map, eqb-true, get_or-set_other, get_or-set_same, get_or_default, id_of, ids_at, ids_in, in_each, is_known_of, is_settled, known_within, language, leb-true, length-map, length-set, list_all-append, map_more, number_kept, numbers_kept, places_in, regex_at, same_Some, take-append-drop, take-append-le, take_all, with_word, word_at, words_in, none-some, false≢true}
+use Rattle.sb_decide.proofs.Words.{◌≡◌, ◌≢◌, ℕ, zero, suc, ◌+◌, ◌<◌, ◌≤◌, nat_le, Bool, true, false, ◌&&◌, ◌==◌, if◌then◌else◌, List, [], ◌∷◌, ◌++◌, length, get_or, set, take, drop, refl, sym, ap, ap₂, subst, subst₂, ◌∙◌, arith, Option, Some, None, unwrap_or, length-append, All, All-nil, All-push, All-same, All-take, AllNumbers, AreKept, Conjoined, Extends, HasRegexBelow, IsInEach, IsLeastOf, IsShortestLeast, IsWord, Language, Member, Regex, and_from, and_parts, are_characters, are_words, at_kept, conjoined_at, drop-map, eqb-true, get_or-set_other, get_or-set_same, get_or_default, id_of, ids_at, ids_in, in_each, is_known_of, is_settled, known_within, language, leb-true, length-map, length-set, list_all-append, map_more, number_kept, numbers_kept, places_in, regex_at, same_Some, take-append-drop, take-append-le, take_all, with_word, word_at, words_in, none-some, false≢true}
 use Rattle.sb_decide.proofs.Conjunctions.{in_each-append, in_each_kept, least_of_all, same_least}
 use Rattle.sb_decide.proofs.MemberFacts.{ids_below}
 
@@ -172,10 +171,6 @@ matched_next old new ms places w i d o m e before l within there low holds = rec
 
     same : ids_at ms (take (i + 1) places) ≡ ids ++ m.regex ∷ []
     same = map_more (λ place. id_of (get_or ms place None)) places i d l ∙ ap (λ id. ids ++ id ∷ []) here
-
-pub matched_all : (rs : List Regex) (ms : List (Option Member)) (places w : List ℕ) (i : ℕ) → length places ≤ i
-    → IsInEach rs ms (take i places) w → IsInEach rs ms places w
-matched_all rs ms places w i l h = subst (λ these. IsInEach rs ms these w) (take_all i places l) h
 
 -- with those behind the ones that it is the least one of
 pub behind_within : (rs : List Regex) (ms : List (Option Member)) (n k : ℕ) (places w : List ℕ)

@@ -1,6 +1,5 @@
 -- What is known of the assertions so far, as more of it becomes known.
-use Rattle.std.proofs.Common.{◌≡◌, ℕ, zero, suc, ◌<◌, ◌≤◌, Bool, true, false, ◌&&◌, ◌==◌, nat_lt, List, [], ◌∷◌, ◌++◌, length, get_or, slice_get, map, take, refl, sym, ap, ◌∙◌, arith, Option, Some, None, IfSome, if◌then◌else◌, subst, subst₂, vec_len, append-nil, length-append, ◌-◌}
-use Rattle.sb_decide.proofs.Words.{All, All-nil, All-pop, All-push, All-same, AreHeard, AreKept, AreMembers, AreRooted, Assertion, Conjoined, Contains, Decider, Extends, Found, Global, Grows, HasNumberBelow, HasRegexBelow, HasRoom, HasSerialBelow, IsChangedAt, IsEmptyAt, IsLeastOf, IsLonger, IsMember, IsOther, IsRegexOf, IsStoreOf, IsTaken, IsTakenAs, Knows, KnowsGrown, Member, NormalsStay, Regex, RestSettled, Serial, Stacked, StayKept, Store, Term, Vec, a_mark, all_below, and-false, asserted, assertion_in, assertion_of, conjoined_at, demanded, eqb-false, extends_same, fits, has_serials_below, ids_in, is_decided, is_settled, list_all, nat_tests, nil_from_length, other_dead, other_places, places_in, places_of, slice_get_within, take-append-le, term_at, without_last, without_place, word_at}
+use Rattle.sb_decide.proofs.Words.{◌≡◌, ℕ, zero, suc, ◌<◌, ◌≤◌, Bool, true, false, ◌&&◌, ◌==◌, nat_lt, List, [], ◌∷◌, ◌++◌, length, get_or, slice_get, map, take, refl, sym, ap, ◌∙◌, arith, Option, Some, None, IfSome, if◌then◌else◌, subst, subst₂, vec_len, append-nil, length-append, ◌-◌, All, All-nil, All-pop, All-push, All-same, AreHeard, AreKept, AreMembers, AreRooted, Assertion, Conjoined, Contains, Decider, Extends, Found, Global, Grows, HasNumberBelow, HasRegexBelow, HasRoom, HasSerialBelow, IsChangedAt, IsEmptyAt, IsLeastOf, IsLonger, IsMember, IsOther, IsRegexOf, IsStoreOf, IsTaken, IsTakenAs, Knows, KnowsGrown, Member, NormalsStay, Regex, RestSettled, Serial, Stacked, StayKept, Store, Term, Vec, a_mark, all_below, and-false, asserted, assertion_in, assertion_of, conjoined_at, demanded, eqb-false, extends_same, fits, has_serials_below, ids_in, is_decided, is_settled, list_all, nat_tests, nil_from_length, other_dead, other_places, places_in, places_of, slice_get_within, take-append-le, term_at, without_last, without_place, word_at}
 use Rattle.sb_term.specs.declared.assertion.Assertion as code
 use Rattle.sb_term.specs.Numbered as table
 use Rattle.sb_term.proofs.CallerLemmas as table_facts

@@ -1,7 +1,5 @@
 -- What was taken in, as assertions come and go, and as regexes and terms do.
-use Rattle.std.proofs.Common.{◌≡◌, ◌≢◌, ℕ, zero, suc, ◌+◌, ◌<◌, ◌≤◌, Bool, true, false, ◌&&◌, ◌==◌, if◌then◌else◌, List, [], ◌∷◌, ◌++◌, length, get_or, slice_get, refl, sym, ap, subst, ◌∙◌, arith, Option, Some, None, IfSome}
-use Rattle.sb_decide.proofs.Words.{All, All-cons, All-head, All-nil, All-tail, AllNumbers, AreMembers, Extends, HasRegexBelow, IsEmptyAt, IsRegexOf, IsTakenAs, Member, Regex, Term, append-nil, asserted, assertion_of, eqb-false, eqb-true, ids_in, in_each, language, list_all-append, names_below, names_kept, nat_tests, none-some, normal, other_places, places_in, regex_at, same_Some, words_in}
-use Rattle.sb_facts.proofs.CallerLemmas.{number_more}
+use Rattle.sb_decide.proofs.Words.{All, All-cons, All-head, All-nil, All-tail, AllNumbers, AreMembers, Bool, Extends, HasRegexBelow, IfSome, IsEmptyAt, IsRegexOf, IsTakenAs, List, Member, None, Option, Regex, Some, Term, [], ap, append-nil, arith, asserted, assertion_of, eq-eqb, eqb-false, eqb-true, false, get_or, ids_in, if◌then◌else◌, in_each, language, length, list_all-append, names_below, names_kept, ne_eqb, none-some, normal, number_more, other_places, places_in, refl, regex_at, same_Some, slice_get, subst, suc, sym, true, words_in, zero, ℕ, ◌&&◌, ◌++◌, ◌+◌, ◌<◌, ◌==◌, ◌∙◌, ◌∷◌, ◌≡◌, ◌≢◌, ◌≤◌}
 use Rattle.sb_term.specs.declared.assertion.Assertion.{Assertion}
 use Rattle.sb_term.specs.Numbered as table
 use Rattle.sb_term.proofs.CallerLemmas as table_facts
@@ -12,6 +10,13 @@ pub same_left : {A : Type 0} (xs more : List A) (i : ℕ) → i < length xs → 
 same_left [] more i l = absurd (omega (arith, l))
 same_left (x ∷ xs) more zero l = refl
 same_left (x ∷ xs) more (suc i) l = same_left xs more i (omega (arith, l))
+
+-- as one comes behind that is read past the end too
+pub default_behind : {A : Type 0} (xs : List A) (d : A) (i : ℕ) → get_or (xs ++ d ∷ []) i d ≡ get_or xs i d
+default_behind [] d zero = refl
+default_behind [] d (suc i) = refl
+default_behind (x ∷ xs) d zero = refl
+default_behind (x ∷ xs) d (suc i) = default_behind xs d i
 
 -- what holds of one number, and of all others, holds of each
 pub by_number : (P : ℕ → Type 0) (place : ℕ) → P place → ((n : ℕ) → n ≢ place → P n) → (n : ℕ) → P n
@@ -110,15 +115,14 @@ ids_append (Some x ∷ ms) rest n =
 pub ids_here : (ms : List (Option Member)) (m : Member) (n : ℕ) → n ≡ m.serial.0
     → ids_in (ms ++ Some m ∷ []) n ≡ ids_in ms n ++ m.regex ∷ []
 ids_here ms m n e =
-    let same : (n == m.serial.0) ≡ true = grind (arith, nat_tests) in
-    ids_append ms (Some m ∷ []) n ∙ ap (λ b. ids_in ms n ++ (if b then m.regex ∷ [] else [])) same
+    ids_append ms (Some m ∷ []) n
+    ∙ ap (λ b. ids_in ms n ++ (if b then m.regex ∷ [] else [])) (eq-eqb n m.serial.0 e)
 
 pub ids_other : (ms : List (Option Member)) (m : Member) (n : ℕ) → n ≢ m.serial.0
     → ids_in (ms ++ Some m ∷ []) n ≡ ids_in ms n
 ids_other ms m n e =
-    let other : (n == m.serial.0) ≡ false = grind (arith, nat_tests) in
     ids_append ms (Some m ∷ []) n
-    ∙ (ap (λ b. ids_in ms n ++ (if b then m.regex ∷ [] else [])) other ∙ append-nil (ids_in ms n))
+    ∙ (ap (λ b. ids_in ms n ++ (if b then m.regex ∷ [] else [])) (ne_eqb n m.serial.0 e) ∙ append-nil (ids_in ms n))
 
 pub ids_below : (rs : List Regex) (ms : List (Option Member)) (n : ℕ) → All (HasRegexBelow (length rs)) ms
     → AllNumbers rs (ids_in ms n)
@@ -145,16 +149,15 @@ places_append k n (Some x ∷ ms) rest place e =
 pub places_here : (n : ℕ) (ms : List (Option Member)) (m : Member) → n ≡ m.serial.0
     → places_in 0 n (ms ++ Some m ∷ []) ≡ places_in 0 n ms ++ length ms ∷ []
 places_here n ms m e =
-    let same : (n == m.serial.0) ≡ true = grind (arith, nat_tests) in
     places_append 0 n ms (Some m ∷ []) (length ms) (omega arith)
-    ∙ ap (λ b. places_in 0 n ms ++ (if b then length ms ∷ [] else [])) same
+    ∙ ap (λ b. places_in 0 n ms ++ (if b then length ms ∷ [] else [])) (eq-eqb n m.serial.0 e)
 
 pub places_other : (n : ℕ) (ms : List (Option Member)) (m : Member) → n ≢ m.serial.0
     → places_in 0 n (ms ++ Some m ∷ []) ≡ places_in 0 n ms
 places_other n ms m e =
-    let other : (n == m.serial.0) ≡ false = grind (arith, nat_tests) in
     places_append 0 n ms (Some m ∷ []) (length ms) (omega arith)
-    ∙ (ap (λ b. places_in 0 n ms ++ (if b then length ms ∷ [] else [])) other ∙ append-nil (places_in 0 n ms))
+    ∙ (ap (λ b. places_in 0 n ms ++ (if b then length ms ∷ [] else [])) (ne_eqb n m.serial.0 e)
+    ∙ append-nil (places_in 0 n ms))
 
 -- places that are below with one in front
 pub further_on : (k : ℕ) (o : Option Member) (ms : List (Option Member)) (places : List ℕ)
@@ -181,10 +184,6 @@ pub words_grown : (old new : List Regex) (ms : List (Option Member)) (n : ℕ) (
     → All (HasRegexBelow (length old)) ms → words_in new ms n w ≡ words_in old ms n w
 words_grown old new ms n w e known = in_each_kept old new (ids_in ms n) w e (ids_below old ms n known)
 
-pub words_same : (rs : List Regex) (ms ms' : List (Option Member)) (n : ℕ) (w : List ℕ)
-    → ids_in ms' n ≡ ids_in ms n → words_in rs ms' n w ≡ words_in rs ms n w
-words_same rs ms ms' n w same = ap (λ ids. in_each rs ids w) same
-
 pub empty_grown : (old new : List Regex) (ms : List (Option Member)) (n : ℕ) → Extends old new
     → All (HasRegexBelow (length old)) ms → IsEmptyAt old ms n → IsEmptyAt new ms n
 empty_grown old new ms n e known h = λ w c. words_grown old new ms n w e known ∙ h w c
@@ -199,7 +198,7 @@ empty_pushed rs ms rest n h = λ w c.
 -- a list that gives the constant the same regexes
 pub empty_same : (rs : List Regex) (ms ms' : List (Option Member)) (n : ℕ) → ids_in ms' n ≡ ids_in ms n
     → IsEmptyAt rs ms n → IsEmptyAt rs ms' n
-empty_same rs ms ms' n same h = λ w c. words_same rs ms ms' n w same ∙ h w c
+empty_same rs ms ms' n same h = λ w c. ap (λ ids. in_each rs ids w) same ∙ h w c
 
 -- a regex that was taken in has its number
 pub regex_below : (rs : List Regex) (ts : List Term) (o : Option Member) (x : Assertion) → IsTakenAs rs ts o x

@@ -1,8 +1,6 @@
 -- The words of a model: what is asked of each constant's word is true, and what is known of them then.
-use Rattle.std.proofs.Common.{◌≡◌, ℕ, zero, suc, ◌<◌, Bool, true, false, List, [], ◌∷◌, length, get_or, slice_get, map, inl, inr, Option, Some, refl, sym, ap, subst, ◌∙◌, arith, not, ◌||◌}
-use Rattle.sb_decide.proofs.Words.{All, HasNumberBelow, Terms, all_below, apply, constant, eqb-true, has_serials_below, have_serials_below, ltb-true, no_terms, occurs, occurs_in_some, or_cases, same_Some, with_term, AreKept, ArePut, Assertion, Conjoined, Decider, Found, Global, IsClosed, IsLeastOf, IsReady, IsShortestLeast, IsSpoken, IsTakenOver, IsTakingOver, Knows, Member, NormalHasTermsWords, OthersSettled, Regex, Serial, Stacked, Term, Vec, a_mark, and_parts, asks_of, asserted, assertion_in, conjoined_at, false≢true, holds, ids_in, is_listed, list_all, live, live_constants, live_laid, live_terms, none-some, speaks_of, state_of, terms_in, text, value_there, values_at, with_items, with_items_is, without_words, word_at, words_asked, words_in}
+use Rattle.sb_decide.proofs.Words.{◌≡◌, ℕ, zero, suc, ◌<◌, Bool, true, false, List, [], ◌∷◌, length, get_or, slice_get, map, inl, inr, Option, Some, refl, sym, ap, subst, ◌∙◌, arith, not, ◌||◌, All, AreKept, ArePut, Assertion, Conjoined, Decider, Found, Global, HasNumberBelow, IsClosed, IsLeastOf, IsReady, IsShortestLeast, IsSpoken, IsTakenOver, IsTakingOver, Knows, Member, NormalHasTermsWords, OthersSettled, Regex, Serial, Stacked, Term, Terms, Vec, a_mark, all_below, and_parts, apply, asks_of, asserted, assertion_in, conjoined_at, constant, eqb-true, false_from_ne_true, false≢true, has_serials_below, have_serials_below, holds, ids_in, is_listed, list_all, live, live_constants, live_laid, live_terms, ltb-true, no_terms, none-some, occurs, occurs_in_some, or_cases, same_Some, speaks_of, state_of, terms_in, text, value_there, values_at, with_items, with_items_is, with_term, without_words, word_at, words_asked, words_in, Mode}
 use Rattle.sb_stack.specs.Steps.{found as found_in}
-use Rattle.sb_stack.specs.declared.stack.Mode.{Mode}
 use Rattle.sb_term.specs.declared.assertion.Assertion as code
 use Rattle.sb_stack.specs.declared.stack.Mode.TheVariants as mode
 use Rattle.sb_stack.specs.declared.verdict.Verdict.TheVariants as verdict
@@ -10,6 +8,7 @@ use Rattle.sb_decide.proofs.AskingTerms.{asks_in, asking_all}
 use Rattle.sb_decide.proofs.Constants.{listed_all, listed_at}
 use Rattle.sb_decide.proofs.DemandFacts.{demanded_speaks}
 use Rattle.sb_decide.proofs.Knowledge.{below_in}
+use Rattle.sb_decide.proofs.PlaceFacts.{same_term}
 use Rattle.sb_decide.proofs.TakingOver.{all_sofar, least_over, members_live, plain_alone, plain_silent}
 use Rattle.sb_decide.proofs.Verdicts.{asked_least, empty_least, plain_shortest, words_all}
 
@@ -22,10 +21,7 @@ stands_passes test [] place t h there = absurd (none-some (asserted t) there)
 stands_passes test (a_mark ∷ list) zero t h there = absurd (Prim.cc (there))
 stands_passes test (a_mark ∷ list) (suc place) t h there = stands_passes test list place t h there
 stands_passes test (asserted u ∷ list) zero t h there =
-    ap test (same t there) ∙ (and_parts (test u) (list_all test (terms_in list)) h).0
-  where
-    same : (t : Term) → Some (asserted u) ≡ Some (asserted t) → t ≡ u
-    same t e = cc
+    ap test (same_term t u (sym there)) ∙ (and_parts (test u) (list_all test (terms_in list)) h).0
 stands_passes test (asserted u ∷ list) (suc place) t h there =
     stands_passes test list place t (and_parts (test u) (list_all test (terms_in list)) h).1 there
 
@@ -53,11 +49,7 @@ demands_hold law kept stack words truths serial place t r least there asks =
 -- a constant of which something does not hold that holds of each in a list is none of these
 none_listed : (P : ℕ → Type 0) (xs : List Serial) (n : ℕ) → All (λ serial. P serial.0) xs → (P n → ⊥)
     → is_listed xs n ≡ false
-none_listed P xs n all none = by (is_listed xs n) refl
-  where
-    by : (b : Bool) → is_listed xs n ≡ b → b ≡ false
-    by true e = absurd (none (listed_all P xs n all e))
-    by false e = refl
+none_listed P xs n all none = false_from_ne_true (is_listed xs n) (λ e. none (listed_all P xs n all e))
 
 pub closed_of : NormalHasTermsWords → (kept : Decider) (stack : Stacked) (mid new : List Conjoined)
     (words full : List (List ℕ)) (found : List (Option (List ℕ))) → IsReady kept stack →

@@ -1,17 +1,6 @@
 -- The constants that occur in terms, listed by a walk over these.
-use Rattle.std.proofs.Common.{◌≡◌, ℕ, ◌+◌, ◌<◌, Bool, true, false, cond, not, ◌||◌, ◌&&◌, ◌==◌, nat_eq, nat_lt, List, [], ◌∷◌, ◌++◌, length, get_or, slice_get, take, Option, Some, None, refl, sym, ap, ◌∙◌, arith}
-use Rattle.sb_decide.proofs.Words.{All, All-contains, HasNumberBelow, IfSome, Serial, Term, Terms, and-true, and_from, and_parts, apply, constant, eq-eqb, eqb-true, false≢true, get_or_from_slice_get, is_listed, list_all, list_all-append, list_any, list_any-append, no_terms, numeral, occurs, occurs_in_some, or_left, or_right, parameter, slice_get-get_or, slice_get_within, take_more, term_at, terms_at, terms_of, with_term, word, nat_tests}
-use Rattle.std.specs.Cmp.{both_ways}
-use Rattle.std.proofs.lemmas.Bool.{lt-ltb, ltb-true}
-use Rattle.std.proofs.lemmas.List.Sums.{list_all-from_AllPass}
-use Rattle.std.proofs.lemmas.List.Folds.{list_all-map}
-use Rattle.sb_facts.proofs.CallerLemmas.{all_weaker}
+use Rattle.sb_decide.proofs.Words.{All, All-contains, Bool, HasNumberBelow, Hears, IfSome, List, None, Option, Puts, Serial, Some, TakesApart, Term, Terms, [], all_weaker, and-true, and_from, and_parts, ap, apply, are_ground, arith, both_ways, cond, constant, eq-eqb, eqb-true, equal_turned, false, false≢true, get_or, get_or_from_slice_get, has, is_ground, is_listed, is_silent, length, list_all, list_all-append, list_all-from_AllPass, list_all-map, list_any, list_any-append, lt-ltb, ltb-true, nat_eq, nat_lt, no_terms, node_term, not, numeral, occurs, occurs_in_some, or-false, or_left, or_right, parameter, parts_of, passes, passes_at, passes_in, refl, slice_get, slice_get-get_or, slice_get_within, sym, take, take_more, term_at, terms_at, terms_of, true, with_term, word, ℕ, ◌&&◌, ◌++◌, ◌+◌, ◌<◌, ◌==◌, ◌||◌, ◌∙◌, ◌∷◌, ◌≡◌}
 use Rattle.sb_meaning.specs.Terms.{terms_in}
-use Rattle.sb_script.specs.Pieces.{is_ground, are_ground}
-use Rattle.sb_term.specs.Descending.{Puts, has}
-use Rattle.sb_term.specs.Nodes.{node_term}
-use Rattle.sb_fragment.specs.Shapes.{parts_of}
-use Rattle.sb_decide.specs.Speaking.{Hears, TakesApart, is_silent, passes, passes_at, passes_in}
 use Rattle.sb_term.specs.declared.assertion.Assertion as code
 use Rattle.sb_term.specs.declared.term.Term as node
 use Rattle.sb_term.specs.declared.term.Term.TheVariants as nodes
@@ -68,10 +57,6 @@ found_listed test n same (x ∷ xs) h = by (test x) refl h (found_listed test n 
     by true e k later = or_left (x.0 == n) (is_listed xs n) (eq-eqb x.0 n (same x e))
     by false e k later = or_right (x.0 == n) (is_listed xs n) (later k)
 
-turned : (n m : ℕ) (b : Bool) → (m == n) ≡ b → ((n == m) || false) ≡ b
-turned n m true e = ap (λ b. b || false) (eq-eqb n m (sym (eqb-true m n e)))
-turned n m false e = let other : (n == m) ≡ false = grind (arith, nat_tests) in ap (λ b. b || false) other
-
 -- one was put in, if it was not there
 inserted_silent : (test : Serial → Bool) (serials more : List Serial) (s : Serial)
     → ((x : Serial) → test x ≡ true → x.0 ≡ s.0) → more ≡ cond (list_any test serials) serials (serials ++ s ∷ [])
@@ -94,7 +79,7 @@ inserted_silent test serials more s same made n = by (list_any test serials) ref
         ap (λ xs. not (is_listed xs n)) (made ∙ ap (λ b. cond b serials (serials ++ s ∷ [])) e)
         ∙ (ap not (list_any-append (λ (x : Serial). x.0 == n) serials (s ∷ []))
         ∙ (silent_or (is_listed serials n) ((s.0 == n) || false)
-        ∙ ap (λ b. not (is_listed serials n) && not b) (turned s.0 n (n == s.0) refl)))
+        ∙ ap (λ b. not (is_listed serials n) && not b) (or-false (s.0 == n) ∙ equal_turned s.0 n)))
 
 -- A term is taken apart.
 

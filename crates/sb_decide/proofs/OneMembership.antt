@@ -1,6 +1,5 @@
 -- One more term that asks something of a constant's word.
-use Rattle.std.proofs.Common.{◌≡◌, ℕ, ◌+◌, Bool, true, false, ◌&&◌, ◌==◌, if◌then◌else◌, List, [], ◌∷◌, length, map, take, refl, sym, ap, ap₂, subst, ◌∙◌, Option, Some, None, arith}
-use Rattle.sb_decide.proofs.Words.{AreMembers, Assertion, IsRegexOf, IsSofar, IsTakenAs, IsWord, Member, NormalHasTermsWords, RegLan, Regex, Term, Text, Valuation, all_hold, and_from, and_parts, asking, asks_of, asserted, assertion_in, demanded, eq-eqb, eqb-true, false≢true, fits, holds, ids_in, in_each, in_re, is_decided, is_demand, is_member, is_plain_assertion, is_regex, is_structure, language, list_all, meaning_of, means_reglan, names_at, normal, other_places, regex_at, terms_in, text, value_in, words_asked}
+use Rattle.sb_decide.proofs.Words.{◌≡◌, ℕ, ◌+◌, Bool, true, false, ◌&&◌, ◌==◌, if◌then◌else◌, List, [], ◌∷◌, length, map, take, refl, sym, ap, ap₂, subst, ◌∙◌, Option, Some, None, arith, AreMembers, Assertion, IsRegexOf, IsSofar, IsTakenAs, IsWord, Member, NormalHasTermsWords, RegLan, Regex, Term, Text, Valuation, all_hold, and_from, and_parts, asking, asks_of, asserted, assertion_in, demanded, eq-eqb, eqb-true, false≢true, fits, holds, ids_in, in_each, in_re, is_decided, is_demand, is_member, is_plain_assertion, is_regex, is_structure, language, list_all, meaning_of, means_reglan, names_at, normal, other_places, regex_at, terms_in, text, value_in, words_asked}
 use Rattle.sb_term.specs.declared.assertion.Assertion as code
 use Rattle.sb_decide.proofs.AskingTerms.{asks_same, asks_nothing, words_apart}
 use Rattle.sb_decide.proofs.DemandFacts.{demanded_holds, demanded_kind, nothing_plain}

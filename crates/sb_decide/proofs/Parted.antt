@@ -1,12 +1,6 @@
 -- The constants that occur in assertions of other structure, and which of those that changed are left to a search.
-use Rattle.std.proofs.Common.{◌≡◌, ℕ, suc, ◌+◌, ◌<◌, ◌≤◌, Bool, true, false, not, ◌&&◌, ◌||◌, ◌==◌, List, [], ◌∷◌, ◌++◌, length, get_or, slice_get, option_map, take, Option, Some, None, refl, sym, ap, ap₂, subst, ◌∙◌, arith}
-use Rattle.sb_decide.proofs.Words.{All, All-contains, All-nil, All-push, AreSpoken, Assertion, Contains, Decider, IsParted, IsSpoken, Knows, Serial, Speaks, Stacked, a_mark, asserted, assertion_in, assertion_of, false≢true, is_listed, is_silent, list_all, list_any-append, live, live_laid, occurs, or_left, or_parts, or_right, passes_at, state_of, take_all, take_more}
-use Rattle.std.proofs.Math.Bool.{or_assoc, or_comm}
-use Rattle.std.proofs.lemmas.List.Elements.{All-append}
-use Rattle.std.proofs.lemmas.List.Sums.{AllPass-from_list_all}
-use Rattle.std.proofs.lemmas.Option.{slice_get-map}
+use Rattle.sb_decide.proofs.Words.{◌≡◌, ℕ, suc, ◌+◌, ◌<◌, Bool, true, false, not, ◌&&◌, ◌||◌, ◌==◌, List, [], ◌∷◌, ◌++◌, length, get_or, slice_get, option_map, take, Option, Some, None, refl, sym, ap, ap₂, subst, ◌∙◌, arith, All, All-contains, All-nil, All-push, AreSpoken, Assertion, Contains, Decider, IsParted, IsSpoken, Knows, Serial, Speaks, Stacked, a_mark, asserted, assertion_in, assertion_of, false≢true, is_listed, is_silent, list_all, list_any-append, live, live_laid, not-false, occurs, or_left, or_parts, or_right, passes_at, state_of, take_all, take_more, true_from_ne_false, or_assoc, or_comm, All-append, AllPass-from_list_all, slice_get-map, passes, passes_in}
 use Rattle.sb_term.specs.declared.assertion.Assertion as code
-use Rattle.sb_decide.specs.Speaking.{passes, passes_in}
 use Rattle.sb_decide.proofs.Constants.{listed_all, listed_at}
 
 -- The constants that occur at places.
@@ -56,33 +50,28 @@ silent_live stack n place =
 pub spoken_of : (places : List ℕ) (stack : Stacked) (serials : List Serial)
     → Speaks stack.table stack.assertions places serials → AreSpoken places stack serials
 spoken_of places stack serials speaks = record {
-  each = λ n o. listed n o (is_listed serials n) refl;
+  each = λ n o. true_from_ne_false (is_listed serials n) (listed n o);
   only = λ n h.
       let one = not_all (passes_at (is_silent stack.table n) stack.assertions) places (speaks n ∙ ap not h) in
       heard n one.place one.among (slice_get (live (state_of stack)) one.place) refl
       (sym (silent_live stack n one.place) ∙ one.fails);
 }
   where
-    listed : (n : ℕ) → IsSpoken places stack n → (b : Bool) → is_listed serials n ≡ b → b ≡ true
-    listed n o true e = refl
-    listed n o false e =
-        ap not (sym o.occurring)
+    listed : (n : ℕ) → IsSpoken places stack n → is_listed serials n ≡ false → ⊥
+    listed n o e =
+        false≢true (ap not (sym o.occurring)
         ∙ (ap (silent_in n) (sym o.there)
         ∙ (sym (silent_live stack n o.place)
         ∙ All-contains (λ p. passes_at (is_silent stack.table n) stack.assertions p ≡ true) places o.place
         (AllPass-from_list_all (passes_at (is_silent stack.table n) stack.assertions) places (speaks n ∙ ap not e))
-        o.other))
-
-    is_true : (b : Bool) → not b ≡ false → b ≡ true
-    is_true true h = refl
-    is_true false h = sym h
+        o.other)))
 
     heard : (n place : ℕ) → Contains places place → (o : Option Assertion)
         → slice_get (live (state_of stack)) place ≡ o → silent_in n o ≡ false → IsSpoken places stack n
     heard n place c None e h = absurd (false≢true (sym h))
     heard n place c (Some a_mark) e h = absurd (false≢true (sym h))
     heard n place c (Some (asserted t)) e h =
-        record { place = place; term = t; other = c; there = e; occurring = is_true (occurs n t) h }
+        record { place = place; term = t; other = c; there = e; occurring = not-false (occurs n t) h }
 
 -- Constants are parted.
 
@@ -128,10 +117,6 @@ parted_changed all spoken changed left more i d l made p = rw (made, take_more a
     turn : (a b c : Bool) → ((a || b) || c) ≡ ((a || c) || b)
     turn true b c = refl
     turn false b c = or_comm b c
-
-pub parted_done : (all spoken changed left : List Serial) (i : ℕ) → length all ≤ i
-    → IsParted (take i all) spoken changed left → IsParted all spoken changed left
-parted_done all spoken changed left i l p = subst (λ xs. IsParted xs spoken changed left) (take_all i all l) p
 
 -- The whole.
 

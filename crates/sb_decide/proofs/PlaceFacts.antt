@@ -1,7 +1,5 @@
 -- The places of a constant's memberships, and the regexes of what stands there.
-use Rattle.std.proofs.Common.{◌≡◌, ℕ, suc, ◌+◌, Bool, true, false, ◌&&◌, ◌==◌, if◌then◌else◌, List, [], ◌∷◌, refl, sym, ap, ap₂, subst, ◌∙◌, arith, Option, Some, None, option_map, slice_get}
-use Rattle.sb_decide.proofs.Words.{All, All-cons, All-nil, AreMembers, AreRegexesAt, Assertion, Decider, HasNoWordAt, IfSome, IsEmptyAt, IsPlaceOf, IsRegexAt, IsRegexOf, Knows, Member, Regex, Stacked, Term, asserted, assertion_in, demanded, eqb-true, ids_in, in_each, language, list_all, live, live_laid, meaning_of, names_at, normal, places_in, places_of, regex_at, state_of}
-use Rattle.std.proofs.lemmas.Option.{slice_get-map}
+use Rattle.sb_decide.proofs.Words.{◌≡◌, ℕ, suc, ◌+◌, Bool, true, false, ◌&&◌, ◌==◌, if◌then◌else◌, List, [], ◌∷◌, refl, sym, ap, ap₂, subst, ◌∙◌, arith, Option, Some, None, option_map, slice_get, All, All-cons, All-nil, AreMembers, AreRegexesAt, Assertion, Decider, HasNoWordAt, IfSome, IsEmptyAt, IsPlaceOf, IsRegexAt, IsRegexOf, Knows, Member, Regex, Stacked, Term, asserted, assertion_in, demanded, eqb-true, ids_in, in_each, language, list_all, live, live_laid, meaning_of, names_at, normal, places_in, places_of, regex_at, state_of, slice_get-map}
 use Rattle.sb_term.specs.declared.assertion.Assertion as code
 use Rattle.sb_decide.proofs.DemandFacts.{same_pair, same_reglan}
 use Rattle.sb_decide.proofs.Knowledge.{some_more}
@@ -44,7 +42,7 @@ are_places rs ts k n whole (Some m ∷ ms) (x ∷ xs) h stand =
     }) rest
     by_test false e rest = rest
 
-same_term : (t u : Term) → Some (asserted t) ≡ Some (asserted u) → t ≡ u
+pub same_term : (t u : Term) → Some (asserted t) ≡ Some (asserted u) → t ≡ u
 same_term t u e = cc
 
 -- the regex of what is demanded at a place is the one that was taken in

@@ -1,6 +1,5 @@
 -- Words that a search found are put in their places.
-use Rattle.std.proofs.Common.{◌≡◌, ◌≢◌, ℕ, ◌<◌, Bool, true, false, ◌||◌, ◌==◌, List, [], ◌∷◌, ◌++◌, ◌+◌, length, get_or, take, Option, None, refl, sym, ap, subst, ◌∙◌, arith}
-use Rattle.sb_decide.proofs.Words.{All, ArePut, Conjoined, IsPutAt, Serial, are_words, conjoined_at, eqb-false, false≢true, get_or-set_other, get_or-set_same, is_listed, length-set, list_any-append, or_parts, take_more, word_at, word_found}
+use Rattle.sb_decide.proofs.Words.{◌≡◌, ◌≢◌, ℕ, ◌<◌, true, false, ◌||◌, ◌==◌, List, [], ◌∷◌, ◌++◌, ◌+◌, length, get_or, take, Option, None, refl, sym, ap, subst, ◌∙◌, arith, All, ArePut, Conjoined, IsPutAt, Serial, are_words, conjoined_at, eqb-false, false≢true, get_or-set_other, get_or-set_same, is_listed, length-set, list_any-append, or_parts, take_more, true_from_ne_false, word_at, word_found}
 use Rattle.sb_decide.proofs.Constants.{changed_by, listed_last}
 use Rattle.sb_decide.proofs.KeptWords.{words_set}
 use Rattle.sb_decide.proofs.MemberFacts.{by_number}
@@ -49,11 +48,8 @@ put_next old new new' words full full' serials x found p low put = record {
         ap (λ ws. word_at ws n) put.given ∙ get_or-set_other full x.0 n (word_found found x.0) [] e
 
     listed_before : (n : ℕ) → n ≢ x.0 → is_listed (serials ++ x ∷ []) n ≡ true → is_listed serials n ≡ true
-    listed_before n e h = by (is_listed serials n) refl
-      where
-        by : (b : Bool) → is_listed serials n ≡ b → b ≡ true
-        by true t = refl
-        by false t = sym (listed_last serials x n t e) ∙ h
+    listed_before n e h =
+        true_from_ne_false (is_listed serials n) (λ t. false≢true (sym (listed_last serials x n t e) ∙ h))
 
 -- the next of the constants
 pub put_taken : (old new new' : List Conjoined) (words full full' : List (List ℕ)) (serials : List Serial) (i : ℕ)

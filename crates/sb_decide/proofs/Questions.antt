@@ -1,13 +1,10 @@
 -- What a search is asked about.
-use Rattle.std.proofs.Common.{◌≡◌, ℕ, zero, suc, ◌+◌, ◌<◌, ◌≤◌, ◌⊎◌, inl, inr, Bool, true, false, ◌||◌, ◌==◌, if◌then◌else◌, List, [], ◌∷◌, ◌++◌, length, get_or, drop, slice_get, Option, Some, None, refl, sym, ap, ap₂, subst, ◌∙◌, arith, append_assoc}
-use Rattle.sb_decide.proofs.Words.{All, All-contains, Conjoined, Contains, Contains-append_cases, Contains-append_left, Contains-append_right, Contains-get_or, Decider, HasNoWordAt, IfSome, IsAbout, IsClash, IsPlaceOf, IsQuestion, IsReady, IsSpoken, Knows, Member, OccursNowhereAt, Serial, Stacked, Term, Terms, and_parts, append-nil, apply, are_regexes, asked, asked_occurs, asks_of, asserted, assertion_in, conjoined_at, demanded, drop_all, drop_more, eq-eqb, eqb-true, false≢true, is_decided, is_listed, is_plain, is_regex, length-map, live, live_laid, nil_from_length, no_terms, none-some, occurs, occurs_in_some, or_left, or_right, other_places, places_in, places_of, places_of_all, slice_get-get_or, slice_get_within, state_of, with_term, word, same_Some}
-use Rattle.std.proofs.lemmas.List.Sorted.{Contains-permutation, IsPermutation-sym, length_permutation}
-use Rattle.std.specs.List.Sorted.{IsPermutation}
+use Rattle.sb_decide.proofs.Words.{append-nil, ◌≡◌, ℕ, zero, suc, ◌+◌, ◌<◌, ◌≤◌, ◌⊎◌, inl, inr, Bool, true, false, ◌||◌, ◌==◌, if◌then◌else◌, List, [], ◌∷◌, ◌++◌, length, get_or, drop, slice_get, Option, Some, None, refl, sym, ap, ap₂, subst, ◌∙◌, arith, append_assoc, All, All-contains, Conjoined, Contains, Contains-append_cases, Contains-append_left, Contains-append_right, Contains-get_or, Decider, HasNoWordAt, IfSome, IsAbout, IsClash, IsPlaceOf, IsQuestion, IsReady, IsSpoken, Knows, Member, OccursNowhereAt, Serial, Stacked, Term, Terms, and_parts, apply, are_regexes, asked, asked_occurs, asks_of, asserted, assertion_in, conjoined_at, demanded, drop_all, drop_more, eq-eqb, eqb-true, false_from_ne_true, false≢true, is_decided, is_listed, is_plain, is_regex, length-map, live, live_laid, nil_from_length, no_terms, none-some, occurs, occurs_in_some, or_left, or_right, other_places, places_in, places_of, places_of_all, same_Some, slice_get-get_or, slice_get_within, state_of, with_term, word, Contains-permutation, IsPermutation-sym, length_permutation, IsPermutation}
 use Rattle.sb_meaning.specs.Terms as symbol
 use Rattle.sb_decide.proofs.AskingTerms.{IsAskedOf, asks_in, asks_same}
 use Rattle.sb_decide.proofs.DemandFacts.{IsDemanding, an_asking, a_denial, decided_kind, demanded_looks}
 use Rattle.sb_decide.proofs.Knowledge.{others_within}
-use Rattle.sb_decide.proofs.PlaceFacts.{dead_known, places_known}
+use Rattle.sb_decide.proofs.PlaceFacts.{dead_known, places_known, same_term}
 use Rattle.sb_decide.proofs.TakingOver.{plain_alone, plain_silent}
 
 -- A term that asks something of one constant's word speaks of no other one.
@@ -164,14 +161,9 @@ gathered_done cs gathered sorted all serials i l before moved =
 
 not_listed : (serials : List Serial) (n k : ℕ) → is_listed serials n ≡ false → is_listed serials k ≡ true
     → (n == k) ≡ false
-not_listed serials n k h j = by (n == k) refl
-  where
-    by : (b : Bool) → (n == k) ≡ b → b ≡ false
-    by true e = absurd (false≢true (sym (ap (is_listed serials) (sym (eqb-true n k e)) ∙ h) ∙ j))
-    by false e = refl
-
-same_asserted : (t u : Term) → Some (asserted t) ≡ Some (asserted u) → t ≡ u
-same_asserted t u e = cc
+not_listed serials n k h j =
+    false_from_ne_true (n == k)
+    (λ e. false≢true (sym (ap (is_listed serials) (sym (eqb-true n k e)) ∙ h) ∙ j))
 
 -- what stands at a place of a constant
 place_of : (kept : Decider) (stack : Stacked) (n p : ℕ) → Knows kept stack → Contains (places_of kept n) p
@@ -184,16 +176,13 @@ nowhere : (kept : Decider) (stack : Stacked) (n p : ℕ) (t : Term) → IsReady 
     → is_listed kept.spoken.keys n ≡ false
     → Contains kept.others.items p ⊎ Contains (asked_of kept kept.spoken.keys) p
     → slice_get (live (state_of stack)) p ≡ Some (asserted t) → occurs n t ≡ false
-nowhere kept stack n p t r none (inl c) there = by (occurs n t) refl
-  where
-    by : (b : Bool) → occurs n t ≡ b → b ≡ false
-    by true e =
-        sym (r.spoken.each n (record { place = p; term = t; other = c; there = there; occurring = e })) ∙ none
-    by false e = refl
+nowhere kept stack n p t r none (inl c) there =
+    false_from_ne_true (occurs n t) (λ e. false≢true (sym none
+    ∙ r.spoken.each n (record { place = p; term = t; other = c; there = there; occurring = e })))
 nowhere kept stack n p t r none (inr c) there =
     let listed = listed_place kept kept.spoken.keys p c in
     let place = place_of kept stack listed.0 p r.knows listed.2 in
-    ap (occurs n) (same_asserted t place.term (sym there ∙ place.there))
+    ap (occurs n) (same_term t place.term (sym there ∙ place.there))
     ∙ demanded_elsewhere n place.term listed.0 place.regex place.asks
     (decided_kind place.term listed.0 place.regex place.asks place.decided)
     (not_listed kept.spoken.keys n listed.0 none listed.1)

@@ -1,8 +1,7 @@
 -- Intersections that are known, as assertions come and go, and the walk back to the last of them.
-use Rattle.std.proofs.Common.{◌≡◌, ◌≢◌, ℕ, zero, suc, ◌+◌, ◌<◌, Bool, true, false, ◌&&◌, ◌==◌, if◌then◌else◌, List, [], ◌∷◌, ◌++◌, length, get_or, set, take, refl, sym, ap, ap₂, subst, ◌∙◌, arith, Option, Some, None, length-append, append_assoc, slice_get, append-nil}
-use Rattle.sb_decide.proofs.Words.{All, All-cons, All-nil, All-pop, All-push, All-take, AllNumbers, AreConjuncts, AreRooted, Extends, HasRegexBelow, IsRootOf, Member, Regex, and-true, and_assoc, and_comm, at_kept, eqb-true, get_or-take, get_or_append_left, get_or_default, get_or_from_slice_get, id_of, ids_at, in_each, language, length-set, length-take-le, map-append, none-some, number_kept, places_in, regex_at, root_at, same_Some, slice_get_within, take-append-le, words_in}
+use Rattle.sb_decide.proofs.Words.{◌≡◌, ℕ, zero, suc, ◌+◌, ◌<◌, Bool, true, false, ◌&&◌, ◌==◌, if◌then◌else◌, List, [], ◌∷◌, ◌++◌, length, get_or, set, take, refl, sym, ap, ap₂, subst, ◌∙◌, arith, Option, Some, None, length-append, append_assoc, slice_get, append-nil, All, All-cons, All-nil, All-pop, All-push, All-take, AllNumbers, AreConjuncts, AreRooted, Extends, HasRegexBelow, IsRootOf, Member, Regex, and-true, and_assoc, and_comm, at_kept, eqb-true, get_or-set_other, get_or-set_same, get_or-take, get_or_append_left, get_or_default, get_or_from_slice_get, id_of, ids_at, in_each, language, length-set, length-take-le, map-append, none-some, number_kept, places_in, regex_at, root_at, same_Some, slice_get_within, take-append-le, words_in}
 use Rattle.sb_decide.proofs.Conjunctions.{in_each-append}
-use Rattle.sb_decide.proofs.MemberFacts.{by_number, further_on, same_left, words_grown}
+use Rattle.sb_decide.proofs.MemberFacts.{by_number, default_behind, further_on, same_left, words_grown}
 use Rattle.sb_decide.proofs.KeptWords.{same_place, ids_from, ids_there, number_there}
 
 -- elements of lists
@@ -10,24 +9,6 @@ root_within : (roots : List (Option ℕ)) (i r : ℕ) → root_at roots i ≡ So
 root_within [] i r h = absurd (none-some r h)
 root_within (x ∷ roots) zero r h = omega arith
 root_within (x ∷ roots) (suc i) r h = let l = root_within roots i r h in omega (arith, l)
-
-none_behind : (roots : List (Option ℕ)) (i : ℕ) → root_at (roots ++ None ∷ []) i ≡ root_at roots i
-none_behind [] zero = refl
-none_behind [] (suc i) = refl
-none_behind (r ∷ roots) zero = refl
-none_behind (r ∷ roots) (suc i) = none_behind roots i
-
-root_set : (roots : List (Option ℕ)) (i r : ℕ) → i < length roots → root_at (set roots i (Some r)) i ≡ Some r
-root_set [] i r l = absurd (omega (arith, l))
-root_set (x ∷ roots) zero r l = refl
-root_set (x ∷ roots) (suc i) r l = root_set roots i r (omega (arith, l))
-
-root_set_other : (roots : List (Option ℕ)) (i j r : ℕ) → j ≢ i → root_at (set roots i (Some r)) j ≡ root_at roots j
-root_set_other [] i j r h = refl
-root_set_other (x ∷ roots) zero zero r h = absurd (h refl)
-root_set_other (x ∷ roots) zero (suc j) r h = refl
-root_set_other (x ∷ roots) (suc i) zero r h = refl
-root_set_other (x ∷ roots) (suc i) (suc j) r h = root_set_other roots i j r (λ e. h (ap suc e))
 
 -- the arena grows
 pub root_grown : (old new : List Regex) (ms : List (Option Member)) (n root : ℕ) → Extends old new
@@ -59,7 +40,7 @@ rooted_pushed rs ms o roots low h = record {
   numbers = All-push (HasRegexBelow (length rs)) ms o h.numbers low;
   abreast = omega (arith, h.abreast, length-append ms (o ∷ []), length-append roots (None ∷ []));
   right = λ place x root at is.
-      let known : root_at roots place ≡ Some root = sym (none_behind roots place) ∙ is in
+      let known : root_at roots place ≡ Some root = sym (default_behind roots None place) ∙ is in
       let within : place < length ms = omega (arith, root_within roots place root known, h.abreast) in
       subst (λ front. IsRootOf rs front x.serial.0 root)
       (sym (take-append-le (place + 1) ms (o ∷ []) (omega (arith, within))))
@@ -93,8 +74,8 @@ rooted_set rs ms roots place root m there is h = record {
       (λ x r at known. subst (λ (y : Member). IsRootOf rs (take (place + 1) ms) y.serial.0 r)
       (same_Some m x (same_Some (Some m) (Some x) (sym there ∙ at)))
       (subst (IsRootOf rs (take (place + 1) ms) m.serial.0)
-      (same_Some root r (sym (root_set roots place root low) ∙ known)) is))
-      (λ p e x r at known. h.right p x r at (sym (root_set_other roots place p root e) ∙ known));
+      (same_Some root r (sym (get_or-set_same roots place (Some root) None low) ∙ known)) is))
+      (λ p e x r at known. h.right p x r at (sym (get_or-set_other roots place p (Some root) None e) ∙ known));
 }
   where
     low : place < length roots

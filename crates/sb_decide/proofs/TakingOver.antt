@@ -1,9 +1,8 @@
 -- What was found of constants is taken over, and a verdict given.
-use Rattle.std.proofs.Common.{◌≡◌, ◌≢◌, ℕ, ◌+◌, ◌<◌, true, false, List, [], ◌∷◌, ◌++◌, length, get_or, set, map, take, refl, sym, ap, ap₂, ◌∙◌, arith, Option, None, Some, IfSome, is_some, unwrap_or, vec_len, subst}
-use Rattle.sb_decide.proofs.Words.{All, All-pop, All-push, AreConjuncts, AreFilled, AreFound, AreKept, AreRooted, AreSpoken, ArenaGrows, Conjoined, Decider, Extends, Findings, Fit, Found, FragmentIsOfEach, Global, HasAll, HasRegexBelow, IntersectionIsOfEach, IsChangedAt, IsEmptyAt, IsFoundAt, IsFoundOf, IsGraph, IsLeastOf, IsReady, IsRootOf, IsShortestLeast, IsSofar, IsSpoken, IsTakingOver, IsVerdict, IsWord, KeepsEntries, Knows, Member, MkandKeepsLanguage, Names, NormalHasTermsWords, ReadyGrown, Regex, RegexesGrow, RegexesGrowAlone, RestSettled, Searches, Serial, Stacked, Store, Term, Vec, all_known, assertion_in, conjoined_at, eq-eqb, extends_more, false≢true, ids_in, is_decided, is_listed, is_member, is_plain, is_plain_assertion, is_settled, is_unsat, language, length-set, list_all, live, live_constants, live_laid, live_terms, map-append, map_push, mkand, names_below, nil_from_length, places_in, regex_at, regexes_at, regexes_both, same_Some, speaks_of, state_of, take_all, take_more, with_items, with_items_is, with_place, with_word, without_place, word_at, word_of, words_in}
+use Rattle.sb_decide.proofs.Words.{◌≡◌, ◌≢◌, ℕ, ◌+◌, ◌<◌, true, false, List, [], ◌∷◌, ◌++◌, length, get_or, set, map, take, refl, sym, ap, ap₂, ◌∙◌, arith, Option, None, Some, IfSome, is_some, unwrap_or, vec_len, subst, All, All-pop, All-push, AreConjuncts, AreFilled, AreFound, AreKept, AreRooted, AreSpoken, ArenaGrows, Conjoined, Decider, Extends, Findings, Fit, Found, FragmentIsOfEach, Global, HasAll, HasRegexBelow, IntersectionIsOfEach, IsChangedAt, IsEmptyAt, IsFoundAt, IsFoundOf, IsGraph, IsLeastOf, IsReady, IsRootOf, IsShortestLeast, IsSofar, IsSpoken, IsTakingOver, IsVerdict, IsWord, KeepsEntries, Knows, Member, MkandKeepsLanguage, Names, NormalHasTermsWords, ReadyGrown, Regex, RegexesGrow, RegexesGrowAlone, RestSettled, Searches, Serial, Stacked, Store, Term, Vec, all_known, assertion_in, blank, conjoined_at, eq-eqb, extends_more, false≢true, get_or-set_other, get_or-set_same, get_or_read, ids_in, is_decided, is_listed, is_member, is_plain, is_plain_assertion, is_settled, is_unsat, language, length-set, list_all, live, live_constants, live_laid, live_terms, map-append, map_push, mkand, names_below, nil_from_length, places_in, regex_at, regexes_at, regexes_both, same_Some, speaks_of, state_of, take_all, take_more, with_items, with_items_is, with_place, with_word, without_place, word_at, word_of, words_in}
 use Rattle.sb_term.specs.declared.assertion.Assertion as code
 use Rattle.sb_decide.proofs.Conjunctions.{same_least, in_root}
-use Rattle.sb_decide.proofs.Constants.{conjoined_within, conjoined_set, conjoined_set_other, listed_last}
+use Rattle.sb_decide.proofs.Constants.{listed_last}
 use Rattle.sb_decide.proofs.KeptWords.{all_least, ids_long, length-with_word, settled_least, word_elsewhere, word_there, words_with}
 use Rattle.sb_decide.proofs.Knowledge.{kept_grown, knows_grown, knows_known}
 use Rattle.sb_decide.proofs.MemberFacts.{by_number, words_grown}
@@ -66,11 +65,11 @@ goes_on rs ms left old new new' words words' fs rest one c t is there grown give
       ((All-pop (IsFoundOf rs ms old words) fs rest (Some one) is t.each).0 k d l);
   places = by_number (λ n. (conjoined_at (set new place (all_known c)) n).places ≡ places_in 0 n ms) place
       (ap (λ (x : Conjoined). x.places) here ∙ places_here)
-      (λ n e. ap (λ (x : Conjoined). x.places) (conjoined_set_other new place n (all_known c) e) ∙ t.places n);
+      (λ n e. ap (λ (x : Conjoined). x.places) (get_or-set_other new place n (all_known c) blank e) ∙ t.places n);
   settled = by_number (λ n. is_listed left n ≡ false → is_listed (map (λ f. f.serial) rest) n ≡ false
       → is_settled (conjoined_at (set new place (all_known c)) n) ≡ true) place
       (λ _ _. ap is_settled here ∙ eq-eqb (length c.places) (length c.places) refl)
-      (λ n e none h. ap is_settled (conjoined_set_other new place n (all_known c) e)
+      (λ n e none h. ap is_settled (get_or-set_other new place n (all_known c) blank e)
       ∙ t.settled n none (ap (λ xs. is_listed (map (λ f. f.serial) xs) n) is
       ∙ (ap (λ ss. is_listed ss n) (map_push (λ f. f.serial) rest one)
       ∙ listed_last (map (λ f. f.serial) rest) one.serial n h e)));
@@ -84,7 +83,7 @@ goes_on rs ms left old new new' words words' fs rest one c t is there grown give
         ∙ (ap length places_here ∙ ids_long ms place)) least_here)
         (λ n e k h. subst (IsLeastOf rs (ids_in ms n) k) (sym (word_elsewhere words place n one.word e))
         (t.kept.least n k
-        (sym (ap (λ (x : Conjoined). x.known) (conjoined_set_other new place n (all_known c) e)) ∙ h)));
+        (sym (ap (λ (x : Conjoined). x.known) (get_or-set_other new place n (all_known c) blank e)) ∙ h)));
   };
 })
   where
@@ -95,7 +94,7 @@ goes_on rs ms left old new new' words words' fs rest one c t is there grown give
     this = (All-pop (IsFoundOf rs ms old words) fs rest (Some one) is t.each).1
 
     here : conjoined_at (set new place (all_known c)) place ≡ all_known c
-    here = conjoined_set new place (all_known c) (omega (arith, this.0, t.same_length))
+    here = get_or-set_same new place (all_known c) blank (omega (arith, this.0, t.same_length))
 
     least_here : IsShortestLeast (words_in rs ms place) (word_at (with_word words place one.word) place)
     least_here = subst (IsShortestLeast (words_in rs ms place))
@@ -103,8 +102,8 @@ goes_on rs ms left old new new' words words' fs rest one c t is there grown give
 
     places_here : c.places ≡ places_in 0 place ms
     places_here =
-        sym (ap (λ (x : Conjoined). x.places) (conjoined_within new place c
-        (omega (arith, this.0, t.same_length)) there)) ∙ t.places place
+        ap (λ (x : Conjoined). x.places) (get_or_read new place c (omega (arith, this.0, t.same_length)) there blank)
+        ∙ t.places place
 
 -- all is taken over: each constant that is not left has its word
 pub least_over : (rs : List Regex) (ms : List (Option Member)) (left : List Serial) (old new : List Conjoined)
@@ -233,7 +232,7 @@ pub places_listed : (ms : List (Option Member)) (cs : List Conjoined) (changed :
     → All (λ serial. serial.0 < length cs) changed → i < length changed → c ≡ get_or cs (get_or changed i d).0 c
     → c.places ≡ places_in 0 (get_or changed i d).0 ms
 places_listed ms cs changed i d c places listed l there =
-    ap (λ (x : Conjoined). x.places) (sym (conjoined_within cs (get_or changed i d).0 c (listed i d l) there))
+    ap (λ (x : Conjoined). x.places) (get_or_read cs (get_or changed i d).0 c (listed i d l) there blank)
     ∙ places (get_or changed i d).0
 
 pub kept_listed : (rs new : List Regex) (ms : List (Option Member)) (cs : List Conjoined) (words : List (List ℕ))
@@ -243,7 +242,7 @@ pub kept_listed : (rs new : List Regex) (ms : List (Option Member)) (cs : List C
     → IsLeastOf new (ids_in ms (get_or changed i d).0) k (word_at words (get_or changed i d).0)
 kept_listed rs new ms cs words changed i d c e known kept listed l there k h =
     (kept_grown rs new ms cs words e known kept).least (get_or changed i d).0 k
-    (ap (λ (x : Conjoined). x.known) (conjoined_within cs (get_or changed i d).0 c (listed i d l) there) ∙ h)
+    (ap (λ (x : Conjoined). x.known) (sym (get_or_read cs (get_or changed i d).0 c (listed i d l) there blank)) ∙ h)
 
 -- the intersection of the regexes that stand for a constant's memberships, as a check makes it
 pub root_made : MkandKeepsLanguage → IntersectionIsOfEach → (old mid : List Regex) (ms : List (Option Member)) (n : ℕ)

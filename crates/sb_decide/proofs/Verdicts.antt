@@ -1,8 +1,5 @@
 -- From the words of constants to the verdict.
-use Rattle.std.proofs.Common.{◌≡◌, ℕ, Bool, true, false, ◌&&◌, ◌==◌, if◌then◌else◌, List, [], ◌∷◌, refl, sym, ap, ◌∙◌, ◌≤◌, length, arith}
-use Rattle.sb_decide.proofs.Words.{AreShortestLeast, FragmentIsOfEach, HasNoWord, Int, IsShortestLeast, IsSofar, IsVerdict, IsWord, Language, Regex, Satisfiable, Sort, State, Term, Text, Truth, Valuation, Value, all_hold, and_from, and_parts, asking, asks_of, boolean, constants_of, eqb-true, false≢true, holds, in_each, integer, is_decided, is_member, is_of, is_one_of, is_plain, is_unsat, list_all, list_any, live, live_terms, occurs, or_parts, reglan, same_sort, speaks_of, text, value_at, value_in, values_at, word_at, words_asked, words_for}
-use Rattle.sb_meaning.specs.Sorts.{is_same_sort}
-use Rattle.sb_script.specs.Scopes.{Constant}
+use Rattle.sb_decide.proofs.Words.{◌≡◌, ℕ, Bool, true, false, ◌&&◌, ◌==◌, if◌then◌else◌, List, [], ◌∷◌, refl, sym, ap, ◌∙◌, ◌≤◌, length, arith, AreShortestLeast, FragmentIsOfEach, HasNoWord, Int, IsShortestLeast, IsSofar, IsVerdict, IsWord, Language, Regex, Satisfiable, Sort, State, Term, Text, Truth, Valuation, Value, all_hold, and_from, and_parts, asking, asks_of, boolean, constants_of, eqb-true, false≢true, holds, in_each, integer, is_decided, is_member, is_of, is_one_of, is_plain, is_unsat, list_all, list_any, live, live_terms, occurs, or_parts, reglan, same_sort, speaks_of, text, value_at, value_in, values_at, word_at, words_asked, words_for, is_same_sort, Constant}
 use Rattle.sb_script.specs.State.{fits}
 use Rattle.sb_decide.proofs.AskingTerms.{about_is, asked_speaks, occurs_not}
 use Rattle.sb_decide.proofs.Conjunctions.{same_least}

@@ -1,5 +1,5 @@
 -- Levels that are left.
-use Rattle.sb_prover.proofs.Words.{◌≡◌, ℕ, zero, suc, ◌<◌, List, [], ◌∷◌, take, Option, Some, refl, ◌∙◌, arith, AreLow, AreUpTo, Backing, Backs, HaveLevels, IsAbreast, Memo, Progress, Proving, Regex, Term, AllKept, asserted_at, left_above, level_at, newest_format, nothing_kept, none-some, Asserted}
+use Rattle.sb_prover.proofs.Words.{◌≡◌, ℕ, zero, suc, ◌<◌, List, [], ◌∷◌, take, Option, Some, refl, ◌∙◌, arith, AreLow, AreUpTo, Backing, Backs, HaveLevels, IsAbreast, Progress, Proving, Store, Term, AllKept, asserted_at, left_above, level_at, newest_format, nothing_kept, none-some, Asserted}
 
 pub none-there : (q : ℕ) (a : Asserted) → asserted_at [] q ≡ Some a → ⊥
 none-there zero a h = none-some a h
@@ -33,12 +33,12 @@ levels-left_above live level count e h place a there =
 
 -- The proof has come so far.
 
-pub left-behind : (rs : List Regex) (memo : Memo) (p : Progress) (proving : Proving) (e : Backing) (kept : AllKept)
-    → IsAbreast rs memo proving p → e.atoms ≡ proving.evidence.atoms
+pub left-behind : (x : Store) (p : Progress) (proving : Proving) (e : Backing) (kept : AllKept)
+    → IsAbreast x proving p → e.atoms ≡ proving.evidence.atoms
     → (p.kept ≡ nothing_kept newest_format → kept ≡ nothing_kept newest_format) → kept.format ≡ p.kept.format
-    → kept.counted ≡ p.kept.counted → Backs rs memo e kept
-    → IsAbreast rs memo (record proving { evidence = e }) (record p { kept = kept })
-left-behind rs memo p proving e kept h atoms none format counted backs = record {
+    → kept.counted ≡ p.kept.counted → Backs x.arena x.graph.memo e kept
+    → IsAbreast x (record proving { evidence = e }) (record p { kept = kept })
+left-behind x p proving e kept h atoms none format counted backs = record {
   rests = h.rests;
   begun = h.begun;
   first = λ unbegun. none (h.first unbegun);

@@ -1,5 +1,5 @@
 -- What a check comes to.
-use Rattle.sb_prover.proofs.Words.{◌≡◌, ◌⊎◌, ℕ, ◌<◌, ◌^◌, ◌-◌, Bool, true, false, List, [], length, Option, Some, IfSome, inl, inr, refl, sym, ap, subst, ◌∙◌, arith, All, AllKept, AreAsked, IsReadyThen, AreOfLevels, AreTerms, AreValues, Backing, Backs, CountedAgainStaysSound, Decided, Decider, EmptyClauseRefutes, Evidences, Finds, FollowsByRule, FragmentIsOfEach, HaveLevels, IsAsked, IsCompleted, IsCounted, IsDecided, IsEmptyAt, IsFit, IsQuestion, IsReady, IsSolution, IsSolved, IsSpent, IsTrue, IsValued, IsVerdict, Kept, LineStaysSound, Memo, NormalHasTermsWords, Proving, Regex, Satisfiable, SaysTrue, Solution, Solved, Stacked, Term, asked_in, asserted_at, empty_at, in_fragment, kept_at, level_at, list_all, live_constants, live_terms, puts_none, said_by, speaks_of, state_of, true-behind, verdict_in, verdict_of, without_words, Spending, ClauseId, EmptyClause}
+use Rattle.sb_prover.proofs.Words.{◌≡◌, ◌⊎◌, ℕ, ◌<◌, ◌^◌, ◌-◌, Bool, true, false, List, [], length, Option, Some, IfSome, inl, inr, refl, sym, ap, subst, ◌∙◌, arith, All, AllKept, AreAsked, IsReadyThen, AreOfLevels, AreTerms, AreValues, Backing, Backs, CountedAgainStaysSound, Decided, Decider, EmptyClauseRefutes, Evidences, Finds, FollowsByRule, FragmentIsOfEach, HaveLevels, IsAsked, IsCompleted, IsCounted, IsDecided, IsEmptyAt, IsFit, IsQuestion, IsReady, IsSolution, IsSolved, IsSpent, IsTrue, IsValued, IsVerdict, Kept, LineStaysSound, NormalHasTermsWords, Proving, Satisfiable, SaysTrue, Solution, Solved, Stacked, Store, Term, asked_in, asserted_at, empty_at, in_fragment, kept_at, level_at, list_all, live_constants, live_terms, puts_none, said_by, speaks_of, state_of, true-behind, verdict_in, verdict_of, without_words, Spending, ClauseId, EmptyClause}
 use Rattle.sb_solve.specs.declared.check.Solved.TheVariants as solved
 use Rattle.sb_decide.specs.declared.decide.Decided.TheVariants as decided
 use Rattle.sb_prover.specs.declared.checking.Solution.TheVariants as solution
@@ -15,12 +15,6 @@ levels-known live e f of h place a there = by (of place a there)
         → level_at live place ≡ Some a.level
     by (inl same) = h place a same
     by (inr is) = is
-
--- where tables are others that are the same
-pub over : (P : List Regex → Memo → Type 0) (rs more : List Regex) (memo memos : Memo) → more ≡ rs → memos ≡ memo
-    → P rs memo → P more memos
-over P rs more memo memos same same-memo h =
-    subst (λ (ms : Memo). P more ms) (sym same-memo) (subst (λ (xs : List Regex). P xs memo) (sym same) h)
 
 -- Before a search.
 
@@ -73,12 +67,12 @@ counts-none s before budget is counted = record {
 -- What a search found.
 
 -- where nothing is asked about
-pub none-valued : (s : Stacked) (places : List ℕ) (rs : List Regex) (memo : Memo) (e : Backing)
-    (words : List (Option (List ℕ))) (truths : List Bool) → words ≡ [] → truths ≡ [] → length places ≡ 0
-    → IsValued s places rs memo e words truths
-none-valued s places rs memo e words truths w t none =
-    subst (λ (ws : List (Option (List ℕ))). IsValued s places rs memo e ws truths) (sym w)
-    (subst (IsValued s places rs memo e []) (sym t) (record {
+pub none-valued : (s : Stacked) (places : List ℕ) (x : Store) (e : Backing) (words : List (Option (List ℕ)))
+    (truths : List Bool) → words ≡ [] → truths ≡ [] → length places ≡ 0
+    → IsValued s places x.arena x.graph.memo e words truths
+none-valued s places x e words truths w t none =
+    subst (λ (ws : List (Option (List ℕ))). IsValued s places x.arena x.graph.memo e ws truths) (sym w)
+    (subst (IsValued s places x.arena x.graph.memo e []) (sym t) (record {
       characters = refl;
       given = λ before backs terms full others words same place t listed there.
           absurd (omega (arith, none, listed.1));
@@ -95,18 +89,17 @@ empty-found f id o h same kept = (
       (same ∙ h.1) kept),
 )
 
-module _ (law : NormalHasTermsWords) (kept : Decider) (s : Stacked) (d : Decided) (places : List ℕ) (rs : List Regex)
-    (memo : Memo) (e : Backing) (terms : AreTerms (asked_in (state_of s)))
-    (t : IsTrue (asked_in (state_of s)) rs memo e)
+module _ (law : NormalHasTermsWords) (kept : Decider) (s : Stacked) (d : Decided) (places : List ℕ) (x : Store)
+    (e : Backing) (terms : AreTerms (asked_in (state_of s))) (t : IsTrue (asked_in (state_of s)) x.arena x.graph.memo e)
     (named : list_all (speaks_of (live_constants s)) (live_terms (state_of s)) ≡ true)
     (asked : AreAsked kept.others.items s d places) (ready : d ≡ decided.Ready → IsReady kept s) where
   -- values are found only where the check is ready
-  pub values-found : (words : List (Option (List ℕ))) (truths : List Bool) → IsValued s places rs memo e words truths
-      → AreValues kept s rs memo e words truths
+  pub values-found : (words : List (Option (List ℕ))) (truths : List Bool)
+      → IsValued s places x.arena x.graph.memo e words truths → AreValues kept s x e words truths
   values-found words truths h = by d asked ready
     where
       by : (d : Decided) → AreAsked kept.others.items s d places → (d ≡ decided.Ready → IsReady kept s)
-          → AreValues kept s rs memo e words truths
+          → AreValues kept s x e words truths
       by decided.Outside asked ready = absurd asked
       by decided.Dead asked ready =
           absurd (never-true law s places words truths asked named h.characters (h.given t.kept t.backs terms))
@@ -114,35 +107,35 @@ module _ (law : NormalHasTermsWords) (kept : Decider) (s : Stacked) (d : Decided
           record { ready = ready refl; places = places; question = asked; valued = h }
 
   pub found-by : (f : Backing) (budget : Spending) (r : Solved) (o : Option EmptyClause)
-      → IsSolved s places rs memo e f budget r → o ≡ f.refuted
-      → IfSome o (λ empty. kept_at f.kept empty.clause.0 ≡ Some (empty_at empty)) → Finds kept s rs memo e f budget r
+      → IsSolved s places x.arena x.graph.memo e f budget r → o ≡ f.refuted
+      → IfSome o (λ empty. kept_at f.kept empty.clause.0 ≡ Some (empty_at empty)) → Finds kept s x e f budget r
   found-by f budget (solved.Sat words truths) o h same known = values-found words.items truths.items h
   found-by f budget (solved.Unsat id) o h same known = empty-found f id o h same known
   found-by f budget solved.Spent o h same known = h
 
-pub ready-then : (kept : Decider) (s : Stacked) (rs : List Regex) (memo : Memo) (e f : Backing) (budget : Spending)
-    (r : Solved) → Finds kept s rs memo e f budget r → IsReadyThen kept s r
-ready-then kept s rs memo e f budget (solved.Sat words truths) h = h.ready
-ready-then kept s rs memo e f budget (solved.Unsat id) h = tt
-ready-then kept s rs memo e f budget solved.Spent h = tt
+pub ready-then : (kept : Decider) (s : Stacked) (x : Store) (e f : Backing) (budget : Spending) (r : Solved)
+    → Finds kept s x e f budget r → IsReadyThen kept s r
+ready-then kept s x e f budget (solved.Sat words truths) h = h.ready
+ready-then kept s x e f budget (solved.Unsat id) h = tt
+ready-then kept s x e f budget solved.Spent h = tt
 
 -- What a check comes to by it.
 
 -- no line is put
-pub solved-again : (s : Stacked) (before : AllKept) (rs : List Regex) (memo : Memo) (e : Backing) (r : Solution)
-    (told : Option (List ℕ)) → Backs rs memo e before → IsSpent before r → IsSolution s before rs memo e r told told
-solved-again s before rs memo e r told backs spent =
+pub solved-again : (s : Stacked) (before : AllKept) (x : Store) (e : Backing) (r : Solution) (told : Option (List ℕ))
+    → Backs x.arena x.graph.memo e before → IsSpent before r → IsSolution s before x e r told told
+solved-again s before x e r told backs spent =
     record { after = before; puts = puts_none (asked_in (state_of s)) before told; backs = backs; spent = spent }
 
 -- lines were put for it
-pub solved-now : (kept : Decider) (s : Stacked) (before : AllKept) (rs more : List Regex) (memo memos : Memo)
-    (e f : Backing) (budget : Spending) (r : Solved) (x : Solution) (old new : Option (List ℕ))
-    → Evidences (asked_in (state_of s)) before more memos f budget old new → Finds kept s rs memo e f budget r
-    → IsCompleted kept s r x → IsSolution s before more memos f x old new
-solved-now kept s before rs more memo memos e f budget r x old new h found is =
-    record { after = h.after; puts = h.puts; backs = h.backs; spent = by r x found is }
+pub solved-now : (kept : Decider) (s : Stacked) (before : AllKept) (x y : Store) (e f : Backing) (budget : Spending)
+    (r : Solved) (z : Solution) (old new : Option (List ℕ))
+    → Evidences (asked_in (state_of s)) before y.arena y.graph.memo f budget old new → Finds kept s x e f budget r
+    → IsCompleted kept s r z → IsSolution s before y f z old new
+solved-now kept s before x y e f budget r z old new h found is =
+    record { after = h.after; puts = h.puts; backs = h.backs; spent = by r z found is }
   where
-    by : (r : Solved) (x : Solution) → Finds kept s rs memo e f budget r → IsCompleted kept s r x → IsSpent h.after x
+    by : (r : Solved) (z : Solution) → Finds kept s x e f budget r → IsCompleted kept s r z → IsSpent h.after z
     by (solved.Sat words truths) (solution.Sat full others) found is = tt
     by (solved.Unsat id) (solution.Unsat other) found is = tt
     by solved.Spent solution.Spent found is = h.counts.spent ∙ found ∙ sym h.counts.limit
@@ -150,31 +143,34 @@ solved-now kept s before rs more memo memos e f budget r x old new h found is =
 
 -- What the evidence knows then is true: by the lines that were put, or by what the search says without them.
 pub solved-true : FollowsByRule → LineStaysSound → CountedAgainStaysSound → (s : Stacked)
-    → AreTerms (asked_in (state_of s)) → (proves : Bool) (rs more : List Regex) (memo memos : Memo) (e f : Backing)
-    (budget behind : Spending) (old new : Option (List ℕ)) (t : IsTrue (asked_in (state_of s)) rs memo e)
+    → AreTerms (asked_in (state_of s)) → (proves : Bool) (x y : Store) (e f : Backing) (budget behind : Spending)
+    (old new : Option (List ℕ)) (t : IsTrue (asked_in (state_of s)) x.arena x.graph.memo e)
     → IsCounted (asked_in (state_of s)) t.kept budget
-    → (proves ≡ true → (before : AllKept) → Backs rs memo e before → IsCounted (asked_in (state_of s)) before budget
-    → Evidences (asked_in (state_of s)) before more memos f behind old new)
-    → (proves ≡ false → IsTrue (asked_in (state_of s)) more memos f) → IsTrue (asked_in (state_of s)) more memos f
-solved-true rule by again s terms true rs more memo memos e f budget behind old new t counts puts sound =
+    → (proves ≡ true → (before : AllKept) → Backs x.arena x.graph.memo e before
+    → IsCounted (asked_in (state_of s)) before budget
+    → Evidences (asked_in (state_of s)) before y.arena y.graph.memo f behind old new)
+    → (proves ≡ false → IsTrue (asked_in (state_of s)) y.arena y.graph.memo f)
+    → IsTrue (asked_in (state_of s)) y.arena y.graph.memo f
+solved-true rule by again s terms true x y e f budget behind old new t counts puts sound =
     let h = puts refl t.kept t.backs counts in
-    true-behind rule by again (asked_in (state_of s)) rs more memo memos e f terms t h.after old new h.puts h.backs
-solved-true rule by again s terms false rs more memo memos e f budget behind old new t counts puts sound = sound refl
+    true-behind rule by again (asked_in (state_of s)) x.arena y.arena x.graph.memo y.graph.memo e f terms t h.after old
+    new h.puts h.backs
+solved-true rule by again s terms false x y e f budget behind old new t counts puts sound = sound refl
 
 -- What was found may be answered.
 pub says-true : (kept : Decider) (s : Stacked) → in_fragment (state_of s) ≡ true → AreTerms (asked_in (state_of s))
-    → (rs : List Regex) (memo : Memo) (e f : Backing) (budget : Spending) (r : Solved) (x : Solution)
-    → IsTrue (asked_in (state_of s)) rs memo e → Finds kept s rs memo e f budget r → IsCompleted kept s r x
-    → SaysTrue s f x
-says-true kept s inside terms rs memo e f budget (solved.Sat words truths) (solution.Sat full others) t h is = (
+    → (x : Store) (e f : Backing) (budget : Spending) (r : Solved) (z : Solution)
+    → IsTrue (asked_in (state_of s)) x.arena x.graph.memo e → Finds kept s x e f budget r → IsCompleted kept s r z
+    → SaysTrue s f z
+says-true kept s inside terms x e f budget (solved.Sat words truths) (solution.Sat full others) t h is = (
   inside,
   given_by kept s h.places words.items truths.items others.items full.items is.2 h.ready h.question is.0 is.1
       (h.valued.given t.kept t.backs terms),
 )
-says-true kept s inside terms rs memo e f budget (solved.Unsat id) (solution.Unsat other) t h is =
+says-true kept s inside terms x e f budget (solved.Unsat id) (solution.Unsat other) t h is =
     (inside, subst (λ (c : ClauseId). IsEmptyAt f.kept c.0) (sym is) h)
-says-true kept s inside terms rs memo e f budget solved.Spent solution.Spent t h is = inside
-says-true kept s inside terms rs memo e f budget _ _ t h is = absurd is
+says-true kept s inside terms x e f budget solved.Spent solution.Spent t h is = inside
+says-true kept s inside terms x e f budget _ _ t h is = absurd is
 
 -- what the verdict's line says is the same where the states differ in their mode and words alone
 pub said-same : (r : Solution) (new old : Stacked) → without_words new ≡ without_words old
@@ -186,14 +182,14 @@ said-same solution.Spent new old same = refl
 said-same solution.Outside new old same = refl
 
 -- The verdict may be given, where what the evidence knows is true.
-pub solved-verdict : EmptyClauseRefutes → (s : Stacked) → IsFit (state_of s) → (rs : List Regex) (memo : Memo)
-    (e : Backing) (r : Solution) → IsTrue (asked_in (state_of s)) rs memo e → SaysTrue s e r
+pub solved-verdict : EmptyClauseRefutes → (s : Stacked) → IsFit (state_of s) → (x : Store) (e : Backing)
+    (r : Solution) → IsTrue (asked_in (state_of s)) x.arena x.graph.memo e → SaysTrue s e r
     → IsVerdict (state_of s) [] (verdict_in (live_constants s) (verdict_of r))
-solved-verdict refutes s fit rs memo e (solution.Sat words truths) t h = h
-solved-verdict refutes s fit rs memo e (solution.Unsat id) t h =
+solved-verdict refutes s fit x e (solution.Sat words truths) t h = h
+solved-verdict refutes s fit x e (solution.Unsat id) t h =
     let there = subst (λ (c : Kept). IsEmptyAt c id.0) (sym t.backs.clauses) h.1 in
     let none : Satisfiable (state_of s) [] → ⊥ =
     refutes (state_of s) t.kept id.0 there.0 fit t.sound there.1 in
     (h.0, none, record { some = refl; contradicted = none })
-solved-verdict refutes s fit rs memo e solution.Spent t h = h
-solved-verdict refutes s fit rs memo e solution.Outside t h = h
+solved-verdict refutes s fit x e solution.Spent t h = h
+solved-verdict refutes s fit x e solution.Outside t h = h

@@ -61,7 +61,6 @@ pub use Rattle.sb_sound.specs.ScriptLaws.{EmptyClauseRefutes, EntriesLeadOn, IsF
 pub use Rattle.sb_sound.specs.SoundLaws.{AreTerms, Continues, CountedAgainStaysSound, FollowsByRule, LineStaysSound}
 pub use Rattle.sb_proof.specs.Tapes.{with_bytes}
 pub use Rattle.sb_term.specs.declared.term.Serial.{Serial}
-pub use Rattle.sb_deriv.specs.Faithful.{Memo}
 pub use Rattle.sb_fragment.proofs.CallerLemmas.{all_at}
 pub use Rattle.sb_fragment.specs.Rules.{FragmentIsOfEach, is_decided}
 pub use Rattle.sb_atoms.proofs.CallerLemmas.{no_atoms, regexes_kept}
@@ -71,7 +70,7 @@ pub use Rattle.sb_stack.specs.Speaking.{speaks_of}
 pub use Rattle.sb_stack.specs.Stacked.{Stacked, are_words, assertion_in, live_constants, live_in, state_of, value_at, values_at, without_words}
 pub use Rattle.sb_stack.specs.Steps.{IsStep, found, leaving_in, verdict_in}
 pub use Rattle.sb_stack.specs.declared.stack.Step.{Step}
-pub use Rattle.sb_graph.specs.Findings.{Findings}
+pub use Rattle.sb_store.specs.declared.store.Store.{Store}
 pub use Rattle.sb_trace.proofs.CallerLemmas.{counts_none, counts_on, puts_none}
 pub use Rattle.sb_trace.specs.Putting.{CountsTapeFault, IsCounted, Puts, follow_all}
 pub use Rattle.sb_decide.proofs.CallerLemmas.{IsDemanding, a_denial, an_asking, asked_alone, decided_kind, demanded_holds, demanded_looks, demanded_speaks, denied_fits}

@@ -1,8 +1,6 @@
 -- Private: what a search is asked about, what a check comes to, and what the lines that are put for it say.
 use Rattle.std.specs.Prelude.{◌≡◌, ℕ, ◌<◌, ◌^◌, ◌-◌, Bool, true, false, ◌&&◌, List, [], map, Option, None, IsSome}
-use Rattle.sb_lang.specs.Regex.{Regex}
 use Rattle.sb_lit.specs.Budgets.{Spending}
-use Rattle.sb_deriv.specs.Faithful.{Memo}
 use Rattle.sb_script.specs.Fragment.{in_fragment}
 use Rattle.sb_script.specs.Models.{IsGiven}
 use Rattle.sb_script.specs.State.{constants_of, fits}
@@ -12,6 +10,7 @@ use Rattle.sb_rulebook.specs.Accepted.{asked_in}
 use Rattle.sb_stack.specs.Stacked.{Stacked, state_of, live_constants, values_at}
 use Rattle.sb_stack.specs.declared.verdict.Verdict.{Verdict}
 use Rattle.sb_stack.specs.declared.verdict.Verdict.TheVariants as verdict
+use Rattle.sb_store.specs.declared.store.Store.{Store}
 use Rattle.sb_trace.specs.Putting.{Puts}
 use Rattle.sb_refute.specs.Backing.{Backing, Backs, IsEmptyAt}
 use Rattle.sb_solve.specs.declared.check.Solved.{Solved}
@@ -43,19 +42,19 @@ AreAsked others s decided.Ready places = IsQuestion others s places
 
 -- Words and truth values of the constants that a search was asked about, where the check is ready and the question was
 -- about all of the live assertions.
-pub record AreValues (kept : Decider) (s : Stacked) (rs : List Regex) (memo : Memo) (e : Backing)
+pub record AreValues (kept : Decider) (s : Stacked) (store : Store) (e : Backing)
     (found : List (Option (List ℕ))) (truths : List Bool) : Type 0
   where
     pub ready : IsReady kept s
     pub places : List ℕ
     pub question : IsQuestion kept.others.items s places
-    pub valued : IsValued s places rs memo e found truths
+    pub valued : IsValued s places store.arena store.graph.memo e found truths
 
 -- what a search says: there are values, or the empty clause is kept, or so many lines were counted as a check may have
-abbrev pub Finds : Decider → Stacked → List Regex → Memo → Backing → Backing → Spending → Solved → Type 0
-Finds kept s rs memo e f budget (solved.Sat words truths) = AreValues kept s rs memo e words.items truths.items
-Finds kept s rs memo e f budget (solved.Unsat id) = IsEmptyAt f.kept id.0
-Finds kept s rs memo e f budget solved.Spent = budget.spent ≡ budget.limit
+abbrev pub Finds : Decider → Stacked → Store → Backing → Backing → Spending → Solved → Type 0
+Finds kept s store e f budget (solved.Sat words truths) = AreValues kept s store e words.items truths.items
+Finds kept s store e f budget (solved.Unsat id) = IsEmptyAt f.kept id.0
+Finds kept s store e f budget solved.Spent = budget.spent ≡ budget.limit
 
 -- there are words where the check is ready alone
 abbrev pub IsReadyThen : Decider → Stacked → Solved → Type 0
@@ -92,12 +91,12 @@ IsSpent kept solution.Spent = kept.counted ≡ 2 ^ 64 - 1
 IsSpent kept _ = Unit {0}
 
 -- Lines were put that lead to an answer, as far as a check may have lines.
-pub record IsSolution (s : Stacked) (before : AllKept) (rs : List Regex) (memo : Memo) (e : Backing) (r : Solution)
+pub record IsSolution (s : Stacked) (before : AllKept) (store : Store) (e : Backing) (r : Solution)
     (old new : Option (List ℕ)) : Type 0
   where
     pub after : AllKept
     pub puts : Puts (asked_in (state_of s)) before after old new
-    pub backs : Backs rs memo e after
+    pub backs : Backs store.arena store.graph.memo e after
     pub spent : IsSpent after r
 
 -- the verdict of an answer

@@ -2,7 +2,6 @@
 use Rattle.std.specs.Prelude.{◌≡◌, ℕ, ◌≤◌, Bool, false, List, ◌++◌, length, take, slice_get, Option, Some, None, option_map, IfSome}
 use Rattle.sb_lang.specs.Regex.{Regex}
 use Rattle.sb_regex.specs.Numbered.{Extends}
-use Rattle.sb_deriv.specs.Faithful.{Memo, KeepsEntries}
 use Rattle.sb_reader.specs.Entries.{Entry}
 use Rattle.sb_script.specs.State.{State, live}
 use Rattle.sb_script.specs.Replies.{step_of}
@@ -16,6 +15,8 @@ use Rattle.sb_rulebook.specs.Judging.{Event, leaves_above, leaves_all, at_rest, 
 use Rattle.sb_sound.specs.Certified.{Proves}
 use Rattle.sb_proof.specs.Tapes.{with_bytes}
 use Rattle.sb_atoms.specs.Numbered.{HaveRegexesBelow}
+use Rattle.sb_store.specs.declared.store.Store.{Store}
+use Rattle.sb_store.specs.Stores.{Grows}
 use Rattle.sb_meaning.specs.Terms.{Term}
 use Rattle.sb_stack.specs.declared.stack.Step.{Step}
 use Rattle.sb_stack.specs.declared.stack.Step.TheVariants as code
@@ -32,14 +33,14 @@ pub record Proving : Type 0 where
   pub begun : Bool
 
 -- The proof has come so far that no line is due, and what its reader keeps is what is known of it.
-pub record IsAbreast (rs : List Regex) (memo : Memo) (proving : Proving) (p : Progress) : Type 0 where
+pub record IsAbreast (store : Store) (proving : Proving) (p : Progress) : Type 0 where
   pub rests : p.phase ≡ at_rest
   pub begun : p.begun ≡ proving.begun
   pub first : p.begun ≡ false → p.kept ≡ nothing_kept newest_format
   pub format : p.kept.format ≡ newest_format
   pub counted : p.kept.counted ≡ 0
-  pub backs : Backs rs memo proving.evidence p.kept
-  pub regexes : HaveRegexesBelow (length rs) proving.evidence.atoms
+  pub backs : Backs store.arena store.graph.memo proving.evidence p.kept
+  pub regexes : HaveRegexesBelow (length store.arena) proving.evidence.atoms
 
 -- The levels of live assertions.
 
@@ -81,13 +82,14 @@ EntriesMoveLive = (entry : Entry) (old new : State) (step : Step) → IsStep (st
 
 -- The evidence stays true where the script goes on, and loses no assertion.
 abbrev pub TrueGoesOn : Type 0
-TrueGoesOn = (before now : Asked) (rs : List Regex) (memo : Memo) (e : Backing) → Continues before now
-    → IsTrue before rs memo e → IsTrue now rs memo e
+TrueGoesOn = (before now : Asked) (x : Store) (e : Backing) → Continues before now
+    → IsTrue before x.arena x.graph.memo e → IsTrue now x.arena x.graph.memo e
 
--- And where more regexes and more derivatives become known.
+-- And where the store grows.
 abbrev pub TrueGrown : Type 0
-TrueGrown = (asked : Asked) (rs more : List Regex) (memo new : Memo) (e : Backing) → Extends rs more
-    → KeepsEntries memo new → HaveRegexesBelow (length rs) e.atoms → IsTrue asked rs memo e → IsTrue asked more new e
+TrueGrown = (asked : Asked) (ts : List Term) (x y : Store) (e : Backing) → Grows ts x y
+    → HaveRegexesBelow (length x.arena) e.atoms → IsTrue asked x.arena x.graph.memo e
+    → IsTrue asked y.arena y.graph.memo e
 
 -- the script goes on where levels are left: those above this one, or with all assertions
 abbrev pub GoesDown : Option ℕ → Asked → Asked → Type 0
@@ -105,10 +107,10 @@ abbrev pub EntriesStayFit : Type 0
 EntriesStayFit = (entry : Entry) (old new : State) (step : Step) → IsStep (step_of entry old) step old new
     → IsFit old → IsFit new × LeadsTo step old new
 
--- A proof that has come so far stays so where more regexes and more derivatives become known.
+-- A proof that has come so far stays so where the store grows.
 abbrev pub AbreastStays : Type 0
-AbreastStays = (rs more : List Regex) (memo new : Memo) (proving : Proving) (p : Progress) → Extends rs more
-    → KeepsEntries memo new → IsAbreast rs memo proving p → IsAbreast more new proving p
+AbreastStays = (ts : List Term) (x y : Store) (proving : Proving) (p : Progress) → Grows ts x y
+    → IsAbreast x proving p → IsAbreast y proving p
 
 -- atoms whose regexes are below a number have them below a greater one, so also where the arena grew
 abbrev pub RegexesStayBelow : Type 0
@@ -116,11 +118,11 @@ RegexesStayBelow = (rs more : List Regex) (atoms : List (AtomOver ℕ)) → Exte
     → HaveRegexesBelow (length rs) atoms → HaveRegexesBelow (length more) atoms
 
 -- Lines were put that prove a verdict, and the proof has come so far behind them.
-pub record IsProved (q : Question) (v : Verdict) (before : Progress) (rs : List Regex) (memo : Memo)
-    (proving : Proving) (old new : Option (List ℕ)) : Type 0
+pub record IsProved (q : Question) (v : Verdict) (before : Progress) (store : Store) (proving : Proving)
+    (old new : Option (List ℕ)) : Type 0
   where
     pub lines : List ℕ
     pub after : Progress
     pub proves : Proves before after q lines v
     pub told : new ≡ with_bytes lines old
-    pub abreast : IsAbreast rs memo proving after
+    pub abreast : IsAbreast store proving after

@@ -78,22 +78,22 @@ impl Prover {
         requires knows { Knows decider.old stack.old }
         requires decided { IsDecided decider.old stack.old decided }
         requires fit { IsFit (state_of stack.old) }
-        requires regexes { HaveRegexesBelow (length decider.old.arena) self.old.evidence.atoms }
-        requires sound { IsTrue (asked_in (state_of stack.old)) decider.old.arena decider.old.graph.memo
+        requires regexes { HaveRegexesBelow (length decider.old.store.arena) self.old.evidence.atoms }
+        requires sound { IsTrue (asked_in (state_of stack.old)) decider.old.store.arena decider.old.store.graph.memo
             self.old.evidence }
         ensures proves { IfOk result (λ v. proves ≡ true → (before : Progress)
-            → IsAbreast decider.old.arena decider.old.graph.memo self.old before
+            → IsAbreast decider.old.store self.old before
             → IsProved (question_in (state_of stack.old) []) (verdict_in (live_constants stack.old) v) before
-            decider.new.arena decider.new.graph.memo self.new (L.Tape.told tape.old) (L.Tape.told tape.new)) }
+            decider.new.store self.new (L.Tape.told tape.old) (L.Tape.told tape.new)) }
         ensures verdict { IfOk result
             (λ v. IsVerdict (state_of stack.old) [] (verdict_in (live_constants stack.old) v)) }
-        ensures regexes { OnOk result (HaveRegexesBelow (length decider.new.arena) self.new.evidence.atoms) }
+        ensures regexes { OnOk result (HaveRegexesBelow (length decider.new.store.arena) self.new.evidence.atoms) }
         ensures knows { IfOk result (λ v. Knows decider.new (found v stack.new)) }
         ensures rest { without_words stack.new ≡ without_words stack.old }
         ensures levels { OnOk result (HaveLevels (asked_in (state_of stack.old)).live self.old.evidence
             → HaveLevels (asked_in (state_of stack.old)).live self.new.evidence) }
-        ensures sound { OnOk result (IsTrue (asked_in (state_of stack.old)) decider.new.arena decider.new.graph.memo
-            self.new.evidence) }
+        ensures sound { OnOk result (IsTrue (asked_in (state_of stack.old)) decider.new.store.arena
+            decider.new.store.graph.memo self.new.evidence) }
         ensures counts { CountsTapeFault result (L.Tape.faults tape.old) (L.Tape.faults tape.new) }
     {
         if !proves && let Decided::Dead = decided {
@@ -122,19 +122,19 @@ impl Prover {
         requires knows { Knows decider.old stack.old }
         requires decided { IsDecided decider.old stack.old decided }
         requires terms { AreTerms (asked_in (state_of stack.old)) }
-        requires regexes { HaveRegexesBelow (length decider.old.arena) self.old.evidence.atoms }
-        requires sound { IsTrue (asked_in (state_of stack.old)) decider.old.arena decider.old.graph.memo
+        requires regexes { HaveRegexesBelow (length decider.old.store.arena) self.old.evidence.atoms }
+        requires sound { IsTrue (asked_in (state_of stack.old)) decider.old.store.arena decider.old.store.graph.memo
             self.old.evidence }
         ensures means { IfOk result (SaysTrue stack.old self.new.evidence) }
         ensures solved { IfOk result (λ r. proves ≡ true → (before : AllKept)
-            → Backs decider.old.arena decider.old.graph.memo self.old.evidence before → before.counted ≡ 0
-            → IsSolution stack.old before decider.new.arena decider.new.graph.memo self.new.evidence r
+            → Backs decider.old.store.arena decider.old.store.graph.memo self.old.evidence before
+            → before.counted ≡ 0 → IsSolution stack.old before decider.new.store self.new.evidence r
             (L.Tape.told tape.old) (L.Tape.told tape.new)) }
         ensures knows { IfOk result (λ r. Knows decider.new (found (verdict_of r) stack.new)) }
         ensures rest { without_words stack.new ≡ without_words stack.old }
-        ensures sound { OnOk result (IsTrue (asked_in (state_of stack.old)) decider.new.arena decider.new.graph.memo
-            self.new.evidence) }
-        ensures regexes { OnOk result (HaveRegexesBelow (length decider.new.arena) self.new.evidence.atoms) }
+        ensures sound { OnOk result (IsTrue (asked_in (state_of stack.old)) decider.new.store.arena
+            decider.new.store.graph.memo self.new.evidence) }
+        ensures regexes { OnOk result (HaveRegexesBelow (length decider.new.store.arena) self.new.evidence.atoms) }
         ensures begun { self.new.begun ≡ self.old.begun }
         ensures levels { OnOk result (HaveLevels (asked_in (state_of stack.old)).live self.old.evidence
             → HaveLevels (asked_in (state_of stack.old)).live self.new.evidence) }
@@ -182,19 +182,20 @@ fn searched<L: Tape>(
     requires inside { list_all is_decided (live (state_of stack.now)) ≡ true }
     requires asked { IsAsked decider.old stack.now decided }
     requires terms { AreTerms (asked_in (state_of stack.now)) }
-    requires regexes { HaveRegexesBelow (length decider.old.arena) evidence.old.atoms }
-    requires sound { IsTrue (asked_in (state_of stack.now)) decider.old.arena decider.old.graph.memo evidence.old }
+    requires regexes { HaveRegexesBelow (length decider.old.store.arena) evidence.old.atoms }
+    requires sound { IsTrue (asked_in (state_of stack.now)) decider.old.store.arena decider.old.store.graph.memo
+        evidence.old }
     ensures puts { OnOk result (proves ≡ true → (before : AllKept)
-        → Backs decider.old.arena decider.old.graph.memo evidence.old before
+        → Backs decider.old.store.arena decider.old.store.graph.memo evidence.old before
         → IsCounted (asked_in (state_of stack.now)) before budget.old
-        → Evidences (asked_in (state_of stack.now)) before decider.new.arena decider.new.graph.memo evidence.new
-        budget.new (L.Tape.told tape.old) (L.Tape.told tape.new)) }
-    ensures solved { IfOk result (Finds decider.new stack.now decider.old.arena decider.old.graph.memo evidence.old
-        evidence.new budget.new) }
-    ensures sound { OnOk result (proves ≡ false
-        → IsTrue (asked_in (state_of stack.now)) decider.new.arena decider.new.graph.memo evidence.new) }
+        → Evidences (asked_in (state_of stack.now)) before decider.new.store.arena decider.new.store.graph.memo
+        evidence.new budget.new (L.Tape.told tape.old) (L.Tape.told tape.new)) }
+    ensures solved { IfOk result
+        (Finds decider.new stack.now decider.old.store evidence.old evidence.new budget.new) }
+    ensures sound { OnOk result (proves ≡ false → IsTrue (asked_in (state_of stack.now)) decider.new.store.arena
+        decider.new.store.graph.memo evidence.new) }
     ensures knows { OnOk result (Knows decider.new stack.now) }
-    ensures regexes { OnOk result (HaveRegexesBelow (length decider.new.arena) evidence.new.atoms) }
+    ensures regexes { OnOk result (HaveRegexesBelow (length decider.new.store.arena) evidence.new.atoms) }
     ensures levels { OnOk result (HaveLevels (asked_in (state_of stack.now)).live evidence.old
         → HaveLevels (asked_in (state_of stack.now)).live evidence.new) }
     ensures counts { CountsTapeFault result (L.Tape.faults tape.old) (L.Tape.faults tape.new) }
@@ -213,11 +214,7 @@ fn searched<L: Tape>(
     let solved = solve(
         alloc,
         evidence,
-        &mut decider.arena,
-        &mut decider.graph,
-        &mut decider.plain,
-        &mut decider.normals,
-        &mut decider.measures,
+        &mut decider.store,
         stack,
         &places,
         proves,
@@ -258,8 +255,7 @@ fn completed(
     ensures completed { IfOk result (IsCompleted decider.old stack.old solved) }
     ensures knows { IfOk result (λ r. Knows decider.new (found (verdict_of r) stack.new)) }
     ensures rest { without_words stack.new ≡ without_words stack.old }
-    ensures arena { decider.new.arena ≡ decider.old.arena }
-    ensures graph { decider.new.graph ≡ decider.old.graph }
+    ensures store { decider.new.store ≡ decider.old.store }
 {
     let _count = stack.declared();
     match solved {

@@ -1,8 +1,6 @@
 //! The prover.
 
 ghost use Rattle.std.specs.Prelude.{◌≡◌, ℕ, List, take, true, Option, IfSome, OnOk};
-ghost use Rattle.sb_lang.specs.Regex.{Regex};
-ghost use Rattle.sb_deriv.specs.Faithful.{Memo};
 ghost use Rattle.sb_rulebook.specs.Judging.{Progress, beginning, met};
 ghost use Rattle.sb_meaning.specs.Terms.{Term};
 ghost use Rattle.sb_rulebook.specs.Kept.{Asked};
@@ -12,6 +10,7 @@ ghost use Rattle.sb_trace.specs.Putting.{CountsTapeFault};
 ghost use Rattle.sb_atoms.specs.Numbered.{HaveRegexesBelow};
 ghost use Rattle.sb_prover.specs.Proving.{IsAbreast, HaveLevels, AreLow, leaving, GoesDown, AbreastStays, TrueGoesOn, TrueGrown, RegexesStayBelow, LevelsStay, EntriesMoveLive, EntriesStayFit};
 ghost use Rattle.sb_solve.specs.Truth.{IsTrue};
+ghost use Rattle.sb_store.specs.declared.store.Store.{Store};
 ghost use Rattle.sb_prover.specs.Saying.{first_lines, Tells};
 
 use sb_proof::{Line, Tape, TapeFault};
@@ -46,10 +45,10 @@ impl Model for Prover {
 impl Prover {
     /// Nothing stands in the proof. Takes no memory.
     pub fn new(alloc: Global) -> Prover
-        ensures abreast { (rs : List Regex) (memo : Memo) → IsAbreast rs memo result beginning }
+        ensures abreast { (store : Store) → IsAbreast store result beginning }
         ensures regexes { (n : ℕ) → HaveRegexesBelow n result.evidence.atoms }
         ensures levels { (live : List (Option Term × ℕ)) → HaveLevels live result.evidence }
-        ensures sound { (asked : Asked) (rs : List Regex) (memo : Memo) → IsTrue asked rs memo result.evidence }
+        ensures sound { (asked : Asked) (store : Store) → IsTrue asked store.arena store.graph.memo result.evidence }
     {
         nothing_is_sound();
         Prover {
@@ -63,15 +62,16 @@ impl Prover {
     /// stay; their clauses do, and so does the empty clause where its level stays. Takes no memory, and time linear in
     /// what is forgotten.
     pub fn leave(&mut self, level: Option<u64>, count: usize)
-        ensures left { (rs : List Regex) (memo : Memo) (live : List (Option Term × ℕ)) (p : Progress)
-            → IsAbreast rs memo self.old p → HaveLevels live self.old.evidence
-            → IfSome level (λ n. AreLow n (take count live)) → IsAbreast rs memo self.new (met (leaving level) p) }
+        ensures left { (store : Store) (live : List (Option Term × ℕ)) (p : Progress) → IsAbreast store self.old p
+            → HaveLevels live self.old.evidence → IfSome level (λ n. AreLow n (take count live))
+            → IsAbreast store self.new (met (leaving level) p) }
         ensures levels { (live : List (Option Term × ℕ)) → HaveLevels live self.old.evidence
             → HaveLevels (take count live) self.new.evidence }
         ensures atoms { self.new.evidence.atoms ≡ self.old.evidence.atoms }
-        ensures sound { (rs : List Regex) (memo : Memo) (before now : Asked) → GoesDown level before now
+        ensures sound { (store : Store) (before now : Asked) → GoesDown level before now
             → HaveLevels before.live self.old.evidence → IfSome level (λ n. AreLow n (take count before.live))
-            → IsTrue before rs memo self.old.evidence → IsTrue now rs memo self.new.evidence }
+            → IsTrue before store.arena store.graph.memo self.old.evidence
+            → IsTrue now store.arena store.graph.memo self.new.evidence }
     {
         dropped_stays_sound();
         all_dropped_is_sound();
@@ -83,7 +83,7 @@ impl Prover {
 
     /// Puts the last line, and the first one before it where no check had it put. Constant time.
     pub fn finish<L: Tape>(&mut self, tape: &mut L) -> Result<(), TapeFault>
-        ensures told { OnOk result ((rs : List Regex) (memo : Memo) (p : Progress) → IsAbreast rs memo self.old p
+        ensures told { OnOk result ((store : Store) (p : Progress) → IsAbreast store self.old p
             → L.Tape.told tape.new ≡ with_bytes (last_lines p) (L.Tape.told tape.old)) }
         ensures counts { CountsTapeFault result (L.Tape.faults tape.old) (L.Tape.faults tape.new) }
     {
@@ -108,13 +108,12 @@ impl Prover {
     }
 }
 
-/// A proof that has come so far stays so where more regexes and more derivatives become known.
+/// A proof that has come so far stays so where the store grows.
 pub fn abreast_stays()
     ensures { AbreastStays }
 {}
 
-/// What the evidence knows stays true where the script goes on, and where more regexes and more derivatives become
-/// known.
+/// What the evidence knows stays true where the script goes on, and where the store grows.
 pub fn true_stays()
     ensures goes_on { TrueGoesOn }
     ensures grown { TrueGrown }

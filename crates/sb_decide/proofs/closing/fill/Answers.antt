@@ -1,5 +1,4 @@
-use Rattle.std.proofs.Common.{◌<◌, length, arith}
-use Rattle.sb_decide.proofs.Words.{nat_tests}
+use Rattle.sb_decide.proofs.Words.{◌<◌, length, arith, nat_tests}
 use Rattle.sb_decide.proofs.Constants.{filling_more}
 use Rattle.sb_decide.proofs.closing.fill.Goals as goal
 

@@ -1,4 +1,4 @@
-use Rattle.std.proofs.Common.{◌-◌, length}
+use Rattle.sb_decide.proofs.Words.{◌-◌, length}
 use Rattle.sb_decide.proofs.Constants.{Filling}
 use Rattle.sb_decide.proofs.closing.fill.Given as goal
 

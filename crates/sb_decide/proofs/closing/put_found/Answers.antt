@@ -1,4 +1,4 @@
-use Rattle.std.proofs.Common.{arith}
+use Rattle.sb_decide.proofs.Words.{arith}
 use Rattle.sb_decide.proofs.PutWords.{put_taken}
 use Rattle.sb_decide.proofs.closing.put_found.Goals as goal
 

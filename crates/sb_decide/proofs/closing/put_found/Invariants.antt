@@ -1,5 +1,4 @@
-use Rattle.std.proofs.Common.{◌<◌, length, take}
-use Rattle.sb_decide.proofs.Words.{All, ArePut, OthersSettled}
+use Rattle.sb_decide.proofs.Words.{◌<◌, length, take, All, ArePut, OthersSettled}
 use Rattle.sb_decide.proofs.closing.put_found.Given as goal
 
 abbrev pub invariant-loop-serial : goal.invariant-loop-serial

@@ -1,5 +1,4 @@
-use Rattle.std.proofs.Common.{sym, ap}
-use Rattle.sb_decide.proofs.Words.{with_word}
+use Rattle.sb_decide.proofs.Words.{sym, ap, with_word}
 use Rattle.sb_decide.proofs.closing.put_word.Goals as goal
 
 pub returns-in_default : goal.returns-in_default

@@ -1,5 +1,4 @@
-use Rattle.std.proofs.Common.{length, ap, set, ◌∙◌, arith, Some, ◌<◌}
-use Rattle.sb_decide.proofs.Words.{All-pop, length-set}
+use Rattle.sb_decide.proofs.Words.{length, ap, set, ◌∙◌, arith, Some, ◌<◌, All-pop, length-set}
 use Rattle.sb_decide.proofs.KeptWords.{length-with_word}
 use Rattle.sb_decide.proofs.TakingOver.{goes_on, no_items, over_all, settles}
 use Rattle.sb_decide.proofs.closing.take_over.Goals as goal

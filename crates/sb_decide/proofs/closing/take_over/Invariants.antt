@@ -1,5 +1,4 @@
-use Rattle.std.proofs.Common.{◌≡◌, ◌<◌, List, Option, length}
-use Rattle.sb_decide.proofs.Words.{All, IsTakingOver, Member, Regex, Serial}
+use Rattle.sb_decide.proofs.Words.{◌≡◌, ◌<◌, List, Option, length, All, IsTakingOver, Member, Regex, Serial}
 use Rattle.sb_decide.proofs.closing.take_over.Given as goal
 
 abbrev pub invariant-loop-one : goal.invariant-loop-one

@@ -1,5 +1,4 @@
-use Rattle.std.proofs.Common.{None, sym, ◌∙◌, arith}
-use Rattle.sb_decide.proofs.Words.{get_or_default, nil_from_length}
+use Rattle.sb_decide.proofs.Words.{None, sym, ◌∙◌, arith, get_or_default, nil_from_length}
 use Rattle.sb_decide.proofs.RootFacts.{last_below, no_gap, walk_start, walk_on, walk_ends, walk_done}
 use Rattle.sb_decide.proofs.conjuncts.conjuncts_at.Goals as goal
 

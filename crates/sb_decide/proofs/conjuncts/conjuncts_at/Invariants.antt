@@ -1,5 +1,4 @@
-use Rattle.std.proofs.Common.{◌≡◌, ℕ, ◌<◌, List, length}
-use Rattle.sb_decide.proofs.Words.{All, AreRooted, Regex, places_in}
+use Rattle.sb_decide.proofs.Words.{◌≡◌, ℕ, ◌<◌, List, length, All, AreRooted, Regex, places_in}
 use Rattle.sb_decide.proofs.RootFacts.{Walking}
 use Rattle.sb_decide.proofs.conjuncts.conjuncts_at.Given as goal
 

@@ -1,5 +1,4 @@
-use Rattle.std.proofs.Common.{refl, ◌∙◌}
-use Rattle.sb_decide.proofs.Words.{IfOk-from_err}
+use Rattle.sb_decide.proofs.Words.{refl, ◌∙◌, IfOk-from_err}
 use Rattle.sb_decide.proofs.RootFacts.{rooted_grown}
 use Rattle.sb_decide.proofs.TakingOver.{searches_behind, searches_grown}
 use Rattle.sb_decide.proofs.decide.find_word.Goals as goal

@@ -1,4 +1,4 @@
-use Rattle.std.proofs.Common.{sym, ◌∙◌, arith}
+use Rattle.sb_decide.proofs.Words.{sym, ◌∙◌, arith}
 use Rattle.sb_decide.proofs.RootFacts.{last_below, root_of_last}
 use Rattle.sb_decide.proofs.decide.keep_root.Goals as goal
 

@@ -1,5 +1,4 @@
-use Rattle.std.proofs.Common.{refl}
-use Rattle.sb_decide.proofs.Words.{IfOk-from_err, language, regex_at, words_in}
+use Rattle.sb_decide.proofs.Words.{refl, IfOk-from_err, language, regex_at, words_in}
 use Rattle.sb_decide.proofs.Conjunctions.{same_least, same_no_word}
 use Rattle.sb_decide.proofs.TakingOver.{root_words, searches_asked}
 use Rattle.sb_decide.proofs.decide.least_word.Goals as goal

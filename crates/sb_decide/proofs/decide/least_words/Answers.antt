@@ -1,5 +1,4 @@
-use Rattle.std.proofs.Common.{map, ap, arith, length, subst}
-use Rattle.sb_decide.proofs.Words.{AreFound, Found, IfOk-from_err, regexes_same, take_all}
+use Rattle.sb_decide.proofs.Words.{map, ap, arith, length, Found, IfOk-from_err, regexes_same, take_all}
 use Rattle.sb_decide.proofs.TakingOver.{found_next, kept_listed, places_listed, searches_behind}
 use Rattle.sb_decide.proofs.decide.least_words.Goals as goal
 
@@ -64,8 +63,7 @@ returns-in_default c =
 
 pub returns : goal.returns
 returns c = record {
-  words = subst (λ changed. AreFound c.loop-serial.store.arena c.args.members.now c.args.constants.now
-      c.args.words.now changed c.loop-serial.found.items)
-      (take_all c.loop-serial.serial-index c.args.changed.now c.loop-serial-test.false) c.loop-serial.invariant.0;
+  words = rw (take_all c.loop-serial.serial-index c.args.changed.now c.loop-serial-test.false)
+      at c.loop-serial.invariant.0;
   searches = c.loop-serial.invariant.1;
 }

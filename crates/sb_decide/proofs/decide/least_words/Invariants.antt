@@ -1,5 +1,4 @@
-use Rattle.std.proofs.Common.{take}
-use Rattle.sb_decide.proofs.Words.{AreFound, Searches}
+use Rattle.sb_decide.proofs.Words.{take, AreFound, Searches}
 use Rattle.sb_decide.proofs.decide.least_words.Given as goal
 
 abbrev pub invariant-loop-serial : goal.invariant-loop-serial

@@ -1,4 +1,4 @@
-use Rattle.std.proofs.Common.{◌-◌, length}
+use Rattle.sb_decide.proofs.Words.{◌-◌, length}
 use Rattle.sb_decide.proofs.Constants.{Growing}
 use Rattle.sb_decide.proofs.decide.make_room.Given as goal
 

@@ -1,5 +1,4 @@
-use Rattle.std.proofs.Common.{◌<◌, length, sym, subst, arith}
-use Rattle.sb_decide.proofs.Words.{All, IfOk-from_err, extends_same}
+use Rattle.sb_decide.proofs.Words.{◌<◌, length, sym, subst, arith, All, IfOk-from_err, extends_same}
 use Rattle.sb_decide.proofs.RootFacts.{places_within, rooted_grown}
 use Rattle.sb_decide.proofs.TakingOver.{root_made}
 use Rattle.sb_decide.proofs.decide.root_of.Goals as goal

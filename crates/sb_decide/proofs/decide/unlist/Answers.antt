@@ -1,6 +1,5 @@
-use Rattle.std.proofs.Common.{◌-◌, ◌<◌, length, take, sym, ap, ◌∙◌}
-use Rattle.sb_decide.proofs.Words.{All-take, is_settled}
-use Rattle.sb_decide.proofs.Constants.{conjoined_within, unlisted}
+use Rattle.sb_decide.proofs.Words.{◌-◌, ◌<◌, length, take, sym, ap, ◌∙◌, All-take, blank, get_or_read, is_settled}
+use Rattle.sb_decide.proofs.Constants.{unlisted}
 use Rattle.sb_decide.proofs.decide.unlist.Goals as goal
 
 pub returns : goal.returns
@@ -9,7 +8,7 @@ returns c =
     let here = c.in-Some.ensures.lookup in
     let rest = c.pop.ensures.rest ∙ ap (λ n. take (n - 1) xs) c.args.changed.now.ok.0 in
     let has = ap is_settled
-    (conjoined_within c.args.constants.now c.args.serial.0 c.in-Some.conjuncts.now here.3.0 here.1)
+    (sym (get_or_read c.args.constants.now c.args.serial.0 c.in-Some.conjuncts.now here.3.0 here.1 blank))
     ∙ (sym c.is_settled.ensures ∙ c.if-not-is_settled.false) in
     record {
       settled = λ left. unlisted c.args.constants.now xs c.pop.new.self.items c.in-Some-last.last.now c.args.serial

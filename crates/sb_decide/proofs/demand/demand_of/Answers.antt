@@ -1,5 +1,4 @@
-use Rattle.std.proofs.Common.{Some, ◌∙◌, arith}
-use Rattle.sb_decide.proofs.Words.{asked_regular, pattern_in, term_at}
+use Rattle.sb_decide.proofs.Words.{Some, ◌∙◌, arith, asked_regular, pattern_in, term_at}
 use Rattle.sb_decide.proofs.DemandFacts.{denied_demands, denied_fits}
 use Rattle.sb_decide.proofs.demand.demand_of.Goals as goal
 

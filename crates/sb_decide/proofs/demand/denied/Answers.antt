@@ -1,5 +1,4 @@
-use Rattle.std.proofs.Common.{sym, ap, ◌∙◌, arith}
-use Rattle.sb_decide.proofs.Words.{node_term, term_at}
+use Rattle.sb_decide.proofs.Words.{sym, ap, ◌∙◌, arith, node_term, term_at}
 use Rattle.sb_decide.proofs.DemandFacts.{not_one}
 use Rattle.sb_decide.proofs.demand.denied.Goals.{in_default-as_slice-via-then-as_slice-lt1, in_default-as_slice-via-else-as_slice-lt1+else-this-lt2}
 use Rattle.sb_decide.proofs.demand.denied.Goals as goal

@@ -1,5 +1,4 @@
-use Rattle.std.proofs.Common.{refl}
-use Rattle.sb_decide.proofs.Words.{IfOk-from_err, grows_both, names_below, normal}
+use Rattle.sb_decide.proofs.Words.{refl, IfOk-from_err, grows_both, names_below, normal}
 use Rattle.sb_decide.proofs.DemandFacts.{no_regex, positive_regex, negative_regex}
 use Rattle.sb_store.proofs.CallerLemmas.{normalized}
 use Rattle.sb_decide.proofs.demand.regex_of.Goals as goal

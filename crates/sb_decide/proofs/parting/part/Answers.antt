@@ -1,7 +1,6 @@
-use Rattle.std.proofs.Common.{sym, ◌∙◌}
-use Rattle.sb_decide.proofs.Words.{eqb-true}
+use Rattle.sb_decide.proofs.Words.{eqb-true, sym, take_all, ◌∙◌}
 use Rattle.sb_decide.proofs.Occurring.{found_listed}
-use Rattle.sb_decide.proofs.Parted.{parted_changed, parted_done, parted_left, parted_none}
+use Rattle.sb_decide.proofs.Parted.{parted_changed, parted_left, parted_none}
 use Rattle.sb_decide.proofs.parting.part.Goals as goal
 
 pub loop-serial-init : goal.loop-serial-init
@@ -24,5 +23,4 @@ loop-serial-preserved c =
 
 pub returns : goal.returns
 returns c =
-    parted_done c.args.all.now c.args.spoken.now.keys c.loop-serial.changed.items c.loop-serial.left.items
-    c.loop-serial.serial-index c.loop-serial-test.false c.loop-serial.invariant
+    rw (take_all c.loop-serial.serial-index c.args.all.now c.loop-serial-test.false) at c.loop-serial.invariant

@@ -1,5 +1,4 @@
-use Rattle.std.proofs.Common.{take}
-use Rattle.sb_decide.proofs.Words.{IsParted}
+use Rattle.sb_decide.proofs.Words.{take, IsParted}
 use Rattle.sb_decide.proofs.parting.part.Given as goal
 
 abbrev pub invariant-loop-serial : goal.invariant-loop-serial

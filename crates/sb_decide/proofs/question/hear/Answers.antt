@@ -1,5 +1,4 @@
-use Rattle.sb_decide.proofs.Words.{false≢true}
-use Rattle.sb_term.proofs.CallerLemmas.{top_falls}
+use Rattle.sb_decide.proofs.Words.{false≢true, top_falls}
 use Rattle.sb_decide.proofs.Occurring.{walking_start, walking_within, walking_next, walking_done}
 use Rattle.sb_decide.proofs.question.hear.Goals as goal
 

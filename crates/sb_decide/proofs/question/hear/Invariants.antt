@@ -1,5 +1,4 @@
-use Rattle.sb_decide.proofs.Words.{AreMeasures}
-use Rattle.sb_term.specs.Descending.{top}
+use Rattle.sb_decide.proofs.Words.{AreMeasures, top}
 use Rattle.sb_decide.proofs.Occurring.{Walking}
 use Rattle.sb_decide.proofs.question.hear.Given as goal
 

@@ -1,6 +1,4 @@
-use Rattle.std.proofs.Common.{ap, sym, ◌∙◌}
-use Rattle.sb_decide.proofs.Words.{eqb-true}
-use Rattle.sb_term.specs.Nodes.{node_term}
+use Rattle.sb_decide.proofs.Words.{ap, sym, ◌∙◌, eqb-true, node_term}
 use Rattle.sb_decide.proofs.Occurring.{apart_constant, apart_ground, apart_other, ground_silent}
 use Rattle.sb_decide.proofs.question.take_apart.Goals as goal
 

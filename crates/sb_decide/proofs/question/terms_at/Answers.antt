@@ -1,6 +1,4 @@
-use Rattle.std.proofs.Common.{ap, sym, ◌∙◌, ◌&&◌, [], ◌∷◌}
-use Rattle.sb_decide.proofs.Words.{and-true, list_all, list_all-append, take_all}
-use Rattle.sb_decide.specs.Speaking.{passes, passes_at}
+use Rattle.sb_decide.proofs.Words.{ap, sym, ◌∙◌, ◌&&◌, [], ◌∷◌, and-true, list_all, list_all-append, take_all, passes, passes_at}
 use Rattle.sb_decide.proofs.Occurring.{terms_next}
 use Rattle.sb_decide.proofs.question.terms_at.Goals as goal
 

@@ -1,6 +1,4 @@
-use Rattle.std.proofs.Common.{◌≡◌, ℕ, Bool, take}
-use Rattle.sb_decide.proofs.Words.{list_all}
-use Rattle.sb_decide.specs.Speaking.{passes_at}
+use Rattle.sb_decide.proofs.Words.{◌≡◌, ℕ, Bool, take, list_all, passes_at}
 use Rattle.sb_decide.proofs.question.terms_at.Given as goal
 
 abbrev pub invariant-loop-place : goal.invariant-loop-place

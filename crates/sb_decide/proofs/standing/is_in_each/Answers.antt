@@ -1,6 +1,5 @@
-use Rattle.std.proofs.Common.{sym, ◌∙◌, arith}
-use Rattle.sb_decide.proofs.Words.{IfOk-from_err, false≢true, number_kept, regexes_both, regexes_same}
-use Rattle.sb_decide.proofs.KeptWords.{matched_none, matched_next, matched_all, number_there}
+use Rattle.sb_decide.proofs.Words.{IfOk-from_err, false≢true, number_kept, regexes_both, regexes_same, sym, take_all, ◌∙◌}
+use Rattle.sb_decide.proofs.KeptWords.{matched_none, matched_next, number_there}
 use Rattle.sb_store.proofs.CallerLemmas.{walked}
 use Rattle.sb_decide.proofs.standing.is_in_each.Goals as goal
 
@@ -58,7 +57,7 @@ loop-place-preserved c =
 
 pub returns : goal.returns
 returns c = record {
-  all = λ _. matched_all c.loop-place.store.arena c.args.members.now c.args.places.now c.args.word.now
-      c.loop-place.place-index (omega (arith, c.loop-place-test.false)) c.loop-place.invariant.0;
+  all = λ _. rw (take_all c.loop-place.place-index c.args.places.now c.loop-place-test.false)
+      at c.loop-place.invariant.0;
   store = c.loop-place.invariant.1;
 }

@@ -1,5 +1,4 @@
-use Rattle.std.proofs.Common.{take}
-use Rattle.sb_decide.proofs.Words.{IsInEach, RegexesGrow}
+use Rattle.sb_decide.proofs.Words.{take, IsInEach, RegexesGrow}
 use Rattle.sb_decide.proofs.standing.is_in_each.Given as goal
 
 abbrev pub invariant-loop-place : goal.invariant-loop-place

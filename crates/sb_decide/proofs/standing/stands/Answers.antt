@@ -1,5 +1,4 @@
-use Rattle.std.proofs.Common.{◌<◌, ◌∙◌, [], length, drop, sym, ap, subst}
-use Rattle.sb_decide.proofs.Words.{All, All-drop, IfOk-from_err, false≢true, get_or_read, regexes_same, word_at}
+use Rattle.sb_decide.proofs.Words.{◌<◌, ◌∙◌, [], length, drop, sym, ap, subst, All, All-drop, IfOk-from_err, false≢true, get_or_read, regexes_same, word_at}
 use Rattle.sb_decide.proofs.KeptWords.{behind_within, word_stands}
 use Rattle.sb_decide.proofs.RootFacts.{places_within}
 use Rattle.sb_decide.proofs.standing.stands.Goals as goal

@@ -12,8 +12,7 @@ returns-in_err-others-in-Sat c =
       completed = IfOk-from_err x.result _ x.ensures.0;
       knows = IfOk-from_err x.result _ x.ensures.0;
       rest = refl;
-      arena = refl;
-      graph = refl;
+      store = refl;
     }
 
 pub returns-in_err-full-in-Sat : goal.returns-in_err-full-in-Sat
@@ -24,8 +23,7 @@ returns-in_err-full-in-Sat c =
       completed = IfOk-from_err x.result _ x.ensures.0;
       knows = IfOk-from_err x.result _ x.ensures.0;
       rest = e.rest;
-      arena = e.arena;
-      graph = e.graph;
+      store = e.store;
     }
 
 pub returns-in_ok-full-in-Sat : goal.returns-in_ok-full-in-Sat
@@ -47,8 +45,7 @@ returns-in_ok-full-in-Sat c =
           );
       knows = e.knows others;
       rest = e.rest;
-      arena = e.arena;
-      graph = e.graph;
+      store = e.store;
     }
 
 pub returns-in-Unsat : goal.returns-in-Unsat
@@ -60,8 +57,7 @@ returns-in-Unsat c =
           (sym c.in-Unsat.is) refl;
       knows = record { taken = e.taken; words = e.words; declared = e.declared };
       rest = refl;
-      arena = refl;
-      graph = refl;
+      store = refl;
     }
 
 pub returns-in-Spent : goal.returns-in-Spent
@@ -72,6 +68,5 @@ returns-in-Spent c =
           (sym c.in-Spent.is) tt;
       knows = record { taken = e.taken; words = e.words; declared = e.declared };
       rest = refl;
-      arena = refl;
-      graph = refl;
+      store = refl;
     }

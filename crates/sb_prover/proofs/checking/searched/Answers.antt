@@ -9,16 +9,12 @@ pub solve-requires : goal.solve-requires
 solve-requires g c =
     let s = c.args.stack.now in
     let old = c.args.decider.now in
-    let taken = c.requires.knows.taken in
     record {
       places = subst (All (λ place. place < length s.assertions)) (sym c.deref.ensures.value)
           (asked-below old.others.items s c.args.decided c.in_ok-places.places.items
           (c.in_ok-places.ensures s c.requires.knows c.requires.asked));
       decided = c.requires.inside;
-      graph = taken.graph;
-      plain = taken.plain;
-      right = taken.measures;
-      normals = taken.normals;
+      store = c.requires.knows.taken.store;
       regexes = c.requires.regexes;
     }
 
@@ -50,11 +46,11 @@ returns-then-is_empty g c =
         backs = backs;
         counts = counts;
       };
-      solved = values-found c.normal_has_terms_words.ensures old s c.args.decided places old.arena old.graph.memo before
+      solved = values-found c.normal_has_terms_words.ensures old s c.args.decided places old.store before
           c.requires.terms c.requires.sound c.assertions-assertions.ensures.named
           (c.in_ok-places.ensures s c.requires.knows c.requires.asked)
           (λ is. subst (IsAsked old s) is c.requires.asked) c.new.result.items c.new-then-is_empty.result.items
-          (none-valued s places old.arena old.graph.memo before c.new.result.items c.new-then-is_empty.result.items
+          (none-valued s places old.store before c.new.result.items c.new-then-is_empty.result.items
           c.new.ensures.items c.new-then-is_empty.ensures.items none);
       sound = λ proves. c.requires.sound;
       knows = c.requires.knows;
@@ -82,28 +78,20 @@ returns g c =
     let s = c.args.stack.now in
     let old = c.args.decider.now in
     let x = c.solve.new in
-    let new : Decider = record old {
-      arena = x.arena;
-      graph = x.graph;
-      normals = x.normals;
-      measures = x.measures;
-      plain = x.plain;
-    } in
+    let new : Decider = record old { store = x.store } in
     let before = c.args.evidence.now in
     let e = c.in_ok-solved.ensures in
     record {
       puts = e.puts;
-      solved = found-by c.normal_has_terms_words.ensures new s c.args.decided c.deref.result.now old.arena
-          old.graph.memo before c.requires.terms c.requires.sound c.assertions-assertions.ensures.named
+      solved = found-by c.normal_has_terms_words.ensures new s c.args.decided c.deref.result.now old.store before
+          c.requires.terms c.requires.sound c.assertions-assertions.ensures.named
           (subst (AreAsked old.others.items s c.args.decided) (sym c.deref.ensures.value)
           (c.in_ok-places.ensures s c.requires.knows c.requires.asked))
-          (λ is. c.ready_grown.ensures old x.arena x.graph x.normals x.measures x.plain s e.extends e.graph e.normals
-          e.right e.plain (subst (IsAsked old s) is c.requires.asked))
+          (λ is. c.ready_grown.ensures old x.store s e.store (subst (IsAsked old s) is c.requires.asked))
           x.evidence x.budget c.in_ok-solved.solved c.refuted-empty.result e.answer c.refuted-empty.ensures.known
           c.refuted-empty.ensures.kept;
       sound = λ proves. e.sound proves c.requires.terms c.requires.sound;
-      knows = c.knows_grown.ensures old x.arena x.graph x.normals x.measures x.plain s e.extends e.graph e.normals
-          e.right e.plain c.requires.knows;
+      knows = c.knows_grown.ensures old x.store s e.store c.requires.knows;
       regexes = e.regexes;
       levels = levels-known (asked_in (state_of s)).live before x.evidence e.levels;
       counts = e.counts;

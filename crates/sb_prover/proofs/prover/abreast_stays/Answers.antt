@@ -2,12 +2,13 @@ use Rattle.sb_prover.proofs.Words.{backs-grown, regexes_kept}
 use Rattle.sb_prover.proofs.prover.abreast_stays.Goals as goal
 
 pub returns : goal.returns
-returns c = λ rs more memo new proving p grows keeps h. record {
+returns c = λ ts x y proving p grows h. record {
   rests = h.rests;
   begun = h.begun;
   first = h.first;
   format = h.format;
   counted = h.counted;
-  backs = backs-grown rs more memo new proving.evidence p.kept grows keeps h.regexes h.backs;
-  regexes = regexes_kept rs more proving.evidence.atoms grows h.regexes;
+  backs = backs-grown x.arena y.arena x.graph.memo y.graph.memo proving.evidence p.kept grows.extends grows.derivatives
+      h.regexes h.backs;
+  regexes = regexes_kept x.arena y.arena proving.evidence.atoms grows.extends h.regexes;
 }

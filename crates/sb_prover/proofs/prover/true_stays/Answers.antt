@@ -2,7 +2,7 @@ use Rattle.sb_prover.proofs.Words.{backs-grown}
 use Rattle.sb_prover.proofs.prover.true_stays.Goals as goal
 
 pub returns-clause-goes_on : goal.returns-clause-goes_on
-returns-clause-goes_on c = λ before now rs memo e goes t. record {
+returns-clause-goes_on c = λ before now x e goes t. record {
   kept = t.kept;
   backs = t.backs;
   sound = c.continued_stays_sound.ensures before now t.kept goes t.sound;
@@ -10,9 +10,9 @@ returns-clause-goes_on c = λ before now rs memo e goes t. record {
 }
 
 pub returns-clause-grown : goal.returns-clause-grown
-returns-clause-grown c = λ asked rs more memo new e grows keeps below t. record {
+returns-clause-grown c = λ asked ts x y e grows below t. record {
   kept = t.kept;
-  backs = backs-grown rs more memo new e t.kept grows keeps below t.backs;
+  backs = backs-grown x.arena y.arena x.graph.memo y.graph.memo e t.kept grows.extends grows.derivatives below t.backs;
   sound = t.sound;
   counted = t.counted;
 }

@@ -1,5 +1,4 @@
-use Rattle.std.proofs.Common.{◌<◌, length, refl, sym, ap, subst, ◌∙◌, arith}
-use Rattle.sb_decide.proofs.Words.{All, Decider, Global, IfOk-from_err, Serial, Vec, conjoined_at, is_listed, is_settled}
+use Rattle.sb_decide.proofs.Words.{◌<◌, length, refl, sym, ap, subst, ◌∙◌, arith, All, Decider, Global, IfOk-from_err, Serial, Vec, conjoined_at, is_listed, is_settled}
 use Rattle.sb_decide.proofs.ModelWords.{closed_of, knows_through, put_over, settled_over, spoken_within}
 use Rattle.sb_decide.proofs.decide.Decider.close.Goals as goal
 

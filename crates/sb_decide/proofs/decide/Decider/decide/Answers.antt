@@ -1,5 +1,4 @@
-use Rattle.std.proofs.Common.{◌∙◌}
-use Rattle.sb_decide.proofs.Words.{IfOk-from_err, grows_both, state_of}
+use Rattle.sb_decide.proofs.Words.{◌∙◌, IfOk-from_err, grows_both, state_of}
 use Rattle.sb_decide.proofs.TakingOver.{dead_given}
 use Rattle.sb_decide.proofs.decide.Decider.decide.Goals as goal
 

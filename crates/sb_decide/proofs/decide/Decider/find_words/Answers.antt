@@ -1,5 +1,4 @@
-use Rattle.std.proofs.Common.{refl, sym, ◌∙◌}
-use Rattle.sb_decide.proofs.Words.{false≢true, grows_both, grows_same}
+use Rattle.sb_decide.proofs.Words.{refl, sym, ◌∙◌, false≢true, grows_both, grows_same}
 use Rattle.sb_decide.proofs.Knowledge.{knows_dead}
 use Rattle.sb_decide.proofs.TakingOver.{knows_searched, ready_searched}
 use Rattle.sb_decide.proofs.decide.Decider.find_words.Goals as goal

@@ -1,5 +1,4 @@
-use Rattle.std.proofs.Common.{refl, arith, ◌∙◌}
-use Rattle.sb_decide.proofs.Words.{IfOk-from_err, nat_tests}
+use Rattle.sb_decide.proofs.Words.{refl, arith, ◌∙◌, IfOk-from_err, nat_tests}
 use Rattle.sb_decide.proofs.Knowledge.{knows_left}
 use Rattle.sb_decide.proofs.decide.Decider.leave.Goals as goal
 

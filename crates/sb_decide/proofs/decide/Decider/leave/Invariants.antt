@@ -1,5 +1,4 @@
-use Rattle.std.proofs.Common.{◌≡◌, length}
-use Rattle.sb_decide.proofs.Words.{Knows, Stacked}
+use Rattle.sb_decide.proofs.Words.{◌≡◌, length, Knows, Stacked}
 use Rattle.sb_decide.proofs.decide.Decider.leave.Given as goal
 
 abbrev pub invariant-loop-self : goal.invariant-loop-self

@@ -1,4 +1,4 @@
-use Rattle.std.proofs.Common.{refl}
+use Rattle.sb_decide.proofs.Words.{refl}
 use Rattle.sb_decide.proofs.Knowledge.{knows_none}
 use Rattle.sb_decide.proofs.TakingOver.{no_items}
 use Rattle.sb_decide.proofs.decide.Decider.new.Goals as goal

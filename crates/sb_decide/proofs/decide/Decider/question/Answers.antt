@@ -1,5 +1,4 @@
-use Rattle.std.proofs.Common.{◌++◌, ap, ◌∙◌}
-use Rattle.sb_decide.proofs.Words.{places_of_all}
+use Rattle.sb_decide.proofs.Words.{◌++◌, ap, ◌∙◌, places_of_all}
 use Rattle.sb_decide.proofs.Questions.{gathered_next, gathered_done, question_of}
 use Rattle.sb_decide.proofs.decide.Decider.question.Goals as goal
 

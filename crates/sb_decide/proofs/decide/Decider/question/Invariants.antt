@@ -1,5 +1,4 @@
-use Rattle.std.proofs.Common.{◌≡◌, ◌++◌, drop}
-use Rattle.sb_decide.proofs.Words.{places_of_all}
+use Rattle.sb_decide.proofs.Words.{◌≡◌, ◌++◌, drop, places_of_all}
 use Rattle.sb_decide.proofs.decide.Decider.question.Given as goal
 
 abbrev pub invariant-loop-serial : goal.invariant-loop-serial

@@ -1,5 +1,4 @@
-use Rattle.std.proofs.Common.{◌<◌, ◌++◌, length, ap, ap₂, ◌∙◌, arith}
-use Rattle.sb_decide.proofs.Words.{All-drop, Decider, take_rest}
+use Rattle.sb_decide.proofs.Words.{◌<◌, ◌++◌, length, ap, ap₂, ◌∙◌, arith, All-drop, Decider, take_rest}
 use Rattle.sb_decide.proofs.Hearing.{speaks_all}
 use Rattle.sb_decide.proofs.Knowledge.{knows_grown}
 use Rattle.sb_decide.proofs.Parted.{knows_parted, left_spoken, spoken_of}

@@ -1,5 +1,4 @@
-use Rattle.std.proofs.Common.{[], length, refl, sym, ap, ◌∙◌, subst₂, arith}
-use Rattle.sb_decide.proofs.Words.{IfOk-from_err, IsTakingOver, with_items_is, without_words}
+use Rattle.sb_decide.proofs.Words.{[], length, refl, sym, ap, ◌∙◌, subst₂, arith, IfOk-from_err, IsTakingOver, with_items_is, without_words}
 use Rattle.sb_decide.proofs.TakingOver.{found_within, over_of}
 use Rattle.sb_decide.proofs.decide.Decider.take_found.Goals as goal
 

@@ -1,5 +1,4 @@
-use Rattle.std.proofs.Common.{◌≡◌, ◌≤◌, length, ◌∙◌, arith, sym, ap}
-use Rattle.sb_decide.proofs.Words.{false≢true, grows_both, grows_same}
+use Rattle.sb_decide.proofs.Words.{◌≡◌, ◌≤◌, length, ◌∙◌, arith, sym, ap, false≢true, grows_both, grows_same}
 use Rattle.sb_decide.proofs.Knowledge.{taken_roomy, kept_roomy}
 use Rattle.sb_decide.proofs.MemberFacts.{members_few}
 use Rattle.sb_decide.proofs.TakingOver.{live_outside}

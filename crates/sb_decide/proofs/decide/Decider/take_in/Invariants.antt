@@ -1,5 +1,4 @@
-use Rattle.std.proofs.Common.{◌≡◌, ◌-◌, length}
-use Rattle.sb_decide.proofs.Words.{Grows, Knows}
+use Rattle.sb_decide.proofs.Words.{◌≡◌, ◌-◌, length, Grows, Knows}
 use Rattle.sb_decide.proofs.decide.Decider.take_in.Given as goal
 
 abbrev pub invariant-loop-assertions : goal.invariant-loop-assertions

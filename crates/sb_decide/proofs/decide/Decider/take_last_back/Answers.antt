@@ -1,6 +1,4 @@
-use Rattle.std.proofs.Common.{◌≡◌, ◌≤◌, ◌-◌, [], ◌∷◌, ◌++◌, Some, None, length, length-append, take, vec_len, refl, ap, ◌∙◌, arith}
-use Rattle.sb_decide.proofs.Words.{IfOk-from_err}
-use Rattle.std.specs.Vec.{with_items}
+use Rattle.sb_decide.proofs.Words.{◌≡◌, ◌≤◌, ◌-◌, [], ◌∷◌, ◌++◌, Some, None, length, length-append, take, vec_len, refl, ap, ◌∙◌, arith, IfOk-from_err, with_items}
 use Rattle.sb_decide.proofs.Hearing.{heard_none, heard_same, take_front}
 use Rattle.sb_decide.proofs.Knowledge.{knows_back, knows_back_other, last_within}
 use Rattle.sb_decide.proofs.TakingOver.{back_here, settled_through}

@@ -1,5 +1,4 @@
-use Rattle.std.proofs.Common.{◌≡◌, Some, None, length, refl, sym, ◌∙◌, arith, ◌∷◌, [], length-append, ap, append-nil}
-use Rattle.sb_decide.proofs.Words.{Member, expression_in, false≢true, grows_both, grows_same, term_at, with_items}
+use Rattle.sb_decide.proofs.Words.{◌≡◌, Some, None, length, refl, sym, ◌∙◌, arith, ◌∷◌, [], length-append, ap, append-nil, Member, expression_in, false≢true, grows_both, grows_same, term_at, with_items}
 use Rattle.sb_decide.proofs.Constants.{put_some}
 use Rattle.sb_decide.proofs.DemandFacts.{other_kind, too_large}
 use Rattle.sb_decide.proofs.Knowledge.{at_place, is_member, is_other, number_within, term_outside, serial_within, taken_grown, stay_grown, stay_put, taken_more}

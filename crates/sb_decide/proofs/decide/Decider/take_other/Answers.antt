@@ -1,5 +1,4 @@
-use Rattle.std.proofs.Common.{◌≡◌, [], ◌∷◌, ◌++◌, None, length, length-append, refl, sym, ap, ◌∙◌, arith}
-use Rattle.sb_decide.proofs.Words.{Store, false≢true}
+use Rattle.sb_decide.proofs.Words.{◌≡◌, [], ◌∷◌, ◌++◌, None, length, length-append, refl, sym, ap, ◌∙◌, arith, Store, false≢true}
 use Rattle.sb_decide.proofs.Constants.{put_none}
 use Rattle.sb_decide.proofs.Knowledge.{stay_put, taken_grown, taken_more}
 use Rattle.sb_store.proofs.CallerLemmas.{measured}

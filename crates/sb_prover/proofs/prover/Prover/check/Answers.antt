@@ -13,10 +13,10 @@ solution-requires g c =
       knows = c.requires.knows;
       decided = c.requires.decided;
       terms = c.entries_lead_on.ensures.terms (state_of s) c.requires.fit;
-      regexes = subst (λ (p : Proving). HaveRegexesBelow (length old.arena) p.evidence.atoms) first
+      regexes = subst (λ (p : Proving). HaveRegexesBelow (length old.store.arena) p.evidence.atoms) first
           c.requires.regexes;
-      sound = subst (λ (p : Proving). IsTrue (asked_in (state_of s)) old.arena old.graph.memo p.evidence) first
-          c.requires.sound;
+      sound = subst (λ (p : Proving). IsTrue (asked_in (state_of s)) old.store.arena old.store.graph.memo p.evidence)
+          first c.requires.sound;
     }
 
 pub returns : goal.returns
@@ -98,23 +98,23 @@ returns-2 g c =
     record {
       proves = λ proves before h.
           subst (λ (v : Verdict). IsProved (question_in (state_of s) []) (verdict_in (live_constants s) v) before
-          new.arena new.graph.memo c.solution.new.self told last)
+          new.store c.solution.new.self told last)
           (sym c.verdict_of.ensures)
           (subst (λ b. IsProved (question_in (state_of s) []) (verdict_in (live_constants s) (verdict_of r)) before
-          new.arena new.graph.memo (record { evidence = c.solution.new.self.evidence; begun = b }) told last)
+          new.store (record { evidence = c.solution.new.self.evidence; begun = b }) told last)
           (sym (e.begun ∙ ap (λ p. p.begun) first))
           (solved-proved c.text_is_read.ensures c.text_is_one_line.ensures c.texts_are_lines.ensures s r before
-          old.arena new.arena old.graph.memo new.graph.memo c.args.self.now c.solution.new.self.evidence told
-          (g.L.Tape.told c.begin.new.tape) middle last (said.numbered proves) e.means h c.in_ok-begin.ensures.told
+          old.store new.store c.args.self.now c.solution.new.self.evidence told (g.L.Tape.told c.begin.new.tape)
+          middle last (said.numbered proves) e.means h c.in_ok-begin.ensures.told
           (e.solved proves before.kept
-          (subst (λ p. Backs old.arena old.graph.memo p.evidence before.kept) (sym first) h.backs) h.counted)
-          e.regexes
+          (subst (λ p. Backs old.store.arena old.store.graph.memo p.evidence before.kept) (sym first) h.backs)
+          h.counted) e.regexes
           (said.told proves ∙ ap (λ (x : Said). with_bytes (line (text_of (verdict_line x))) middle)
           (said-same r c.solution.new.stack s e.rest))));
       verdict = subst (λ (v : Verdict). IsVerdict (state_of s) [] (verdict_in (live_constants s) v))
           (sym c.verdict_of.ensures)
-          (solved-verdict c.empty_clause_refutes.ensures s c.requires.fit new.arena new.graph.memo
-          c.solution.new.self.evidence r e.sound e.means);
+          (solved-verdict c.empty_clause_refutes.ensures s c.requires.fit new.store c.solution.new.self.evidence r
+          e.sound e.means);
       regexes = e.regexes;
       knows = subst (λ (v : Verdict). Knows new (found v c.solution.new.stack)) (sym c.verdict_of.ensures) e.knows;
       rest = e.rest;

@@ -9,14 +9,15 @@ none-below rs n [] h = no_atoms n
 none-below rs n (a ∷ atoms) h = absurd (cc (h))
 
 pub returns-clause-abreast : goal.returns-clause-abreast
-returns-clause-abreast c = λ rs memo. record {
+returns-clause-abreast c = λ x. record {
   rests = refl;
   begun = refl;
   first = λ unbegun. refl;
   format = refl;
   counted = refl;
-  backs = c.new.ensures.backs rs memo 1;
-  regexes = none-below rs (length rs) c.new.result.atoms (c.new.ensures.backs rs memo 1).atoms;
+  backs = c.new.ensures.backs x.arena x.graph.memo 1;
+  regexes = none-below x.arena (length x.arena) c.new.result.atoms
+      (c.new.ensures.backs x.arena x.graph.memo 1).atoms;
 }
 
 pub returns-clause-regexes : goal.returns-clause-regexes
@@ -27,9 +28,9 @@ returns-clause-levels c = λ live place a there.
     absurd (none-there place a (ap (λ xs. asserted_at xs place) (sym c.new.ensures.nothing) ∙ there))
 
 pub returns-clause-sound : goal.returns-clause-sound
-returns-clause-sound c = λ asked rs memo. record {
+returns-clause-sound c = λ asked x. record {
   kept = nothing_kept 1;
-  backs = c.new.ensures.backs rs memo 1;
+  backs = c.new.ensures.backs x.arena x.graph.memo 1;
   sound = c.nothing_is_sound.ensures asked 1;
   counted = refl;
 }

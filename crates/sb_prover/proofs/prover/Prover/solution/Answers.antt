@@ -1,6 +1,6 @@
-use Rattle.sb_prover.proofs.Words.{List, length, ap, refl, sym, subst, ◌∙◌, Backs, CountsTapeFault, Decided, Findings, HaveLevels, HaveRegexesBelow, IfOk-from_err, IsDecided, IsSolution, IsTrue, Proving, Regex, Solved, asked_in, counts_none, counts_on, err_from_is_err_and, state_of}
+use Rattle.sb_prover.proofs.Words.{length, ap, refl, sym, subst, ◌∙◌, Backs, CountsTapeFault, Decided, HaveLevels, HaveRegexesBelow, IfOk-from_err, IsDecided, IsSolution, IsTrue, Proving, Solved, Store, asked_in, counts_none, counts_on, err_from_is_err_and, state_of}
 use Rattle.sb_prover.specs.declared.checking.Solution.TheVariants as solution
-use Rattle.sb_prover.proofs.Solutions.{over, inside-of, asked-of, empty-known, counts-none, ready-then, solved-again, solved-now, solved-true, says-true}
+use Rattle.sb_prover.proofs.Solutions.{inside-of, asked-of, empty-known, counts-none, ready-then, solved-again, solved-now, solved-true, says-true}
 use Rattle.sb_prover.proofs.prover.Prover.solution.Goals as goal
 
 pub searched-requires : goal.searched-requires
@@ -14,10 +14,10 @@ searched-requires g c =
           ∙ inside-of c.fragment_is_of_each.ensures old s c.args.decided c.requires.decided c.in_default.not-Outside;
       asked = asked-of old s c.args.decided c.requires.decided c.in_default.not-Outside;
       terms = c.requires.terms;
-      regexes = subst (λ (p : Proving). HaveRegexesBelow (length old.arena) p.evidence.atoms) same
+      regexes = subst (λ (p : Proving). HaveRegexesBelow (length old.store.arena) p.evidence.atoms) same
           c.requires.regexes;
-      sound = subst (λ (p : Proving). IsTrue (asked_in (state_of s)) old.arena old.graph.memo p.evidence) same
-          c.requires.sound;
+      sound = subst (λ (p : Proving). IsTrue (asked_in (state_of s)) old.store.arena old.store.graph.memo p.evidence)
+          same c.requires.sound;
     }
 
 pub completed-requires : goal.completed-requires
@@ -25,7 +25,7 @@ completed-requires g c =
     let old = c.args.decider.now in
     record {
       knows = c.in_ok-solved.ensures.knows;
-      ready = ready-then c.searched.new.decider c.args.stack.now old.arena old.graph.memo c.self.inside.evidence
+      ready = ready-then c.searched.new.decider c.args.stack.now old.store c.self.inside.evidence
           c.searched.new.evidence c.searched.new.budget c.in_ok-solved.solved c.in_ok-solved.ensures.solved;
     }
 
@@ -37,8 +37,8 @@ returns-in-Outside g c =
     record {
       means = subst (λ (d : Decided). IsDecided old s d) c.in-Outside.is c.requires.decided;
       solved = λ proves before backs counted.
-          solved-again s before old.arena old.graph.memo c.args.self.now.evidence solution.Outside
-          (g.L.Tape.told c.args.tape.now) backs tt;
+          solved-again s before old.store c.args.self.now.evidence solution.Outside (g.L.Tape.told c.args.tape.now)
+          backs tt;
       knows = record { taken = knows.taken; words = knows.words; declared = knows.declared };
       rest = refl;
       sound = c.requires.sound;
@@ -60,7 +60,7 @@ returns-in-Some g c =
             (ap (λ (p : Proving). p.evidence) c.self.view_is) c.in-Some.is c.refuted.ensures.kept,
       );
       solved = λ proves before backs counted.
-          solved-again s before old.arena old.graph.memo c.args.self.now.evidence
+          solved-again s before old.store c.args.self.now.evidence
           (solution.Unsat c.in-Some.empty.clause) (g.L.Tape.told c.args.tape.now) backs tt;
       knows = record { taken = knows.taken; words = knows.words; declared = knows.declared };
       rest = refl;
@@ -110,7 +110,6 @@ returns g c =
     let s = c.args.stack.now in
     let old = c.args.decider.now in
     let mid = c.searched.new.decider in
-    let new = c.completed.new.decider in
     let e = c.self.inside.evidence in
     let f = c.searched.new.evidence in
     let budget = c.searched.new.budget in
@@ -118,34 +117,31 @@ returns g c =
     let telling = g.L.Tape.told c.searched.new.tape in
     let found = c.in_ok-solved.ensures in
     let done = c.in_ok-solution.ensures in
-    let memo = ap (λ (g : Findings). g.memo) done.graph in
-    let t = subst (λ (p : Proving). IsTrue (asked_in (state_of s)) old.arena old.graph.memo p.evidence)
-    (sym c.self.view_is) c.requires.sound in
+    let same = sym c.self.view_is in
+    let stays = sym done.store in
+    let t = subst (λ (p : Proving). IsTrue (asked_in (state_of s)) old.store.arena old.store.graph.memo p.evidence) same
+    c.requires.sound in
     record {
       means = says-true mid s
           (inside-of c.fragment_is_of_each.ensures old s c.args.decided c.requires.decided c.in_default.not-Outside)
-          c.requires.terms old.arena old.graph.memo e f budget c.in_ok-solved.solved c.in_ok-solution.solution t
-          found.solved done.completed;
+          c.requires.terms old.store e f budget c.in_ok-solved.solved c.in_ok-solution.solution t found.solved
+          done.completed;
       solved = λ proves before backs counted.
-          let kept = subst (λ (p : Proving). Backs old.arena old.graph.memo p.evidence before) (sym c.self.view_is)
-          backs in
-          over (λ rs ms. IsSolution s before rs ms f c.in_ok-solution.solution told telling) mid.arena new.arena
-          mid.graph.memo new.graph.memo done.arena memo
-          (solved-now mid s before old.arena mid.arena old.graph.memo mid.graph.memo e f budget
-          c.in_ok-solved.solved c.in_ok-solution.solution told telling
+          let kept = subst (λ (p : Proving). Backs old.store.arena old.store.graph.memo p.evidence before) same backs in
+          subst (λ (x : Store). IsSolution s before x f c.in_ok-solution.solution told telling) stays
+          (solved-now mid s before old.store mid.store e f budget c.in_ok-solved.solved c.in_ok-solution.solution told
+          telling
           (found.puts proves before kept (counts-none s before _ c.new-budget.ensures counted)) found.solved
           done.completed);
       knows = done.knows;
       rest = done.rest;
-      sound = over (λ rs ms. IsTrue (asked_in (state_of s)) rs ms f) mid.arena new.arena mid.graph.memo new.graph.memo
-          done.arena memo
+      sound = subst (λ (x : Store). IsTrue (asked_in (state_of s)) x.arena x.graph.memo f) stays
           (solved-true c.follows_by_rule.ensures c.line_stays_sound.ensures c.counted_again_stays_sound.ensures s
-          c.requires.terms c.args.proves old.arena mid.arena old.graph.memo mid.graph.memo e f _ budget told telling t
+          c.requires.terms c.args.proves old.store mid.store e f _ budget told telling t
           (counts-none s t.kept _ c.new-budget.ensures t.counted) found.puts found.sound);
-      regexes = subst (λ (rs : List Regex). HaveRegexesBelow (length rs) f.atoms) (sym done.arena) found.regexes;
+      regexes = subst (λ (x : Store). HaveRegexesBelow (length x.arena) f.atoms) stays found.regexes;
       begun = ap (λ (p : Proving). p.begun) c.self.view_is;
       levels = λ h.
-          found.levels (subst (λ (p : Proving). HaveLevels (asked_in (state_of s)).live p.evidence) (sym c.self.view_is)
-          h);
+          found.levels (subst (λ (p : Proving). HaveLevels (asked_in (state_of s)).live p.evidence) same h);
       counts = found.counts;
     }
