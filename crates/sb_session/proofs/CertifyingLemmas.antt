@@ -1,10 +1,7 @@
 -- What a run writes of a proof is an accepted proof.
-use Rattle.std.proofs.Common.{◌≡◌, ◌⊎◌, ℕ, Bool, true, List, [], ◌∷◌, ◌++◌, Option, Some, None, option_map, append_assoc, refl, ap, ap₂, ◌∙◌, subst, inl, inr}
-use Rattle.sb_session.proofs.Words.{Along, AllAnswered, AnsweredToTheEnd, AnsweredToTheExit, AnsweredUnfinished, Answers, Asked, CertifiesOn, Entry, GoesOn, IsAll, Moved, Outside, Progress, Run, SolveStatus, Stage, Write, append-nil, asks_proof, beginnings, end_writes, last_lines, moved_by, opened, unfinished_line, with_lines, work, writing_all, writing_all-append}
+use Rattle.sb_session.proofs.Words.{◌≡◌, ◌⊎◌, ℕ, Bool, true, List, [], ◌∷◌, ◌++◌, Option, Some, None, option_map, append_assoc, refl, ap, ap₂, ◌∙◌, subst, inl, inr, Along, AllAnswered, AnsweredToTheEnd, AnsweredToTheExit, AnsweredUnfinished, Answers, Asked, CertifiesOn, Entry, GoesOn, IsAll, Moved, Outside, Progress, Run, SolveStatus, Stage, Write, append-nil, asks_proof, beginnings, end_writes, last_lines, moved_by, opened, unfinished_line, with_lines, work, writing_all, writing_all-append, CertifiedIsAccepted, CertifiedToExitIsAccepted, IsCertified}
 use Rattle.sb_world.specs.declared.OutPort.TheVariants as out_port
-use Rattle.sb_sound.specs.CertifiedLaws.{CertifiedIsAccepted, CertifiedToExitIsAccepted}
 use Rattle.sb_session.specs.declared.solve.SolveStatus.TheVariants as status
-use Rattle.sb_session.specs.Certifying.{IsCertified}
 
 -- what of the pieces goes to the proof
 abbrev pub proof_in : List Write → List ℕ

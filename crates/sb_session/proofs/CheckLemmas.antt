@@ -1,24 +1,16 @@
 -- A check is answered with its proof, or without one.
-use Rattle.std.proofs.Common.{◌≡◌, ◌⊎◌, ℕ, ◌<◌, Bool, true, false, if◌then◌else◌, List, [], ◌∷◌, map, length, take, drop, codes, Option, Some, None, is_some, Result, Ok, Err, IfOk, refl, sym, ap, ◌∙◌, subst, inl, inr}
-use Rattle.sb_session.proofs.Words.{AbreastStays, AnswersCheck, CutCheck, CutOf, CutProof, FindsUnproved, HasLevels, HasRegexes, HasTrue, Holds, IsAbreast, IsFit, IsKnown, IsProved, IsTracked, IsVerdict, KeepsEntries, Memo, Outside, Progress, ProvesCheck, Proving, Regex, SessionState, Sort, Stacked, State, Verdict, end_writes, false≢true, found, is_outside, is_proved, is_sat, is_unknown, is_unsat, last_lines, live_constants, moved_by, moved_by-nothing, plain, proof_of, question_in, session_of, settled, state_of, verdict_in, verdict_text, without_words, write_at, writing_all}
-use Rattle.sb_regex.specs.Numbered.{Extends}
-use Rattle.sb_decide.specs.declared.decide.Decider.{Decider}
-use Rattle.sb_decide.specs.Knowing.{Knows}
+use Rattle.sb_session.proofs.Words.{◌≡◌, ◌⊎◌, ℕ, ◌<◌, Bool, true, false, if◌then◌else◌, List, [], ◌∷◌, map, length, take, drop, codes, Option, Some, None, is_some, Result, Ok, Err, IfOk, refl, sym, ap, ◌∙◌, subst, inl, inr, AbreastStays, AnswersCheck, CutCheck, CutOf, CutProof, FindsUnproved, Grows, HasLevels, HasRegexes, HasTrue, Holds, IsAbreast, IsFit, IsKnown, IsProved, IsTracked, IsVerdict, Outside, Progress, ProvesCheck, Proving, SessionState, Sort, Stacked, State, Store, Term, Verdict, end_writes, false≢true, found, is_outside, is_proved, is_sat, is_unknown, is_unsat, last_lines, live_constants, moved_by, moved_by-nothing, plain, proof_of, question_in, session_of, settled, state_of, verdict_in, verdict_text, without_words, write_at, writing_all, Decider, Knows, newest_format, text_of, header_line, end_line, bytes_of, with_bytes}
 use Rattle.sb_world.specs.declared.OutPort.TheVariants as out_port
-use Rattle.sb_rulebook.specs.Brought.{newest_format}
-use Rattle.sb_rulebook.specs.Lines.{text_of, header_line, end_line}
-use Rattle.sb_rulebook.specs.LineLaws.{bytes_of}
-use Rattle.sb_proof.specs.Tapes.{with_bytes}
 use Rattle.sb_stack.specs.declared.verdict.Verdict as code
 use Rattle.sb_stack.specs.declared.verdict.Verdict.TheVariants as verdict
 use Rattle.sb_session.proofs.WritingLemmas.{one_written, one_cut, none_cut, lines_written, lines_cut, behind_lines, cut_in_lines, cut_behind_lines}
 
 abreast_of : (s : SessionState) (proving : Proving) (p : Progress) → s.proof ≡ Some proving → IsTracked s p
-    → IsAbreast s.arena s.memo proving p
+    → IsAbreast s.store proving p
 abreast_of s proving p e h = subst (λ (proof : Option Proving). IsTracked (record s { proof = proof }) p) e h
 
 tracked_by : (s : SessionState) (proving : Proving) (p : Progress) → s.proof ≡ Some proving
-    → IsAbreast s.arena s.memo proving p → IsTracked s p
+    → IsAbreast s.store proving p → IsTracked s p
 tracked_by s proving p e h = subst (λ (proof : Option Proving). IsTracked (record s { proof = proof }) p) (sym e) h
 
 pub ok_map : {T E : Type 0} {P Q : T → Type 0} (r : Result T E) → ((x : T) → P x → Q x) → IfOk r P → IfOk r Q
@@ -32,7 +24,7 @@ is_kind false proving = refl
 
 -- where a proof is written, it has come so far
 pub tracked_if : (s : SessionState) (proved : Bool) (proving : Proving) (p : Progress)
-    → s.proof ≡ proof_of proved proving → IsAbreast s.arena s.memo proving p → IsTracked s p
+    → s.proof ≡ proof_of proved proving → IsAbreast s.store proving p → IsTracked s p
 tracked_if s false proving p e h = subst (λ (o : Option Proving). IsTracked (record s { proof = o }) p) (sym e) tt
 tracked_if s true proving p e h = tracked_by s proving p e h
 
@@ -73,7 +65,7 @@ told_behind empty told lines start e =
 
 -- what the prover promises of the last lines
 abbrev pub Finishes : Proving → List ℕ → List ℕ → Type 0
-Finishes proving empty told = (rs : List Regex) (memo : Memo) (p : Progress) → IsAbreast rs memo proving p
+Finishes proving empty told = (store : Store) (p : Progress) → IsAbreast store proving p
     → Some told ≡ with_bytes (last_lines p) (Some empty)
 
 pub end_written : (s : SessionState) (proving : Proving) (p : Progress) (empty told bytes : List ℕ) (old new : Outside)
@@ -81,7 +73,7 @@ pub end_written : (s : SessionState) (proving : Proving) (p : Progress) (empty t
     → new ≡ write_at out_port.Proof bytes old → new ≡ moved_by (writing_all (end_writes (is_proved s) p)) old
 end_written s proving p empty told bytes old new e tracked start same tells written =
     let is = same ∙ told_behind empty told (last_lines p) start
-    (tells s.arena s.memo p (abreast_of s proving p e tracked)) in
+    (tells s.store p (abreast_of s proving p e tracked)) in
     subst (λ (b : Bool). new ≡ moved_by (writing_all (end_writes b p)) old) (sym (ap is_some e))
     (one_written out_port.Proof (last_lines p) old new
     (written ∙ ap (λ (x : List ℕ). write_at out_port.Proof x old) is))
@@ -93,7 +85,7 @@ pub end_cut_short : (s : SessionState) (proving : Proving) (p : Progress) (empty
     → CutOf (end_writes (is_proved s) p) old new
 end_cut_short s proving p empty told bytes old new e tracked start same tells cut =
     let is = same ∙ told_behind empty told (last_lines p) start
-    (tells s.arena s.memo p (abreast_of s proving p e tracked)) in
+    (tells s.store p (abreast_of s proving p e tracked)) in
     subst (λ (b : Bool). CutOf (end_writes b p) old new) (sym (ap is_some e))
     (one_cut out_port.Proof (last_lines p) old new
     (subst (λ (x : List ℕ). (out : ℕ) × (out < length x) × (new ≡ write_at out_port.Proof (take out x) old)) is cut))
@@ -103,8 +95,8 @@ end_cut_short s proving p empty told bytes old new e tracked start same tells cu
 module _ (st : Stacked) (old new : Decider) (before after : Proving) (v : Verdict) (p : Progress)
     (empty told bytes : List ℕ) (o o' : Outside) (start : empty ≡ []) (same : bytes ≡ told)
     (is : IsVerdict (state_of st) [] v)
-    (proves : (q : Progress) → IsAbreast old.arena old.graph.memo before q
-    → IsProved (question_in (state_of st) []) v q new.arena new.graph.memo after (Some empty) (Some told)) where
+    (proves : (q : Progress) → IsAbreast old.store before q
+    → IsProved (question_in (state_of st) []) v q new.store after (Some empty) (Some told)) where
   pub check_proved : (proved : Bool) → proved ≡ true → o' ≡ write_at out_port.Proof bytes o
       → IsTracked (session_of st old (proof_of proved before)) p
       → ProvesCheck (state_of st) v p (is_some (proof_of proved before)) (session_of st new (proof_of proved after)) o
@@ -156,15 +148,15 @@ settled_of_same is_unknown s t e = ap (settled is_unknown) e
 settled_of_same is_outside s t e = ap (settled is_outside) e
 
 -- what is known of the proof stays where more is derived
-pub tracked_stays : AbreastStays → (session after : SessionState) (p : Progress) → after.proof ≡ session.proof
-    → Extends session.arena after.arena → KeepsEntries session.memo after.memo → IsTracked session p → IsTracked after p
-tracked_stays stays session after p same grows keeps h = by_proof session.proof same h
+pub tracked_stays : AbreastStays → (ts : List Term) (session after : SessionState) (p : Progress)
+    → after.proof ≡ session.proof → Grows ts session.store after.store → IsTracked session p → IsTracked after p
+tracked_stays stays ts session after p same grows h = by_proof session.proof same h
   where
     by_proof : (proof : Option Proving) → after.proof ≡ proof
         → IsTracked (record session { proof = proof }) p → IsTracked after p
     by_proof None e h = subst (λ (o : Option Proving). IsTracked (record after { proof = o }) p) (sym e) tt
     by_proof (Some proving) e h =
-        tracked_by after proving p e (stays session.arena after.arena session.memo after.memo proving p grows keeps h)
+        tracked_by after proving p e (stays ts session.store after.store proving p grows h)
 
 module _ (p : Progress) (session proven after : SessionState) (v : Verdict) where
   -- the check is answered
@@ -226,15 +218,15 @@ text_of_rest v old new e = ap (λ (s : Stacked). verdict_text (verdict_in (live_
 
 -- What holds goes on to hold behind a check, since the state is the same but for its mode.
 pub held_found : (v : code.Verdict) (old new : Stacked) (kept : Decider) (proving : Proving)
-    → without_words new ≡ without_words old → Knows kept (found v new) → HasRegexes kept.arena proving
-    → HasLevels (state_of old) proving → IsFit (state_of old) → HasTrue (state_of old) kept proving
+    → without_words new ≡ without_words old → Knows kept (found v new) → HasRegexes kept.store proving
+    → HasLevels (state_of old) proving → IsFit (state_of old) → HasTrue (state_of old) kept.store proving
     → Holds (found v new) kept proving
 held_found v old new kept proving rest knows regexes levels fit sound = record {
   knows = knows;
   regexes = regexes;
   levels = subst (λ (t : State). HasLevels t proving) same levels;
   fit = subst (λ (t : State). IsFit t) same fit;
-  sound = subst (λ (t : State). HasTrue t kept proving) same sound;
+  sound = subst (λ (t : State). HasTrue t kept.store proving) same sound;
 }
   where
     of : (v : code.Verdict) → record (state_of new) { mode = plain } ≡ record (state_of (found v new)) { mode = plain }

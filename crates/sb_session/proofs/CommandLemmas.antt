@@ -1,13 +1,7 @@
 -- What the steps of the state make of an entry that is answered.
-use Rattle.std.proofs.Common.{◌≡◌, ◌⊎◌, ℕ, ◌<◌, Bool, true, false, if◌then◌else◌, List, [], ◌∷◌, length, take, Option, None, Some, Result, Ok, refl, sym, ap, ◌∙◌, inl, inr, subst}
-use Rattle.std.specs.declared.vec.Vec.{Vec}
-use Rattle.std.specs.declared.alloc.Global.{Global}
-use Rattle.sb_session.proofs.Words.{Answering, Answers, AnswersCheck, AnswersEntry, CutCheck, CutOrNot, CutReply, Entry, Event, Finding, Finds, FindsProved, FindsUnproved, IsMoved, IsReply, IsStep, IsTracked, Outside, Progress, SessionState, State, Verdict, Went, behind, event_of_leaving, events_of, is_proved, leaving, leaving_in, progress_by, settled, state_of, step_of, verdict_text, went_of, with_lines, write_at}
+use Rattle.sb_session.proofs.Words.{◌≡◌, ◌⊎◌, ℕ, ◌<◌, Bool, true, false, if◌then◌else◌, List, [], ◌∷◌, length, take, Option, None, Some, Result, Ok, refl, sym, ap, ◌∙◌, inl, inr, subst, Vec, Global, Answering, Answers, AnswersCheck, AnswersEntry, CutCheck, CutOrNot, CutReply, Entry, Event, Finding, Finds, FindsProved, FindsUnproved, IsMoved, IsReply, IsStep, IsTracked, Outside, Progress, SessionState, State, Verdict, Went, behind, event_of_leaving, events_of, is_proved, leaving, leaving_in, progress_by, settled, state_of, step_of, verdict_text, went_of, with_lines, write_at, is_exits, entry_exits, Assertion, Step}
 use Rattle.sb_world.specs.declared.OutPort.TheVariants as out_port
 use Rattle.sb_script.specs.Steps as meaning
-use Rattle.sb_sound.proofs.CallerLemmas.{is_exits, entry_exits}
-use Rattle.sb_term.specs.declared.assertion.Assertion.{Assertion}
-use Rattle.sb_stack.specs.declared.stack.Step.{Step}
 use Rattle.sb_stack.specs.declared.stack.Step.TheVariants as code
 use Rattle.sb_session.specs.declared.command.Went.TheVariants.{Go, Exited}
 use Rattle.sb_session.proofs.WritingLemmas.{one_written, one_cut}

@@ -1,8 +1,6 @@
 -- All of the script is read.
-use Rattle.std.proofs.Common.{◌≡◌, ◌≤◌, ℕ, Bool, true, if◌then◌else◌, List, [], ◌∷◌, ◌++◌, length, drop, Option, Some, None, IfSome, append_assoc, refl, sym, ap, ◌∙◌, subst, inl, inr, arith}
-use Rattle.sb_session.proofs.Words.{AllAnswered, AllRead, Answered, AnsweredToTheExit, AnsweredUnfinished, Asked, Begins, Cut, CutOf, CutShort, Entry, HoldsNoEntry, IsAll, IsFront, IsProperFront, IsRead, IsTracked, NoneLeft, Outside, Pause, Pauses, Progress, Run, SessionState, Sofar, UpToExit, Write, append-nil, asks_proof, beginning_stays, drop-length, end_writes, false≢true, is_clean, is_open_gap, is_proved, moved_by, opened, same_end, same_none, state_of, unfinished_line, unfinished_writes, work, write_at, writing_all}
+use Rattle.sb_session.proofs.Words.{◌≡◌, ◌≤◌, ℕ, Bool, true, if◌then◌else◌, List, [], ◌∷◌, ◌++◌, length, drop, Option, Some, None, IfSome, append_assoc, refl, sym, ap, ◌∙◌, subst, inl, inr, arith, AllAnswered, AllRead, Answered, AnsweredToTheExit, AnsweredUnfinished, Asked, Begins, Cut, CutOf, CutShort, Entry, HoldsNoEntry, IsAll, IsFront, IsProperFront, IsRead, IsTracked, NoneLeft, Outside, Pause, Pauses, Progress, Run, SessionState, Sofar, UpToExit, Write, append-nil, asks_proof, beginning_stays, drop-length, end_writes, false≢true, is_clean, is_open_gap, is_proved, moved_by, opened, same_end, same_none, state_of, unfinished_line, unfinished_writes, work, write_at, writing_all, Ending}
 use Rattle.sb_world.specs.declared.OutPort.TheVariants as out_port
-use Rattle.sb_reader.specs.declared.feed.Ending.{Ending}
 use Rattle.sb_reader.specs.declared.feed.Ending.TheVariants.{Clean, Unfinished}
 use Rattle.sb_reader.specs.Feeding as feed
 use Rattle.sb_session.specs.declared.solve.Pause.TheVariants.{Exited, Waiting, Ended}

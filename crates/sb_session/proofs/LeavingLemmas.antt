@@ -1,15 +1,6 @@
 -- Where levels are left, what is known of the proof goes along.
-use Rattle.std.proofs.Common.{◌≡◌, ◌≤◌, ℕ, Bool, true, false, List, [], ◌∷◌, ◌++◌, length, take, Option, Some, None, is_some, IfSome, refl, sym, ap, ◌∙◌, subst}
-use Rattle.sb_session.proofs.Words.{AreLow, GoesDown, HasLevels, HasRegexes, HaveLevels, Holds, IsAbreast, IsFit, IsTracked, LeavesProof, LevelsStay, Memo, Phase, Progress, Proving, Regex, SessionState, Stacked, State, Term, asked_in, assertion_in, at_check, at_end, at_rest, behind, behind_end, is_proved, leaving, length-map, live, met, progress_by, proof_of, state_of, stopped}
+use Rattle.sb_session.proofs.Words.{◌≡◌, ◌≤◌, ℕ, Bool, true, false, List, [], ◌∷◌, ◌++◌, length, take, Option, Some, None, is_some, IfSome, refl, sym, ap, ◌∙◌, subst, AreLow, GoesDown, HasLevels, HasRegexes, HasTrue, HaveLevels, Holds, IsAbreast, IsFit, IsTracked, LeavesProof, LevelsStay, Phase, Progress, Proving, SessionState, Stacked, State, Store, Term, asked_in, assertion_in, at_check, at_end, at_rest, behind, behind_end, is_proved, leaving, length-map, live, met, progress_by, proof_of, state_of, stopped, HaveRegexesBelow, Continues, KnowsStays, Decider, TrueGoesOn, IsLonger, live_laid}
 use Rattle.sb_term.specs.Numbered as table
-use Rattle.sb_atoms.specs.Numbered.{HaveRegexesBelow}
-use Rattle.sb_sound.specs.SoundLaws.{Continues}
-use Rattle.sb_decide.specs.Laws.{KnowsStays}
-use Rattle.sb_decide.specs.declared.decide.Decider.{Decider}
-use Rattle.sb_prover.specs.Proving.{TrueGoesOn}
-use Rattle.sb_solve.specs.Truth.{IsTrue}
-use Rattle.sb_stack.specs.Stacked.{IsLonger}
-use Rattle.sb_stack.proofs.CallerLemmas.{live_laid}
 
 -- no level is left
 pub held_on : KnowsStays → LevelsStay → TrueGoesOn → (old new : Stacked) (kept : Decider) (proving : Proving)
@@ -24,8 +15,7 @@ held_on knows levels on old new kept proving terms longer words sorts grows fits
   levels = subst (λ (live : List (Option Term × ℕ)). HaveLevels live proving.evidence) (sym grows.1)
       (levels (asked_in (state_of old)).live grows.0 proving.evidence h.levels);
   fit = fits.0;
-  sound = on (asked_in (state_of old)) (asked_in (state_of new)) kept.arena kept.graph.memo proving.evidence fits.1
-      h.sound;
+  sound = on (asked_in (state_of old)) (asked_in (state_of new)) kept.store proving.evidence fits.1 h.sound;
 }
 
 -- so many assertions are live
@@ -62,46 +52,43 @@ module _ (level : Option ℕ) (count : ℕ) (old new : State)
   low_front (Some n) h = subst (AreLow n) (sym same_front) h
 
   -- what the evidence knows is true of what stays
-  pub sound_left : (rs more : List Regex) (memo memos : Memo) (before after : Proving) → more ≡ rs → memos ≡ memo
-      → LeavesProof level count before after → GoesDown level (asked_in old) (asked_in new) → HasLevels old before
-      → IsTrue (asked_in old) rs memo before.evidence → IsTrue (asked_in new) more memos after.evidence
-  sound_left rs more memo memos before after same_rs same_memo along goes levels sound =
-      subst (λ (x : List Regex). IsTrue (asked_in new) x memos after.evidence) (sym same_rs)
-      (subst (λ (x : Memo). IsTrue (asked_in new) rs x after.evidence) (sym same_memo)
-      (along.sound rs memo (asked_in old) (asked_in new) goes levels (low_front level low) sound))
+  pub sound_left : (x y : Store) (before after : Proving) → y ≡ x → LeavesProof level count before after
+      → GoesDown level (asked_in old) (asked_in new) → HasLevels old before → HasTrue old x before
+      → HasTrue new y after
+  sound_left x y before after same along goes levels sound =
+      subst (λ (z : Store). HasTrue new z after) (sym same)
+      (along.sound x (asked_in old) (asked_in new) goes levels (low_front level low) sound)
 
-  pub abreast_left : (rs : List Regex) (memo : Memo) (before after : Proving) → LeavesProof level count before after
-      → HaveLevels (asked_in old).live before.evidence → (p : Progress) → IsAbreast rs memo before p
-      → IsAbreast rs memo after (behind (leaving level ∷ []) p)
-  abreast_left rs memo before after along h p abreast =
-      subst (IsAbreast rs memo after) (sym (met_at_rest level p.phase p refl abreast.rests))
-      (along.left rs memo (asked_in old).live p abreast h (low_front level low))
+  pub abreast_left : (x : Store) (before after : Proving) → LeavesProof level count before after
+      → HaveLevels (asked_in old).live before.evidence → (p : Progress) → IsAbreast x before p
+      → IsAbreast x after (behind (leaving level ∷ []) p)
+  abreast_left x before after along h p abreast =
+      subst (IsAbreast x after) (sym (met_at_rest level p.phase p refl abreast.rests))
+      (along.left x (asked_in old).live p abreast h (low_front level low))
 
 -- the atoms of the evidence stay
-pub regexes_left : (level : Option ℕ) (count : ℕ) (rs more : List Regex) (before after : Proving)
-    → more ≡ rs → LeavesProof level count before after → HasRegexes rs before → HasRegexes more after
-regexes_left level count rs more before after same along h =
-    subst (λ (xs : List Regex). HaveRegexesBelow (length xs) after.evidence.atoms) (sym same)
-    (rw along.atoms h)
+pub regexes_left : (level : Option ℕ) (count : ℕ) (x y : Store) (before after : Proving) → y ≡ x
+    → LeavesProof level count before after → HasRegexes x before → HasRegexes y after
+regexes_left level count x y before after same along h =
+    subst (λ (z : Store). HaveRegexesBelow (length z.arena) after.evidence.atoms) (sym same) (rw along.atoms h)
 
 -- the proof has come so far as is known of it
 pub tracked_left : (level : Option ℕ) (count : ℕ) (session after : SessionState) (proved : Bool) (before left : Proving)
     → session.proof ≡ proof_of proved before → after.proof ≡ proof_of proved left
     → (asked_in (state_of after.stack)).live ≡ take (length (live (state_of after.stack)))
     (asked_in (state_of session.stack)).live → IfSome level (λ n. AreLow n (asked_in (state_of after.stack)).live)
-    → count ≡ length (live (state_of after.stack)) → after.arena ≡ session.arena → after.memo ≡ session.memo
+    → count ≡ length (live (state_of after.stack)) → after.store ≡ session.store
     → LeavesProof level count before left → HasLevels (state_of session.stack) before → (p : Progress)
     → IsTracked session p → IsTracked after (progress_by (is_proved session) (leaving level ∷ []) p)
-tracked_left level count session after false before left is now front low here regexes memos along h p tracked =
+tracked_left level count session after false before left is now front low here same along h p tracked =
     subst (λ (o : Option Proving). IsTracked (record after { proof = o })
     (progress_by (is_proved session) (leaving level ∷ []) p)) (sym now) tt
-tracked_left level count session after true before left is now front low here regexes memos along h p tracked =
+tracked_left level count session after true before left is now front low here same along h p tracked =
     let goes : Progress = behind (leaving level ∷ []) p in
-    let was : IsAbreast session.arena session.memo before p =
+    let was : IsAbreast session.store before p =
     subst (λ (o : Option Proving). IsTracked (record session { proof = o }) p) is tracked in
     let abreast = abreast_left level count (state_of session.stack) (state_of after.stack) front low here
-    session.arena session.memo before left along h p was in
+    session.store before left along h p was in
     subst (λ (b : Bool). IsTracked after (progress_by b (leaving level ∷ []) p)) (sym (ap is_some is))
     (subst (λ (o : Option Proving). IsTracked (record after { proof = o }) goes) (sym now)
-    (subst (λ (rs : List Regex). IsAbreast rs after.memo left goes) (sym regexes)
-    (subst (λ (memo : Memo). IsAbreast session.arena memo left goes) (sym memos) abreast)))
+    (subst (λ (x : Store). IsAbreast x left goes) (sym same) abreast))

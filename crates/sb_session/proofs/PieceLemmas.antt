@@ -1,6 +1,5 @@
 -- A piece of the script is read.
-use Rattle.std.proofs.Common.{arith, ◌+◌, ◌≡◌, ℕ, Bool, false, List, ◌++◌, length, length-append, refl, sym, ap, ◌∙◌, subst, inl}
-use Rattle.sb_session.proofs.Words.{Begins, Cut, Outside, SessionState, Sofar, Write, beginning_stays, is_proved, moved_by, read_at, shortens_before, work}
+use Rattle.sb_session.proofs.Words.{arith, ◌+◌, ◌≡◌, ℕ, Bool, false, List, ◌++◌, length, length-append, refl, sym, ap, ◌∙◌, subst, inl, Begins, Cut, Outside, SessionState, Sofar, Write, beginning_stays, is_proved, moved_by, read_at, shortens_before, work}
 use Rattle.sb_world.specs.declared.InPort.TheVariants as in_port
 use Rattle.sb_reader.specs.Feeding as feed
 use Rattle.sb_session.proofs.ReadingLemmas.{cut_between}

@@ -1,6 +1,5 @@
 -- Reading on and answering on: what each step makes of what was read and answered.
-use Rattle.std.proofs.Common.{◌≡◌, ◌⊎◌, ℕ, Bool, true, false, if◌then◌else◌, List, [], ◌∷◌, ◌++◌, length, append_assoc, refl, sym, ap, ◌∙◌, inl, inr, subst}
-use Rattle.sb_session.proofs.Words.{Along, Answered, Answers, AnswersEntry, Begins, Cut, CutBetween, CutOrNot, CutReply, Entry, GoesOn, HoldsNoEntry, IsTracked, NoneLeft, Outside, SessionState, Sofar, Takes, UpToExit, Waits, append-nil, beginning_grows, beginnings, end_writes, is_exit, is_open_gap, is_proved, same_entry, shortens_to_itself, shortens_twice, state_of}
+use Rattle.sb_session.proofs.Words.{◌≡◌, ◌⊎◌, ℕ, Bool, true, false, if◌then◌else◌, List, [], ◌∷◌, ◌++◌, length, append_assoc, refl, sym, ap, ◌∙◌, inl, inr, subst, Along, Answered, Answers, AnswersEntry, Begins, Cut, CutBetween, CutOrNot, CutReply, Entry, GoesOn, HoldsNoEntry, IsTracked, NoneLeft, Outside, SessionState, Sofar, Takes, UpToExit, Waits, append-nil, beginning_grows, beginnings, end_writes, is_exit, is_open_gap, is_proved, same_entry, shortens_to_itself, shortens_twice, state_of}
 use Rattle.sb_reader.specs.Feeding as feed
 use Rattle.sb_session.proofs.WritingLemmas.{writes_on, front-longer}
 

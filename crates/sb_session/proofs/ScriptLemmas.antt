@@ -1,6 +1,5 @@
 -- A script is read piece by piece, and answered.
-use Rattle.std.proofs.Common.{◌≡◌, ◌+◌, ◌<◌, ◌≤◌, ℕ, Bool, false, List, [], ◌++◌, length, take, drop, Option, Some, None, option_map, IfSome, append_assoc, length-append, refl, sym, ap, ◌∙◌, subst, inl, inr}
-use Rattle.sb_session.proofs.Words.{AllAnswered, AllRead, Asked, Cut, CutInScript, CutShort, HoldsNoEntry, IsFront, IsTracked, Moved, Outside, PastLimit, Pause, Pauses, ReadsFront, Run, SessionState, Sofar, State, StaysOpen, Underway, append-nil, asks_proof, beginning, beginnings, drop-drop, false≢true, is_proved, length-take-le, moved_by, moved_by-nothing, opened, read_at, read_at-moves, reading-zero, shortens_to_itself, state_of, take-append-drop, take-append-le}
+use Rattle.sb_session.proofs.Words.{◌≡◌, ◌+◌, ◌<◌, ◌≤◌, ℕ, Bool, false, List, [], ◌++◌, length, take, drop, Option, Some, None, option_map, IfSome, append_assoc, length-append, refl, sym, ap, ◌∙◌, subst, inl, inr, AllAnswered, AllRead, Asked, Cut, CutInScript, CutShort, HoldsNoEntry, IsFront, IsTracked, Moved, Outside, PastLimit, Pause, Pauses, ReadsFront, Run, SessionState, Sofar, State, StaysOpen, Underway, append-nil, asks_proof, beginning, beginnings, drop-drop, false≢true, is_proved, length-take-le, moved_by, moved_by-nothing, opened, read_at, read_at-moves, reading-zero, shortens_to_itself, state_of, take-append-drop, take-append-le}
 use Rattle.sb_world.specs.declared.InPort.TheVariants as in_port
 use Rattle.sb_reader.specs.Feeding as feed
 use Rattle.sb_script.specs.State as meaning

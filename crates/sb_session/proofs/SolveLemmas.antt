@@ -1,5 +1,5 @@
 -- From the outcome of a run to its status.
-use Rattle.std.proofs.Common.{◌≡◌, ◌+◌, ◌<◌, ◌≤◌, ◌^◌, ◌⊎◌, ℕ, Bool, true, false, List, [], ◌∷◌, ◌++◌, length, take, drop, Option, Some, None, IfSome, Result, Ok, Err, IfOk, OnErr, append_assoc, length-append, refl, sym, ap, ◌∙◌, subst, inl, inr, arith}
+use Rattle.std.proofs.Common.{◌≡◌, ◌+◌, ◌<◌, ◌≤◌, ◌⊎◌, ℕ, Bool, true, false, List, [], ◌∷◌, ◌++◌, length, take, drop, Option, Some, None, IfSome, Result, Ok, Err, IfOk, OnErr, append_assoc, length-append, refl, sym, ap, ◌∙◌, subst, inl, inr, arith}
 use Rattle.sb_session.proofs.Words.{Along, Asked, Begins, CountsFaults, CountsSessionFault, CutShort, Entry, GoesOn, IsBounded, Outside, PastLimit, Rose, Run, SessionFault, SolveStatus, Stage, Write, asks_proof, beginning_is_first, beginning_stays, beginnings, created, false≢true, is_exit, open_at, opened, source_of, status_by, take-append-drop, take-append-le, take-append_seam}
 use Rattle.sb_world.specs.declared.InPort.TheVariants as in_port
 use Rattle.sb_session.specs.declared.command.SessionFault.TheVariants as fault
@@ -22,12 +22,12 @@ counts_by P (Err fault.Ended) f g ok faults = faults
 
 -- a run from the outside that is opened is one from before
 pub run_from : (asked : Asked) (proved : Bool) (r : Result SolveStatus SessionFault) (old from now : Outside)
-    (f g h : ℕ) → asked.limit ≡ 2 ^ 32 → proved ≡ asks_proof asked → from ≡ opened asked old → g ≡ f
-    → IfOk r (λ s. (a : Asked) (o : Outside) → a.limit ≡ 2 ^ 32 → proved ≡ asks_proof a → from ≡ opened a o
+    (limit f g h : ℕ) → asked.limit ≡ limit → proved ≡ asks_proof asked → from ≡ opened asked old → g ≡ f
+    → IfOk r (λ s. (a : Asked) (o : Outside) → a.limit ≡ limit → proved ≡ asks_proof a → from ≡ opened a o
     → Run a s o now)
     → IfOk r (λ s. CountsFaults s g h) → IfOk r (λ s. Run asked s old now × CountsFaults s f h)
-run_from asked proved (Err _) old from now f g h l k e same run counts = tt
-run_from asked proved (Ok s) old from now f g h l k e same run counts =
+run_from asked proved (Err _) old from now limit f g h l k e same run counts = tt
+run_from asked proved (Ok s) old from now limit f g h l k e same run counts =
     (run asked old l k e, subst (λ (n : ℕ). CountsFaults s n h) same counts)
 
 -- None of the entries that are answered is (exit).

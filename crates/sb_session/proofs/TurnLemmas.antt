@@ -1,7 +1,5 @@
 -- What becomes of what came next.
-use Rattle.std.proofs.Common.{◌≡◌, Bool, true, false, if◌then◌else◌, List, ℕ, sym, ◌∙◌, refl}
-use Rattle.sb_session.proofs.Words.{Cut, Fails, Goes, IsEntry, Outside, Pauses, SessionFault, SessionState, Sofar, Takes, Went, entry_of, false≢true, is_exit, is_proved}
-use Rattle.sb_reader.specs.declared.feed.Next.{Next}
+use Rattle.sb_session.proofs.Words.{◌≡◌, Bool, true, false, if◌then◌else◌, List, ℕ, sym, ◌∙◌, refl, Cut, Fails, Goes, IsEntry, Outside, Pauses, SessionFault, SessionState, Sofar, Takes, Went, entry_of, false≢true, is_exit, is_proved, Next}
 use Rattle.sb_reader.specs.declared.feed.Next.TheVariants as next
 use Rattle.sb_reader.specs.Feeding as feed
 use Rattle.sb_session.specs.declared.command.Went.TheVariants.{Go, Exited}

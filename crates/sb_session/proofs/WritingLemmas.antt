@@ -1,8 +1,6 @@
 -- What is written: one piece, or pieces one after another.
-use Rattle.std.proofs.Common.{◌≡◌, ℕ, ◌<◌, List, [], ◌∷◌, ◌++◌, length, ◌+◌, take, arith, refl, sym, ap, subst, ◌∙◌, inl, inr}
-use Rattle.sb_session.proofs.Words.{CutOf, IsProperFront, Moved, Outside, Write, both, both-assoc, moved_by, moved_by-both, moved_by-nothing, read_at, read_at-moves, reading, reading-add, reading_first, with_lines, work, write_at, write_at-moves, writing_all, writing_all-append, writing_all-one}
+use Rattle.sb_session.proofs.Words.{◌≡◌, ℕ, ◌<◌, List, [], ◌∷◌, ◌++◌, length, ◌+◌, take, arith, refl, sym, ap, subst, ◌∙◌, inl, inr, CutOf, IsProperFront, Moved, Outside, Write, both, both-assoc, moved_by, moved_by-both, moved_by-nothing, read_at, read_at-moves, reading, reading-add, reading_first, with_lines, work, write_at, write_at-moves, writing_all, writing_all-append, writing_all-one, OutPort}
 use Rattle.sb_world.specs.declared.InPort.TheVariants as in_port
-use Rattle.sb_world.specs.declared.OutPort.{OutPort}
 use Rattle.sb_world.specs.declared.OutPort.TheVariants as out_port
 
 pub one_written : (port : OutPort) (bytes : List ℕ) (old new : Outside) → new ≡ write_at port bytes old

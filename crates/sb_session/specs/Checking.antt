@@ -1,7 +1,5 @@
 -- Private: what answering a check does.
 use Rattle.std.specs.Prelude.{◌≡◌, ℕ, Bool, true, false, List, [], ◌∷◌, length, take, Option, IfSome}
-use Rattle.sb_lang.specs.Regex.{Regex}
-use Rattle.sb_deriv.specs.Faithful.{Memo}
 use Rattle.sb_world.specs.Outside.{Outside}
 use Rattle.sb_world.specs.Moved.{moved_by, writing_all}
 use Rattle.sb_world.specs.declared.OutPort.TheVariants as out_port
@@ -21,44 +19,44 @@ use Rattle.sb_decide.specs.declared.decide.Decider.{Decider}
 use Rattle.sb_decide.specs.Knowing.{Knows}
 use Rattle.sb_atoms.specs.Numbered.{HaveRegexesBelow}
 use Rattle.sb_solve.specs.Truth.{IsTrue}
+use Rattle.sb_store.specs.declared.store.Store.{Store}
 use Rattle.sb_session.specs.Commanding.{SessionState, is_proved, IsTracked, with_lines, CutOf}
 
 -- a session that has not ended, by its parts
 abbrev pub session_of : Stacked → Decider → Option Proving → SessionState
-session_of stack decider proof =
-    record { stack = stack; arena = decider.arena; memo = decider.graph.memo; proof = proof; ended = false }
+session_of stack decider proof = record { stack = stack; store = decider.store; proof = proof; ended = false }
 
 -- the atoms of the evidence speak of regexes that are there
-abbrev pub HasRegexes : List Regex → Proving → Type 0
-HasRegexes rs proving = HaveRegexesBelow (length rs) proving.evidence.atoms
+abbrev pub HasRegexes : Store → Proving → Type 0
+HasRegexes store proving = HaveRegexesBelow (length store.arena) proving.evidence.atoms
 
 -- each clause of an assertion in the evidence is of the level of the live assertion at its place
 abbrev pub HasLevels : State → Proving → Type 0
 HasLevels s proving = HaveLevels (asked_in s).live proving.evidence
 
 -- what the evidence knows is true of the live assertions
-abbrev pub HasTrue : State → Decider → Proving → Type 0
-HasTrue s decider proving = IsTrue (asked_in s) decider.arena decider.graph.memo proving.evidence
+abbrev pub HasTrue : State → Store → Proving → Type 0
+HasTrue s store proving = IsTrue (asked_in s) store.arena store.graph.memo proving.evidence
 
 -- What is known while a session goes on: of the live assertions, that they fit, and of the evidence.
 pub record Holds (stack : Stacked) (decider : Decider) (proving : Proving) : Type 0 where
   pub knows : Knows decider stack
-  pub regexes : HasRegexes decider.arena proving
+  pub regexes : HasRegexes decider.store proving
   pub levels : HasLevels (state_of stack) proving
   pub fit : IsFit (state_of stack)
-  pub sound : HasTrue (state_of stack) decider proving
+  pub sound : HasTrue (state_of stack) decider.store proving
 
 -- Where levels are left and so many assertions stay, what the prover knows goes along.
 pub record LeavesProof (level : Option ℕ) (count : ℕ) (old new : Proving) : Type 0 where
-  pub left : (rs : List Regex) (memo : Memo) (live : List (Option Term × ℕ)) (p : Progress) → IsAbreast rs memo old p
+  pub left : (store : Store) (live : List (Option Term × ℕ)) (p : Progress) → IsAbreast store old p
       → HaveLevels live old.evidence → IfSome level (λ n. AreLow n (take count live))
-      → IsAbreast rs memo new (met (leaving level) p)
+      → IsAbreast store new (met (leaving level) p)
   pub levels : (live : List (Option Term × ℕ)) → HaveLevels live old.evidence
       → HaveLevels (take count live) new.evidence
   pub atoms : new.evidence.atoms ≡ old.evidence.atoms
-  pub sound : (rs : List Regex) (memo : Memo) (before now : Asked) → GoesDown level before now
+  pub sound : (store : Store) (before now : Asked) → GoesDown level before now
       → HaveLevels before.live old.evidence → IfSome level (λ n. AreLow n (take count before.live))
-      → IsTrue before rs memo old.evidence → IsTrue now rs memo new.evidence
+      → IsTrue before store.arena store.graph.memo old.evidence → IsTrue now store.arena store.graph.memo new.evidence
 
 -- how far the proof comes behind the events of an entry that is no check, where one is written
 abbrev pub progress_by : Bool → List Event → Progress → Progress

@@ -1,7 +1,5 @@
 -- What answering an entry does.
 use Rattle.std.specs.Prelude.{◌≡◌, ℕ, Bool, true, false, if◌then◌else◌, List, [], ◌∷◌, ◌⊎◌, Option, Some, None, is_some, Result, Ok, Err}
-use Rattle.sb_lang.specs.Regex.{Regex}
-use Rattle.sb_deriv.specs.Faithful.{Memo}
 use Rattle.sb_world.specs.Outside.{Outside, Rose}
 use Rattle.sb_world.specs.Moved.{Write, moved_by, writing_all, IsProperFront}
 use Rattle.sb_world.specs.declared.OutPort.TheVariants as out_port
@@ -16,6 +14,7 @@ use Rattle.sb_sound.specs.Certified.{Certifies}
 use Rattle.sb_prover.specs.Proving.{Proving, IsAbreast}
 use Rattle.sb_stack.specs.Stacked as stack
 use Rattle.sb_stack.specs.Stacked.{state_of}
+use Rattle.sb_store.specs.declared.store.Store.{Store}
 use Rattle.sb_session.specs.declared.command.Went.{Went}
 use Rattle.sb_session.specs.declared.command.Went.TheVariants.{Go, Exited}
 use Rattle.sb_session.specs.declared.command.SessionFault.{SessionFault}
@@ -23,9 +22,8 @@ use Rattle.sb_session.specs.declared.command.SessionFault.TheVariants as fault
 
 pub record SessionState : Type 0 where
   pub stack : stack.Stacked
-  -- the regexes that were met, and their derivatives
-  pub arena : List Regex
-  pub memo : Memo
+  -- what is known of regexes and terms
+  pub store : Store
   -- what is known of the proof, where one is written
   pub proof : Option Proving
   -- an earlier entry ended the run, or was not answered
@@ -46,7 +44,7 @@ is_proved s = is_some s.proof
 
 -- The proof has come so far as the session knows.
 abbrev pub IsTracked : SessionState → Progress → Type 0
-IsTracked s p = elim s.proof [ Some proving ↦ IsAbreast s.arena s.memo proving p | None ↦ Unit {0} ]
+IsTracked s p = elim s.proof [ Some proving ↦ IsAbreast s.store proving p | None ↦ Unit {0} ]
 
 -- An entry has a reply that it may have, which leads from a stage to another: with the lines of its proof, or without.
 abbrev pub Answering : Bool → Stage → Entry → List ℕ → List ℕ → Option Verdict → Stage → Type 0

@@ -1,5 +1,5 @@
 -- What a run of the solver does outside, by its status.
-use Rattle.std.specs.Prelude.{◌≡◌, ℕ, ◌^◌, ◌<◌, ◌≤◌, Bool, true, false, List, [], ◌∷◌, ◌++◌, ◌⊎◌, length, Option, None, Some, is_some}
+use Rattle.std.specs.Prelude.{◌≡◌, ℕ, ◌<◌, ◌≤◌, Bool, true, false, List, [], ◌∷◌, ◌++◌, ◌⊎◌, length, Option, None, Some, is_some}
 use Rattle.sb_world.specs.Outside.{Outside, open_at, create_at, source_of, Rose}
 use Rattle.sb_world.specs.Moved.{moved_by, writing, writing_all}
 use Rattle.sb_world.specs.declared.InPort.TheVariants as in_port
@@ -24,12 +24,12 @@ pub record Asked : Type 0 where
   pub limit : ℕ
 
 -- what is asked by the names of a script and of a proof
-abbrev pub asked_for : Option (List ℕ) → Option (List ℕ) → Asked
-asked_for script proof = record { script = script; proof = proof; limit = 2 ^ 32 }
+abbrev pub asked_for : Option (List ℕ) → Option (List ℕ) → ℕ → Asked
+asked_for script proof limit = record { script = script; proof = proof; limit = limit }
 
--- what the program's words ask, where they are taken
-abbrev pub asked_by : List (List ℕ) → Asked
-asked_by words = asked_for (script_of words) (proof_of words)
+-- what the program's words ask, where they are taken, and no more bytes than so many are to be read
+abbrev pub asked_by : List (List ℕ) → ℕ → Asked
+asked_by words limit = asked_for (script_of words) (proof_of words) limit
 
 abbrev pub created : Option (List ℕ) → Outside → Outside
 created None o = o

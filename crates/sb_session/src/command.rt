@@ -99,8 +99,7 @@ impl Model for Session {
 
     ghost view = { λ s. record {
       stack = s.stack;
-      arena = s.decider.arena;
-      memo = s.decider.graph.memo;
+      store = s.decider.store;
       proof = proof_of s.proved s.prover;
       ended = s.ended;
     } };
@@ -260,8 +259,7 @@ fn leave(
     level: Option<usize>,
 ) -> Result<(), AllocError>
     ensures knows { OnOk result (LeavesKnown (length stack.now.assertions) decider.old decider.new) }
-    ensures arena { decider.new.arena ≡ decider.old.arena }
-    ensures graph { decider.new.graph ≡ decider.old.graph }
+    ensures store { decider.new.store ≡ decider.old.store }
     ensures proof { OnOk result (LeavesProof level (length stack.now.assertions) prover.old prover.new) }
 {
     let count = stack.assertions().len();

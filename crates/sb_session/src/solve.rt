@@ -45,44 +45,70 @@ pub enum SolveStatus {
 
 const UNFINISHED: &[u8] = b"(error \"unexpected end of input\")\n";
 
-/// A script of so many bytes is not read to its end.
-const INPUT_LIMIT: usize = 0x1_0000_0000;
+/// Of a script at most so many bytes are read.
+const INPUT_LIMIT: u64 = 0x1_0000_0000;
 
 /// How many bytes are asked of the world at a time.
 const PIECE: usize = 0x1_0000;
 
-/// Answers the script that the words ask for, `strsolve [--proof FILE] [SCRIPT]` with the program's name first: that of
-/// the file SCRIPT, or without one of standard input. The script is opened first, then FILE is created, then entries are
-/// answered. Words that are not taken get a text on standard error and nothing else, `--help` and `--version` too.
-///
-/// After each read all whole commands in what was read are answered before the next read. The status is
-/// `Usage` where the words are not taken, `Fault` only where the world's count of faults rose, and `InputLimit`
-/// where `2^32` bytes of the script were read and neither its end nor `(exit)`. Where a fault or want of memory
-/// cuts the run short, the answers written are a prefix of all of them.
+/// Answers the script that the words ask for, `strsolve [--proof FILE] [SCRIPT]` with the program's name first, and reads
+/// at most 2^32 bytes of it: `solve_within` of this limit.
 pub fn solve_top<W: World>(alloc: Global, words: &[String], world: &mut W) -> SolveStatus
     ensures usage { are_taken (map string_bytes words.now) ≡ false
         → WrongWords result (W.outside world.old) (W.outside world.new) }
     ensures run { are_taken (map string_bytes words.now) ≡ true
-        → Run (asked_by (map string_bytes words.now)) result (W.outside world.old) (W.outside world.new) }
+        → Run (asked_by (map string_bytes words.now) (2 ^ 32)) result (W.outside world.old) (W.outside world.new) }
     ensures faults { CountsFaults result (W.faults world.old) (W.faults world.new) }
 
     // Where the script is answered and a proof is asked for, an accepted proof of it is written.
     ensures certified { are_taken (map string_bytes words.now) ≡ true
-        → asks_proof (asked_by (map string_bytes words.now)) ≡ true
+        → asks_proof (asked_by (map string_bytes words.now) (2 ^ 32)) ≡ true
         → (result ≡ SolveStatus.Done) ⊎ (result ≡ SolveStatus.Unfinished)
-        → IsCertified (asked_by (map string_bytes words.now)) (W.outside world.old) (W.outside world.new) }
+        → IsCertified (asked_by (map string_bytes words.now) (2 ^ 32)) (W.outside world.old) (W.outside world.new) }
 
     // Nothing else than want of memory keeps a script whose end or exit is below the limit from being answered, where
     // no fault comes.
     ensures complete { are_taken (map string_bytes words.now) ≡ true
         → (Rose (W.faults world.old) (W.faults world.new) → ⊥)
-        → ((script : List ℕ) × IsBounded (asked_by (map string_bytes words.now)) script (W.outside world.old))
+        → ((script : List ℕ)
+        × IsBounded (asked_by (map string_bytes words.now) (2 ^ 32)) script (W.outside world.old))
+        → (result ≡ SolveStatus.Done) ⊎ ((result ≡ SolveStatus.Unfinished) ⊎ (result ≡ SolveStatus.NoMemory)) }
+{
+    solve_within(alloc, words, world, INPUT_LIMIT)
+}
+
+/// Answers the script that the words ask for, and reads at most so many bytes of it: that of the file SCRIPT, or without
+/// one of standard input. The script is opened first, then FILE is created, then entries are answered. Words that are
+/// not taken get a text on standard error and nothing else, `--help` and `--version` too.
+///
+/// After each read all whole commands in what was read are answered before the next read. The status is
+/// `Usage` where the words are not taken, `Fault` only where the world's count of faults rose, and `InputLimit`
+/// where so many bytes of the script as the limit were read and neither its end nor `(exit)`. Where a fault or want of
+/// memory cuts the run short, the answers written are a prefix of all of them.
+pub fn solve_within<W: World>(
+    alloc: Global,
+    words: &[String],
+    world: &mut W,
+    limit: u64,
+) -> SolveStatus
+    ensures usage { are_taken (map string_bytes words.now) ≡ false
+        → WrongWords result (W.outside world.old) (W.outside world.new) }
+    ensures run { are_taken (map string_bytes words.now) ≡ true
+        → Run (asked_by (map string_bytes words.now) limit) result (W.outside world.old) (W.outside world.new) }
+    ensures faults { CountsFaults result (W.faults world.old) (W.faults world.new) }
+    ensures certified { are_taken (map string_bytes words.now) ≡ true
+        → asks_proof (asked_by (map string_bytes words.now) limit) ≡ true
+        → (result ≡ SolveStatus.Done) ⊎ (result ≡ SolveStatus.Unfinished)
+        → IsCertified (asked_by (map string_bytes words.now) limit) (W.outside world.old) (W.outside world.new) }
+    ensures complete { are_taken (map string_bytes words.now) ≡ true
+        → (Rose (W.faults world.old) (W.faults world.new) → ⊥)
+        → ((script : List ℕ) × IsBounded (asked_by (map string_bytes words.now) limit) script (W.outside world.old))
         → (result ≡ SolveStatus.Done) ⊎ ((result ≡ SolveStatus.Unfinished) ⊎ (result ≡ SolveStatus.NoMemory)) }
 {
     certified_is_accepted();
     certified_to_exit_is_accepted();
     match read_words(alloc, words) {
-        Ok(asked) => status_of(answer_files(alloc, asked.script, asked.proof, world)),
+        Ok(asked) => status_of(answer_files(alloc, asked.script, asked.proof, limit, world)),
         Err(NoRun::Told(text)) => status_of(refuse_words(text.as_bytes(), world)),
         Err(NoRun::NoMemory) => SolveStatus::NoMemory,
     }
@@ -116,13 +142,14 @@ fn answer_files<W: World>(
     alloc: Global,
     script: Option<&str>,
     proof: Option<&str>,
+    limit: u64,
     world: &mut W,
 ) -> Result<SolveStatus, SessionFault>
     ensures ok { IfOk result
-        (λ status. Run (asked_for (option_copied script.entry) (option_copied proof.entry)) status
+        (λ status. Run (asked_for (option_copied script.entry) (option_copied proof.entry) limit) status
         (W.outside world.old) (W.outside world.new)
         × CountsFaults status (W.faults world.old) (W.faults world.new)) }
-    ensures err { OnErr result (CutShort (asked_for (option_copied script.entry) (option_copied proof.entry))
+    ensures err { OnErr result (CutShort (asked_for (option_copied script.entry) (option_copied proof.entry) limit)
         (W.outside world.old) (W.outside world.new)) }
     ensures faults { CountsSessionFault result (W.faults world.old) (W.faults world.new) }
 {
@@ -131,7 +158,7 @@ fn answer_files<W: World>(
     let mut buffer = empty_piece(alloc)?;
     let mut feed = Feed::new(alloc);
     let mut session = Session::new(alloc, proof.is_some());
-    let outcome = answer_script(&mut buffer, &mut feed, &mut session, world);
+    let outcome = answer_script(&mut buffer, limit as usize, &mut feed, &mut session, world);
     drop(session);
     outcome
 }
@@ -148,9 +175,11 @@ fn create_proof<W: World>(name: Option<&str>, world: &mut W) -> Result<(), World
     }
 }
 
-/// Reads the script that is opened piece by piece, as much at a time as the buffer holds, and answers it.
+/// Reads the script that is opened piece by piece, as much at a time as the buffer holds and the limit leaves, and answers
+/// it.
 fn answer_script<W: World>(
     buffer: &mut [u8],
+    limit: usize,
     feed: &mut Feed,
     session: &mut Session,
     world: &mut W,
@@ -160,18 +189,18 @@ fn answer_script<W: World>(
     requires state { state_of session.old.stack ≡ start }
     requires goes_on { session.old.ended ≡ false }
     requires tracked { IsTracked session.old beginning }
-    ensures ok { IfOk result (λ status. (asked : Asked) (old : Outside) → asked.limit ≡ 2 ^ 32
+    ensures ok { IfOk result (λ status. (asked : Asked) (old : Outside) → asked.limit ≡ limit
         → is_proved session.old ≡ asks_proof asked → W.outside world.old ≡ opened asked old
         → Run asked status old (W.outside world.new)) }
     ensures counts { IfOk result (λ status. CountsFaults status (W.faults world.old) (W.faults world.new)) }
-    ensures err { OnErr result ((asked : Asked) (old : Outside) → asked.limit ≡ 2 ^ 32
+    ensures err { OnErr result ((asked : Asked) (old : Outside) → asked.limit ≡ limit
         → is_proved session.old ≡ asks_proof asked → W.outside world.old ≡ opened asked old
         → CutShort asked old (W.outside world.new)) }
     ensures faults { CountsSessionFault result (W.faults world.old) (W.faults world.new) }
 {
     let mut count = 0;
-    while count < INPUT_LIMIT {
-        let room = (INPUT_LIMIT - count).min(buffer.len());
+    while count < limit {
+        let room = (limit - count).min(buffer.len());
         let read = world.read(InPort::Script, &mut buffer[..room])?;
         if read == 0 {
             return answer_end(feed, session, world);

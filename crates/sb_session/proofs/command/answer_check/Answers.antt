@@ -1,40 +1,41 @@
-use Rattle.std.proofs.Common.{◌≡◌, ℕ, ◌<◌, List, length, take, refl, sym, ap, ◌∙◌, subst, inr}
-use Rattle.sb_session.proofs.Words.{Holds, Stacked, asked_in, err_from_is_err_and, live_constants, on_err_weaker, on_ok_weaker, proof_of, session_of, state_of, verdict_in, write_at}
+use Rattle.sb_session.proofs.Words.{◌≡◌, ℕ, ◌<◌, List, length, take, refl, sym, ap, ◌∙◌, subst, inr, Holds, Stacked, asked_in, err_from_is_err_and, live_constants, on_err_weaker, on_ok_weaker, proof_of, session_of, state_of, verdict_in, write_at}
 use Rattle.sb_world.specs.declared.OutPort.TheVariants.{Answers}
 use Rattle.sb_session.proofs.CheckLemmas.{settled_of_rest, text_of_rest, tracked_stays, check_answered, answer_cut, proof_cut}
 use Rattle.sb_session.proofs.command.answer_check.Goals as goal
 
 pub find_verdict-requires : goal.find_verdict-requires
 find_verdict-requires g c =
-    let old = c.args.decider.now in
-    let new = c.decide.new.self in
+    let s = c.args.stack.now in
+    let old = c.args.decider.now.store in
+    let new = c.decide.new.self.store in
     let e = c.in_ok-decided.ensures in
     let h = c.requires.held in
     record {
       held = record {
         knows = e.knows;
-        regexes = c.regexes_stay_below.ensures old.arena new.arena c.args.prover.now.evidence.atoms e.extends h.regexes;
+        regexes = c.regexes_stay_below.ensures old.arena new.arena c.args.prover.now.evidence.atoms e.store.extends
+            h.regexes;
         levels = h.levels;
         fit = h.fit;
-        sound = c.true_stays.ensures.grown (asked_in (state_of c.args.stack.now)) old.arena new.arena old.graph.memo
-            new.graph.memo c.args.prover.now.evidence e.extends e.derivatives_stay h.regexes h.sound;
+        sound = c.true_stays.ensures.grown (asked_in (state_of s)) s.table old new c.args.prover.now.evidence e.store
+            h.regexes h.sound;
       };
       decided = e.decided;
     }
 
 pub returns-in_err-verdict-clause-err : goal.returns-in_err-verdict-clause-err
 returns-in_err-verdict-clause-err g c =
+    let s = c.args.stack.now in
     let proof = proof_of c.args.proved c.args.prover.now in
-    let session = session_of c.args.stack.now c.args.decider.now proof in
-    let between = session_of c.args.stack.now c.decide.new.self proof in
+    let session = session_of s c.args.decider.now proof in
+    let between = session_of s c.decide.new.self proof in
     let x = c.from_residual-in_err-verdict in
     let p = err_from_is_err_and x.result x.ensures.1 in
     rw p.1
     (λ q tracked.
     proof_cut q session (g.W.World.outside c.args.world.now) (g.W.World.outside c.find_verdict.new.world)
     (c.in_err-verdict.ensures.err q
-    (tracked_stays c.abreast_stays.ensures session between q refl c.in_ok-decided.ensures.extends
-    c.in_ok-decided.ensures.derivatives_stay tracked)))
+    (tracked_stays c.abreast_stays.ensures s.table session between q refl c.in_ok-decided.ensures.store tracked)))
 
 pub returns-clause-ok : goal.returns-clause-ok
 returns-clause-ok g c =
@@ -51,8 +52,7 @@ returns-clause-ok g c =
     (session_of c.settle.new.self c.find_verdict.new.decider after) (verdict_in (live_constants s) v)
     (g.W.World.outside c.args.world.now) mid (g.W.World.outside c.write_all.new.world) (λ r h. h)
     (c.in_ok-verdict.ensures.ok q
-    (tracked_stays c.abreast_stays.ensures session between q refl c.in_ok-decided.ensures.extends
-    c.in_ok-decided.ensures.derivatives_stay tracked))
+    (tracked_stays c.abreast_stays.ensures s.table session between q refl c.in_ok-decided.ensures.store tracked))
     (c.settle.ensures.state ∙ settled_of_rest v s c.find_verdict.new.stack c.in_ok-verdict.ensures.rest)
     (written ∙ ap (λ (t : List ℕ). write_at Answers t mid)
     (c.settle.ensures.reply ∙ text_of_rest v s c.find_verdict.new.stack c.in_ok-verdict.ensures.rest)))
@@ -74,8 +74,7 @@ returns-clause-err g c =
     (session_of c.settle.new.self c.find_verdict.new.decider after) (verdict_in (live_constants s) v)
     (g.W.World.outside c.args.world.now) mid last
     (c.in_ok-verdict.ensures.ok q
-    (tracked_stays c.abreast_stays.ensures session between q refl c.in_ok-decided.ensures.extends
-    c.in_ok-decided.ensures.derivatives_stay tracked))
+    (tracked_stays c.abreast_stays.ensures s.table session between q refl c.in_ok-decided.ensures.store tracked))
     (subst (λ (t : List ℕ). (out : ℕ) × (out < length t) × (last ≡ write_at Answers (take out t) mid))
     (c.settle.ensures.reply ∙ text_of_rest v s c.find_verdict.new.stack c.in_ok-verdict.ensures.rest) cut)))
     c.write_all.ensures.err

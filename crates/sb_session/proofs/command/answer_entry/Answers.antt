@@ -1,5 +1,4 @@
-use Rattle.std.proofs.Common.{[], ◌∷◌, true, false, refl, ap, arith, length}
-use Rattle.sb_session.proofs.Words.{entry_of, err_from_is_err_and, leaving, proof_of, session_of, state_of, step_of}
+use Rattle.sb_session.proofs.Words.{[], ◌∷◌, true, false, refl, arith, length, entry_of, err_from_is_err_and, leaving, proof_of, session_of, state_of, step_of}
 use Rattle.sb_stack.specs.declared.stack.Step.TheVariants as code
 use Rattle.sb_session.proofs.CommandLemmas.{by_answer, by_exit, by_left, moved_by, whole_reply, whole_reply_by, cut_reply, check_replies, cut_check_reply}
 use Rattle.sb_session.proofs.LeavingLemmas.{held_on, count_live, levels_left, regexes_left, tracked_left, sound_left}
@@ -154,8 +153,7 @@ returns-in_ok-write_all-in-Left-clause-ok g c =
     whole_reply_by entry false c.deref-in-Left.result.now (leaving level ∷ []) session left
     (g.W.World.outside c.args.world.now) (g.W.World.outside c.write_all-in-Left.new.world)
     (tracked_left level (length c.apply.new.self.assertions) session left c.args.proved c.args.prover.now
-    c.leave.new.prover refl refl moves.0 moves.1 (count_live c.apply.new.self) e.arena (ap (λ g. g.memo) e.graph)
-    e.proof c.requires.held.levels)
+    c.leave.new.prover refl refl moves.0 moves.1 (count_live c.apply.new.self) e.store e.proof c.requires.held.levels)
     (by_left (step_of entry s) c.in-Left.text level c.deref-in-Left.result.now s after c.deref-in-Left.ensures.value is)
     c.in_ok-write_all-in-Left.ensures.ok
 
@@ -176,13 +174,12 @@ returns-in_ok-write_all-in-Left-clause-held g c =
           (moved_by c.apply.result c.in_ok-text.field-0 (code.Left c.in-Left.text level) _ _ c.in_ok-text.was
           c.in-Left.is e.grows)
           (omega arith) e.words e.constants h.knows;
-      regexes = regexes_left level (length t.assertions) c.args.decider.now.arena c.leave.new.decider.arena
-          c.args.prover.now c.leave.new.prover left.arena left.proof h.regexes;
+      regexes = regexes_left level (length t.assertions) c.args.decider.now.store c.leave.new.decider.store
+          c.args.prover.now c.leave.new.prover left.store left.proof h.regexes;
       levels = levels_left level (length t.assertions) (state_of s) (state_of t) moves.0 moves.1 (count_live t)
           c.args.prover.now c.leave.new.prover left.proof h.levels;
       fit = fits.0;
       sound = sound_left level (length t.assertions) (state_of s) (state_of t) moves.0 moves.1 (count_live t)
-          c.args.decider.now.arena c.leave.new.decider.arena c.args.decider.now.graph.memo
-          c.leave.new.decider.graph.memo c.args.prover.now c.leave.new.prover left.arena (ap (λ g. g.memo) left.graph)
-          left.proof fits.1 h.levels h.sound;
+          c.args.decider.now.store c.leave.new.decider.store c.args.prover.now c.leave.new.prover left.store left.proof
+          fits.1 h.levels h.sound;
     }

@@ -1,5 +1,4 @@
-use Rattle.std.proofs.Common.{[], sym, subst}
-use Rattle.sb_session.proofs.Words.{Holds, IsVerdict, found, live_constants, state_of, verdict_in}
+use Rattle.sb_session.proofs.Words.{[], sym, subst, Holds, IsVerdict, found, live_constants, state_of, verdict_in}
 use Rattle.sb_stack.specs.declared.verdict.Verdict.{Verdict}
 use Rattle.sb_session.proofs.CheckLemmas.{known_finds, held_found}
 use Rattle.sb_session.proofs.command.find_unproved.Goals as goal

@@ -1,5 +1,4 @@
-use Rattle.std.proofs.Common.{refl, inr}
-use Rattle.sb_session.proofs.Words.{err_from_is_err_and, live_constants, verdict_in}
+use Rattle.sb_session.proofs.Words.{refl, inr, err_from_is_err_and, live_constants, verdict_in}
 use Rattle.sb_session.proofs.CheckLemmas.{check_proved, check_cut, check_unwritten, held_found}
 use Rattle.sb_session.proofs.command.find_verdict.Goals as goal
 

@@ -1,5 +1,4 @@
-use Rattle.std.proofs.Common.{refl, ◌∙◌, ap}
-use Rattle.sb_session.proofs.Words.{on_err_weaker, on_ok_weaker, proof_of}
+use Rattle.sb_session.proofs.Words.{refl, ◌∙◌, ap, on_err_weaker, on_ok_weaker, proof_of}
 use Rattle.sb_session.proofs.CheckLemmas.{end_untold, end_none, end_written, end_cut_short}
 use Rattle.sb_session.proofs.command.finish_proof.Goals as goal
 

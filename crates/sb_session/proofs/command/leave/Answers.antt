@@ -1,6 +1,4 @@
-use Rattle.std.proofs.Common.{ℕ, Option, length, ap, subst}
-use Rattle.sb_decide.specs.Laws.{LeavesKnown}
-use Rattle.sb_session.proofs.Words.{LeavesProof}
+use Rattle.sb_session.proofs.Words.{ℕ, Option, length, ap, subst, LeavesKnown, LeavesProof}
 use Rattle.sb_session.proofs.command.leave.Goals as goal
 
 pub returns-clause-knows : goal.returns-clause-knows

@@ -1,5 +1,4 @@
-use Rattle.std.proofs.Common.{Bool, subst}
-use Rattle.sb_session.proofs.Words.{Cut, err_from_is_err_and, is_proved}
+use Rattle.sb_session.proofs.Words.{Bool, subst, Cut, err_from_is_err_and, is_proved}
 use Rattle.sb_session.proofs.solve.answer_entries.Goals as goal
 
 pub returns-in-Some-clause-ok : goal.returns-in-Some-clause-ok

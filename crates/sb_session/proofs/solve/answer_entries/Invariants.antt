@@ -1,6 +1,5 @@
 -- so many entries are answered, and nothing else was done
-use Rattle.std.proofs.Common.{◌≡◌, ℕ, false, List, length}
-use Rattle.sb_session.proofs.Words.{Outside, Sofar, is_proved}
+use Rattle.sb_session.proofs.Words.{◌≡◌, ℕ, false, List, length, Outside, Sofar, is_proved}
 use Rattle.sb_session.proofs.solve.answer_entries.Given as goal
 
 abbrev pub invariant-loop-pause : goal.invariant-loop-pause

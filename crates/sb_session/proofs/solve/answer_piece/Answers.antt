@@ -1,5 +1,4 @@
-use Rattle.std.proofs.Common.{◌++◌, subst}
-use Rattle.sb_session.proofs.Words.{Cut, err_from_is_err_and, is_proved, on_err_weaker}
+use Rattle.sb_session.proofs.Words.{◌++◌, subst, Cut, err_from_is_err_and, is_proved, on_err_weaker}
 use Rattle.sb_reader.specs.Feeding as feed
 use Rattle.sb_session.proofs.CheckLemmas.{ok_map}
 use Rattle.sb_session.proofs.PieceLemmas.{push_on, push_cut}

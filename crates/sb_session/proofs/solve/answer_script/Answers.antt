@@ -1,5 +1,4 @@
-use Rattle.std.proofs.Common.{◌≡◌, ◌+◌, ◌≤◌, ℕ, Bool, [], ◌++◌, length, take, drop, refl, ap, subst, ◌∙◌, arith, rules}
-use Rattle.sb_session.proofs.Words.{Cut, Pause, Pauses, err_from_is_err_and, is_proved, on_err_weaker, opened}
+use Rattle.sb_session.proofs.Words.{◌≡◌, ◌+◌, ◌≤◌, ℕ, Bool, [], ◌++◌, length, take, drop, refl, ap, subst, ◌∙◌, arith, rules, Cut, Pause, Pauses, err_from_is_err_and, is_proved, on_err_weaker, opened}
 use Rattle.sb_reader.specs.Feeding as feed
 use Rattle.sb_session.specs.declared.solve.Pause.TheVariants.{Exited}
 use Rattle.sb_session.proofs.CheckLemmas.{ok_map}

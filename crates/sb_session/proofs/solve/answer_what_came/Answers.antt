@@ -1,5 +1,4 @@
-use Rattle.std.proofs.Common.{rules}
-use Rattle.sb_session.proofs.Words.{err_from_is_err_and}
+use Rattle.sb_session.proofs.Words.{rules, err_from_is_err_and}
 use Rattle.sb_session.proofs.TurnLemmas.{goes, exits, fails, waits}
 use Rattle.sb_session.proofs.solve.answer_what_came.Goals as goal
 

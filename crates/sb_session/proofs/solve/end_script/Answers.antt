@@ -1,5 +1,4 @@
-use Rattle.std.proofs.Common.{◌≡◌, subst, rules}
-use Rattle.sb_session.proofs.Words.{Pause, Pauses, err_from_is_err_and, opened, unfinished_line}
+use Rattle.sb_session.proofs.Words.{◌≡◌, subst, rules, Pause, Pauses, err_from_is_err_and, opened, unfinished_line}
 use Rattle.sb_world.specs.declared.OutPort.TheVariants.{Answers}
 use Rattle.sb_reader.specs.declared.feed.Ending.TheVariants.{Unfinished}
 use Rattle.sb_session.specs.declared.solve.Pause.TheVariants.{Ended}

@@ -1,5 +1,4 @@
-use Rattle.std.proofs.Common.{◌≡◌, ◌⊎◌, map, string_bytes, ap₂, sym, subst}
-use Rattle.sb_session.proofs.Words.{Asked, Run, SolveStatus, asked_by, asked_for, option_copied, status_by}
+use Rattle.sb_session.proofs.Words.{◌≡◌, ◌⊎◌, map, string_bytes, ap₂, sym, subst, Asked, Run, SolveStatus, asked_by, asked_for, option_copied, status_by}
 use Rattle.sb_session.specs.declared.solve.SolveStatus.TheVariants.{Done, Unfinished, NoMemory}
 use Rattle.sb_session.proofs.SolveLemmas.{run_by, counts_by, complete_by}
 use Rattle.sb_session.proofs.CertifyingLemmas.{certified_by}

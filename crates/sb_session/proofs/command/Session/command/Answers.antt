@@ -1,5 +1,4 @@
-use Rattle.sb_session.proofs.Words.{entry_of, proof_of, session_of}
-use Rattle.std.proofs.Common.{sym, ◌∙◌}
+use Rattle.sb_session.proofs.Words.{entry_of, proof_of, session_of, sym, ◌∙◌}
 use Rattle.sb_session.proofs.CheckLemmas.{is_kind}
 use Rattle.sb_session.proofs.CommandLemmas.{answers_regardless}
 use Rattle.sb_session.proofs.command.Session.command.Goals as goal
