@@ -16,10 +16,10 @@ pub fn compare(run: &mut Run, case: &Case, turn: &Turn, proof: &[u8], world: &Me
     expect_opened(run, case, opened(world));
 }
 
-/// What came of the checker behind the solver is to be these verdicts.
-pub fn compare_kept(run: &mut Run, verdicts: &[u8], world: &MemWorld) {
+/// What came is to be this text, and nothing is to stand on standard error.
+pub fn compare_kept(run: &mut Run, wanted: &[u8], world: &MemWorld) {
     let answers = world.written(OutPort::Answers);
-    run.expect("the text of the answers", verdicts, answers);
+    run.expect("the text of the answers", wanted, answers);
     let errors = world.written(OutPort::Faults);
     run.expect("standard error", b"", errors);
 }

@@ -7,6 +7,7 @@
 #![tactic(auto)]
 
 mod compare;
+mod cuts;
 mod programs;
 mod report;
 mod sessions;

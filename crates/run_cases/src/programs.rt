@@ -1,14 +1,15 @@
 //! The programs, run over worlds in memory.
 
 use crate::compare::{compare, compare_kept, expect_answers, expect_status, status_of};
+use crate::cuts::{add_answers, cut_of, cut_status};
 use crate::report::Run;
 use crate::sessions::answer_script;
 use sb_cases::buffer::Buffer;
 use sb_cases::case::{Case, Kind};
 use sb_cases::directive::Directive;
 use sb_cases::reader::word_of;
-use sb_check::{CheckStatus, check_top};
-use sb_session::{SolveStatus, solve_top};
+use sb_check::{CheckStatus, check_top, check_within};
+use sb_session::{SolveStatus, solve_top, solve_within};
 use sb_world::{CalmWorld, MemWorld, OutPort};
 use std::alloc::{AllocError, Global};
 
@@ -19,6 +20,8 @@ pub struct Turn {
     pub length: usize,
     /// The number of the call that fails, or 0.
     pub fails: u64,
+    /// How many bytes there are of the script.
+    pub script: usize,
     /// How many bytes there are of the proof that is checked, or that is to be written.
     pub end: usize,
 }
@@ -45,6 +48,7 @@ impl Stage {
             turn: Turn {
                 length: 0,
                 fails: 0,
+                script: 0,
                 end: 0,
             },
             words: Vec::new(alloc),
@@ -158,8 +162,12 @@ fn run_in(kind: Kind, case: &Case, stage: &mut Stage, world: &mut MemWorld) {
 
 /// Runs the solver over the script on standard input.
 fn solve_input(case: &Case, stage: &mut Stage, world: &mut MemWorld) {
-    let set = world.set_standard_input(case.block(Directive::Script));
+    let front = front_of(case.block(Directive::Script), stage.turn.script);
+    let set = world.set_standard_input(front);
     stage.note(set);
+    if case.last(Directive::Cuts) > 0 {
+        return solve_cut(case, stage, front, world);
+    }
     let usual = if case.has(Directive::Proof) {
         "--proof p"
     } else {
@@ -167,6 +175,20 @@ fn solve_input(case: &Case, stage: &mut Stage, world: &mut MemWorld) {
     };
     let words = words_for(case, usual);
     solve(case, stage, words, world);
+}
+
+/// Runs the solver over a front of the script.
+fn solve_cut(case: &Case, stage: &mut Stage, front: &[u8], world: &mut MemWorld) {
+    let cut = cut_of(front);
+    stage.set_words(case.alloc, "strsolve", "");
+    let status = solve_status(run_solver(case, &stage.words, world));
+    expect_status(&mut stage.run, cut_status(&cut), status);
+    let mut wanted = Buffer::new(case.alloc);
+    add_answers(&cut, case.block(Directive::Answers), &mut wanted);
+    compare_kept(&mut stage.run, wanted.bytes(), world);
+    if !wanted.is_whole() {
+        stage.whole = false;
+    }
 }
 
 /// Hands the entries of the script to a session.
@@ -195,7 +217,7 @@ fn check_given(case: &Case, stage: &mut Stage, world: &mut MemWorld) {
         stage.note(added);
     }
     let words = words_for(case, "s p");
-    let status = check(case.alloc, stage, words, world);
+    let status = check(case, stage, words, world);
     expect_status(&mut stage.run, status_of(case), status);
     stage.compare(case, world);
 }
@@ -205,7 +227,7 @@ fn check_kept(case: &Case, stage: &mut Stage, world: &mut MemWorld) {
     add_file(stage, world, "s", case.block(Directive::Script));
     let added = world.add_file("p", stage.written.bytes());
     stage.note(added);
-    let status = check(case.alloc, stage, "s p", world);
+    let status = check(case, stage, "s p", world);
     expect_status(&mut stage.run, "accepted", status);
     let verdicts = verdicts_of(case);
     compare_kept(&mut stage.run, verdicts.bytes(), world);
@@ -214,15 +236,31 @@ fn check_kept(case: &Case, stage: &mut Stage, world: &mut MemWorld) {
 /// Runs the solver with these words.
 fn solve(case: &Case, stage: &mut Stage, words: &str, world: &mut MemWorld) {
     stage.set_words(case.alloc, "strsolve", words);
-    let status = solve_status(solve_top(case.alloc, &stage.words, world));
+    let status = solve_status(run_solver(case, &stage.words, world));
     expect_status(&mut stage.run, status_of(case), status);
     stage.compare(case, world);
 }
 
+/// Runs the solver, with the limit of the case or its own.
+fn run_solver(case: &Case, words: &[String], world: &mut MemWorld) -> SolveStatus {
+    match case.last(Directive::Limit) {
+        0 => solve_top(case.alloc, words, world),
+        limit => solve_within(case.alloc, words, world, limit),
+    }
+}
+
 /// Runs the checker with these words.
-fn check(alloc: Global, stage: &mut Stage, words: &str, world: &mut MemWorld) -> &'static str {
-    stage.set_words(alloc, "strcheck", words);
-    check_status(check_top(alloc, &stage.words, world))
+fn check(case: &Case, stage: &mut Stage, words: &str, world: &mut MemWorld) -> &'static str {
+    stage.set_words(case.alloc, "strcheck", words);
+    check_status(run_checker(case, &stage.words, world))
+}
+
+/// Runs the checker, with the limit of the case or its own.
+fn run_checker(case: &Case, words: &[String], world: &mut MemWorld) -> CheckStatus {
+    match case.last(Directive::Limit) {
+        0 => check_top(case.alloc, words, world),
+        limit => check_within(case.alloc, words, world, limit),
+    }
 }
 
 /// Runs the solver over the script on standard input, in a world where nothing fails.

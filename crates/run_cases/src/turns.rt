@@ -103,15 +103,31 @@ impl Tally {
         }
     }
 
-    /// Runs a case with the whole proof, or for each front of it.
+    /// Runs a case with the whole script and proof, or for each front of the script, or of the proof.
     fn run_fronts(&mut self, length: usize, fails: u64, case: &Case) {
-        let whole = self.stage.proof.bytes().len();
-        if case.last(Directive::Fronts) == 0 {
-            let end = whole;
-            return self.run_once(Turn { length, fails, end }, case);
+        let script = case.block(Directive::Script).len();
+        let proof = self.stage.proof.bytes().len();
+        let turn = Turn {
+            length,
+            fails,
+            script,
+            end: proof,
+        };
+        if case.last(Directive::Cuts) > 0 {
+            return self.run_cuts(turn, case);
         }
-        for end in 0..whole {
-            self.run_once(Turn { length, fails, end }, case);
+        if case.last(Directive::Fronts) == 0 {
+            return self.run_once(turn, case);
+        }
+        for end in 0..proof {
+            self.run_once(Turn { end, ..turn }, case);
+        }
+    }
+
+    /// Runs a case for each front of the script.
+    fn run_cuts(&mut self, turn: Turn, case: &Case) {
+        for script in 0..turn.script {
+            self.run_once(Turn { script, ..turn }, case);
         }
     }
 

@@ -27,14 +27,14 @@ IsAnsweredOrCut s = (s ≡ status.Done) ⊎ ((s ≡ status.Unfinished) ⊎ (s �
 
 pub answered : (s : SolveStatus) (words : List (List ℕ)) (old : Outside) (script : List ℕ) → words ≡ solver_words
     → old.file script_name ≡ Some script
-    → (are_taken words ≡ true → (Rose 0 0 → ⊥) → ((script : List ℕ) × IsBounded (asked_by words) script old)
+    → (are_taken words ≡ true → (Rose 0 0 → ⊥) → ((script : List ℕ) × IsBounded (asked_by words (2 ^ 32)) script old)
     → IsAnsweredOrCut s)
     → length script < 2 ^ 32 → IsAnsweredOrCut s
 answered s words old script words_are held complete short =
     let bounded : (script : List ℕ) × IsBounded of_solver script old = (script, (held, inl short)) in
     complete (ap are_taken words_are ∙ solver_takes) never_rises
     (subst (λ (asked : Asked). (script : List ℕ) × IsBounded asked script old)
-    (sym (ap asked_by words_are ∙ solver_asks)) bounded)
+    (sym (ap (λ (ws : List (List ℕ)). asked_by ws (2 ^ 32)) words_are ∙ solver_asks)) bounded)
 
 -- Where the entries stand in front of bytes that were read, they are all entries of the script.
 entries_of : SolvedEntries → WholeEntries → (script : List ℕ) (o : Outside) (entries : List Entry)
@@ -68,11 +68,11 @@ written_is o before written proof old new =
 pub proved : SolvedEntries → WholeEntries → (s : SolveStatus) (words : List (List ℕ)) (old new : Outside)
     (script before : List ℕ) → words ≡ solver_words → old.file script_name ≡ Some script
     → old.proof_out.written ≡ Some before
-    → (are_taken words ≡ true → asks_proof (asked_by words) ≡ true → IsAnswered s
-    → IsCertified (asked_by words) old new)
+    → (are_taken words ≡ true → asks_proof (asked_by words (2 ^ 32)) ≡ true → IsAnswered s
+    → IsCertified (asked_by words (2 ^ 32)) old new)
     → IsAnswered s → (proof : List ℕ) → new.proof_out.written ≡ Some proof → Proves script proof
 proved to_exit whole s words old new script before words_are held was certified answered proof written =
-    let asked = ap asked_by words_are ∙ solver_asks in
+    let asked = ap (λ (ws : List (List ℕ)). asked_by ws (2 ^ 32)) words_are ∙ solver_asks in
     let made : IsCertified of_solver old new =
     subst (λ (asked : Asked). IsCertified asked old new) asked
     (certified (ap are_taken words_are ∙ solver_takes) (ap asks_proof asked) answered) in

@@ -1,5 +1,5 @@
 -- Private: what passes from the solver to the checker, and what both are asked.
-use Rattle.std.specs.Prelude.{ℕ, List, [], ◌∷◌, Some, codes}
+use Rattle.std.specs.Prelude.{ℕ, ◌^◌, List, [], ◌∷◌, Some, codes}
 use Rattle.sb_reader.specs.Entries.{Entry}
 use Rattle.sb_rulebook.specs.Accepted.{Accepted}
 use Rattle.sb_sound.specs.Outcomes.{AreEntriesOf}
@@ -24,11 +24,11 @@ abbrev pub solver_words : List (List ℕ)
 solver_words = codes "strsolve" ∷ codes "--proof" ∷ proof_name ∷ script_name ∷ []
 
 abbrev pub of_solver : solve.Asked
-of_solver = solve.asked_for (Some script_name) (Some proof_name)
+of_solver = solve.asked_for (Some script_name) (Some proof_name) (2 ^ 32)
 
 -- the words of the checker, and what they ask
 abbrev pub checker_words : List (List ℕ)
 checker_words = codes "strcheck" ∷ script_name ∷ proof_name ∷ []
 
 abbrev pub of_checker : check.Asked
-of_checker = record { script = script_name; proof = proof_name }
+of_checker = check.asked_for script_name proof_name (2 ^ 32)

@@ -8,7 +8,7 @@ ghost use Rattle.sb_both.specs.Runs.{Proves};
 
 use sb_check::{CheckStatus, check_top};
 use sb_session::{SolveStatus, solve_top};
-use sb_sound::outcome::{one_outcome, solved_entries};
+use sb_sound::outcome::solved_entries;
 use sb_world::{CalmWorld, OutPort};
 use std::alloc::{AllocError, Global};
 
@@ -68,7 +68,6 @@ fn check(
         ⊎ ((status ≡ CheckStatus.NoMemory) ⊎ (status ≡ CheckStatus.InputLimit))) }
     ensures means { IfOk result (λ status. status ≡ CheckStatus.Accepted → IsConfirmed script.now) }
 {
-    one_outcome();
     let words = words_of(alloc, &["strcheck", SCRIPT, PROOF])?;
     world.add_file(SCRIPT, script)?;
     world.add_file(PROOF, proof)?;

@@ -16,6 +16,8 @@ pub enum Directive {
     Pieces,
     Fail,
     Fronts,
+    Cuts,
+    Limit,
     Calls,
     Status,
     Opened,
@@ -24,7 +26,7 @@ pub enum Directive {
 }
 
 /// The words of directives.
-const DIRECTIVES: [(&str, Directive); 16] = [
+const DIRECTIVES: [(&str, Directive); 18] = [
     ("script", Directive::Script),
     ("proof", Directive::Proof),
     ("errors", Directive::Errors),
@@ -36,6 +38,8 @@ const DIRECTIVES: [(&str, Directive); 16] = [
     ("pieces", Directive::Pieces),
     ("fail", Directive::Fail),
     ("fronts", Directive::Fronts),
+    ("cuts", Directive::Cuts),
+    ("limit", Directive::Limit),
     ("calls", Directive::Calls),
     ("status", Directive::Status),
     ("opened", Directive::Opened),
@@ -94,7 +98,8 @@ pub fn numbers_of(directive: Directive, words: &str) -> Option<(u64, u64)> {
         Directive::Change => lines_of(words),
         Directive::Fail => fails_of(words),
         Directive::Calls => range_of("1", words),
-        Directive::Fronts | Directive::Pieces => Some(all_of(words)),
+        Directive::Fronts | Directive::Cuts | Directive::Pieces => Some(all_of(words)),
+        Directive::Limit => limit_of(words),
         _ => Some((0, 0)),
     }
 }
@@ -114,6 +119,14 @@ fn lines_of(words: &str) -> Option<(u64, u64)> {
     match number(last) {
         Some(_) => range_of(first, last),
         None => range_of(first, first),
+    }
+}
+
+/// The limit, or 0 for that of the program.
+fn limit_of(words: &str) -> Option<(u64, u64)> {
+    match words {
+        "none" => Some((0, 0)),
+        _ => range_of(words, words),
     }
 }
 

@@ -19,6 +19,12 @@
 //!   line. An empty block leaves them out.
 //! - `-- fronts all`: in `check` a run for each front of the proof that is not the whole. It is to be refused, and the
 //!   answers in front of the refusal are to be a front of the block. `-- fronts none` ends it.
+//! - `-- cuts all`: in `solve`, without a proof, a run for each front of the script that is not the whole. Each whole
+//!   entry in it is to be answered by one line, those of the block in order; within a form the status is to be
+//!   `unfinished`, and its line stands behind these. The script is of forms in parentheses alone. `-- cuts none` ends
+//!   it.
+//! - `-- limit N`: the program reads at most so many bytes of the script, and of the proof that is checked. Without it,
+//!   and with `-- limit none`, the limit is its own.
 //! - `-- file NAME`: a further file of the world.
 //! - `-- words W ..`: the words behind the program's name, where `""` is the empty word. Without it they are `s p` in
 //!   `check`, and in `solve` none, or `--proof p` where there is a proof. `both` has its own.

@@ -58,8 +58,8 @@ goes_further : (at : Option State) (entry : Entry) (limit : ℕ) (script proof :
     → next ≡ run.next_check + length said
     → FindsEntry entry limit script proof run old now
     → Sofar at [] limit script proof (record run { checker = checker; lines = new_lines; next_check = next }) old after
-goes_further at entry limit script proof run checker new_lines next said old now between after leads goes written counted
-    sofar =
+goes_further at entry limit script proof run checker new_lines next said old now between after leads goes written
+    counted sofar =
     let came = goes.came sofar.progress sofar.proof_left sofar.rests sofar.proof_is in
     let before = events start sofar.list in
     let own = events_in entry run in
@@ -135,8 +135,8 @@ pub entry_goes : (c : Checked) (entry : Entry) (run : Run) (checker : Checker) (
     → (limit : ℕ) (script proof : List ℕ) (old : Outside) → FindsEntry entry limit script proof run old now
     → GoesOn limit script proof (record run { checker = checker; lines = new_lines }) old after
 entry_goes c entry run checker new_lines now after is leads goes limit script proof old sofar =
-    goes_further (Some (state_of checker.judge.stack)) entry limit script proof run checker new_lines run.next_check [] old
-    now after after (rw is at leads) (rw is at goes) (writes_nothing after) (omega arith) sofar
+    goes_further (Some (state_of checker.judge.stack)) entry limit script proof run checker new_lines run.next_check []
+    old now after after (rw is at leads) (rw is at goes) (writes_nothing after) (omega arith) sofar
 
 -- no state stands behind the entries, so the script has ended
 ends_here : (limit : ℕ) (script proof : List ℕ) (run : Run) (old now : Outside)
@@ -158,8 +158,8 @@ pub entry_ends : (c : Checked) (entry : Entry) (run : Run) (checker : Checker) (
     → HasEnded limit script proof (record run { checker = checker; lines = new_lines }) old after
 entry_ends c entry run checker new_lines now after is leads goes limit script proof old sofar =
     ends_here limit script proof (record run { checker = checker; lines = new_lines }) old after
-    (goes_further None entry limit script proof run checker new_lines run.next_check [] old now after after (rw is at leads)
-    (rw is at goes) (writes_nothing after) (omega arith) sofar)
+    (goes_further None entry limit script proof run checker new_lines run.next_check [] old now after after
+    (rw is at leads) (rw is at goes) (writes_nothing after) (omega arith) sofar)
 
 -- a check, whose verdict is written
 pub entry_said : (c : Checked) (said : code.Said) (entry : Entry) (run wrote : Run) (checker : Checker)
@@ -170,10 +170,10 @@ pub entry_said : (c : Checked) (said : code.Said) (entry : Entry) (run wrote : R
     → after ≡ write_at out_port.Answers (verdict_line run.next_check (said_in said)) between
     → (limit : ℕ) (script proof : List ℕ) (old : Outside) → FindsEntry entry limit script proof run old now
     → GoesOn limit script proof wrote old after
-entry_said c said entry run wrote checker new_lines now between after is leads goes same written limit script proof old
-    sofar =
+entry_said c said entry run wrote checker new_lines now between after is leads goes same written limit script proof
+    old sofar =
     subst (λ (r : Run). GoesOn limit script proof r old after) (sym same)
-    (goes_further (Some (state_of checker.judge.stack)) entry limit script proof run checker new_lines (run.next_check + 1)
-    (said_in said ∷ []) old now between after (rw is at leads) (rw is at goes)
+    (goes_further (Some (state_of checker.judge.stack)) entry limit script proof run checker new_lines
+    (run.next_check + 1) (said_in said ∷ []) old now between after (rw is at leads) (rw is at goes)
     (writes_text (verdict_line run.next_check (said_in said)) (verdict_lines run.next_check (said_in said ∷ [])) between
     after (sym (append-nil (verdict_line run.next_check (said_in said)))) written) (omega arith) sofar)

@@ -28,7 +28,8 @@ more_written script proof text more old before now b h =
     (omega arith))))
 
 -- the text of another outcome, if it is the text so far and more
-pub writes_on : (limit : ℕ) (script proof : List ℕ) (outcome other : Outcome) (text more whole : List ℕ) (old before now : Outside)
+pub writes_on : (limit : ℕ) (script proof : List ℕ) (outcome other : Outcome) (text more whole : List ℕ)
+    (old before now : Outside)
     → Writes limit script proof outcome text old before → IsOutcome script proof other
     → now ≡ write_at Answers more before → text ++ more ≡ whole → Writes limit script proof other whole old now
 writes_on limit script proof outcome other text more whole old before now w is h same = record {
@@ -48,14 +49,15 @@ pub writes_front : (limit : ℕ) (script proof : List ℕ) (outcome other : Outc
 writes_front limit script proof outcome other text more out old before now w is h same = (
   other,
   length text + out,
-  writes_on limit script proof outcome other text (take out more) (take (length text + out) (answer other)) old before now w
-      is h
+  writes_on limit script proof outcome other text (take out more) (take (length text + out) (answer other)) old before
+      now w is h
       (sym (take-append-add text more out) ∙ ap (take (length text + out)) (sym same)),
 )
 
 -- the verdicts of an outcome are written, which is a front of its text
 pub writes_verdicts : (limit : ℕ) (script proof : List ℕ) (outcome : Outcome) (text line : List ℕ) (old now : Outside)
-    → Writes limit script proof outcome text old now → answer outcome ≡ text ++ line → CutShort limit script proof old now
+    → Writes limit script proof outcome text old now → answer outcome ≡ text ++ line
+    → CutShort limit script proof old now
 writes_verdicts limit script proof outcome text line old now w same = (
   outcome,
   length text,
@@ -89,11 +91,11 @@ accepted_written (Ok _) limit script proof old before now h has = (
   has.3,
 )
 accepted_written (Err Failed) limit script proof old before now h has =
-    writes_front limit script proof (accepted has.0) (accepted has.0) (verdict_lines 1 has.0) accepted_line h.1.0 old before
-    now has.1 has.1.is h.1.2 refl
+    writes_front limit script proof (accepted has.0) (accepted has.0) (verdict_lines 1 has.0) accepted_line h.1.0 old
+    before now has.1 has.1.is h.1.2 refl
 accepted_written (Err NoMemory) limit script proof old before now h has =
-    writes_front limit script proof (accepted has.0) (accepted has.0) (verdict_lines 1 has.0) accepted_line h.1.0 old before
-    now has.1 has.1.is h.1.2 refl
+    writes_front limit script proof (accepted has.0) (accepted has.0) (verdict_lines 1 has.0) accepted_line h.1.0 old
+    before now has.1 has.1.is h.1.2 refl
 
 pub refusal_written : (r : Result (Unit {0}) WorldError) (limit : ℕ) (script proof : List ℕ) (n : ℕ) (refusal : Refusal)
     (old before now : Outside) → IsWritten r (refusal_line n refusal) before now

@@ -103,8 +103,8 @@ WaitsAlong es p texts q = (along p es texts ≡ (q, [])) × (is_at_check q.phase
 abbrev pub WaitsAtEnd : Taking
 WaitsAtEnd p texts q = (along_all p [] texts ≡ q) × (is_at_end q.phase ≡ true)
 
--- Where these bytes of the proof are left: so many of them were read, and these whole lines, which give no verdict, lead
--- on. No other line is whole in what was read.
+-- Where these bytes of the proof are left: so many of them were read, and these whole lines, which give no verdict,
+-- lead on. No other line is whole in what was read.
 pub record CameToLimit (Takes : Taking) (count : ℕ) (old new : LinesState) (left : List ℕ) (before : Progress) : Type 0
   where
     pub within : count ≤ length left

@@ -69,7 +69,7 @@ abbrev pub IsBounded : ℕ → List ℕ → Type 0
 IsBounded limit script = (length script < limit) ⊎ HasExit limit script
 
 -- So many bytes in front of the script as the limit are these whole entries, none of them (exit), and a rest without a
--- whole one. The proof goes along with these entries, and with these verdicts no line is refused so far.
+-- whole one. The proof goes along with all of these entries, with these verdicts, and no line of it is refused.
 pub record IsPastScript (limit : ℕ) (script proof : List ℕ) (said : List Said) : Type 0 where
   pub front : List ℕ
   pub more : List ℕ
@@ -95,16 +95,16 @@ is_at_end at_end = true
 is_at_end behind_end = true
 is_at_end (stopped n refusal) = false
 
--- All these lines of a proof are taken along with these entries of the script, and none is refused: behind the entries a
--- check waits for more lines, or they are all of the script, and the end of the proof is due.
+-- All these lines of a proof are taken along with these entries of the script, and none is refused: behind the entries
+-- a check waits for more lines, or they are all of the script, and the end of the proof is due.
 abbrev pub AreTaken : List ℕ → List Entry → List LineText → Progress → Type 0
 AreTaken script entries lines p =
     ((along beginning (events state.start entries) lines ≡ (p, [])) × (is_at_check p.phase ≡ true))
     ⊎ ((along_all beginning (events state.start entries) lines ≡ p) × (is_at_end p.phase ≡ true)
     × AreEntriesOf script entries)
 
--- So many bytes in front of the proof as the limit are these whole lines, and a rest in which no line ends. All the
--- lines are taken along with these entries in front of the script, with these verdicts.
+-- So many bytes in front of the proof as the limit are these whole lines, and a rest in which no line ends. All of
+-- these lines are taken along with these entries in front of the script, with these verdicts.
 pub record IsPastProof (limit : ℕ) (script proof : List ℕ) (said : List Said) : Type 0 where
   pub front : List ℕ
   pub left : List ℕ
@@ -120,8 +120,8 @@ pub record IsPastProof (limit : ℕ) (script proof : List ℕ) (said : List Said
   pub taken : AreTaken script entries (texts_of front) progress
   pub said_is : progress.said ≡ said
 
--- So many bytes as the limit were read, of the script before its end and (exit), or of the proof before its end. No line
--- is refused so far, and the verdicts so far are written.
+-- So many bytes as the limit were read, of the script before its end and (exit), or of the proof before its end. No
+-- line is refused so far, and the verdicts so far are written.
 pub record PastLimit (limit : ℕ) (script proof : List ℕ) (old new : Outside) : Type 0 where
   pub said : List Said
   pub writes : Writes limit script proof (goes_on said) (answer (goes_on said)) old new

@@ -1,6 +1,6 @@
 //! The top call of the checker.
 
-ghost use Rattle.std.specs.Prelude.{◌≡◌, ℕ, ◌+◌, ◌^◌, ◌<◌, ◌≤◌, ◌⊎◌, true, false, List, length, take, map, string_bytes, Some, Ok, Err, IfOk, IfErr, OnOk, OnErr};
+ghost use Rattle.std.specs.Prelude.{◌≡◌, ℕ, ◌+◌, ◌^◌, ◌<◌, ◌⊎◌, true, false, List, length, take, map, string_bytes, Some, Ok, Err, IfOk, IfErr, OnOk, OnErr};
 ghost use Rattle.sb_world.specs.Outside.{Outside, Rose, CountsFault, open_at, write_at};
 ghost use Rattle.sb_rulebook.specs.Lines as rulebook;
 ghost use Rattle.sb_sound.specs.Outcomes.{IsAccepted};

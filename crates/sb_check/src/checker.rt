@@ -1,6 +1,6 @@
 //! A script and its proof, entry by entry.
 
-ghost use Rattle.std.specs.Prelude.{◌≡◌, ◌+◌, ◌<◌, ◌≤◌, true, [], Some, IfOk, IfErr, OnOk};
+ghost use Rattle.std.specs.Prelude.{◌≡◌, ◌+◌, ◌<◌, ◌≤◌, true, Some, IfOk, IfErr, OnOk};
 ghost use Rattle.sb_world.specs.Outside.{Rose};
 ghost use Rattle.sb_script.specs.State.{start};
 ghost use Rattle.sb_script.specs.Replies.{step_of};
@@ -68,8 +68,8 @@ impl Checker {
     /// Takes the next entry of the script, and at a check the lines of the proof up to its verdict. `Refused` comes
     /// where a line is refused by the rules of proofs, whatever entries come behind this one; `Limit` where as many
     /// bytes of the proof as the limit of `lines` were read, and not its end, the whole lines among them are taken, and
-    /// the check waits for more; `Fault` only where the world's count of faults rose. After an error nothing more may be
-    /// checked. The cost is that of `Judge::enter`, and that of each line.
+    /// the check waits for more; `Fault` only where the world's count of faults rose. After an error nothing more may
+    /// be checked. The cost is that of `Judge::enter`, and that of each line.
     pub fn command<W: World>(
         &mut self,
         entry: &Next,

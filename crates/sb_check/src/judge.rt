@@ -58,8 +58,8 @@ impl Judge {
 
     /// Judges a line where a check waits: the text in front of a line feed, or, where the proof ends without one, what
     /// stands behind the last line feed, and `ended` is false. Answers the verdict, where the line is one. Its cost is
-    /// that of the line's kind. After an error nothing more may be judged. A line whose number is the last one of 64 bits
-    /// is want of memory.
+    /// that of the line's kind. After an error nothing more may be judged. A line whose number is the last one of 64
+    /// bits is want of memory.
     pub fn take(&mut self, text: &[u8], ended: bool) -> Result<Option<Said>, JudgeFault>
         requires { IsStanding self.old }
         ensures ok { IfOk result (λ said. (p : Progress) → IsAt (waiting_in (state_of self.old.stack)) self.old p

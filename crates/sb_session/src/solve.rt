@@ -51,8 +51,8 @@ const INPUT_LIMIT: u64 = 0x1_0000_0000;
 /// How many bytes are asked of the world at a time.
 const PIECE: usize = 0x1_0000;
 
-/// Answers the script that the words ask for, `strsolve [--proof FILE] [SCRIPT]` with the program's name first, and reads
-/// at most 2^32 bytes of it: `solve_within` of this limit.
+/// Answers the script that the words ask for, `strsolve [--proof FILE] [SCRIPT]` with the program's name first, and
+/// reads at most 2^32 bytes of it: `solve_within` of this limit.
 pub fn solve_top<W: World>(alloc: Global, words: &[String], world: &mut W) -> SolveStatus
     ensures usage { are_taken (map string_bytes words.now) ≡ false
         → WrongWords result (W.outside world.old) (W.outside world.new) }
@@ -77,9 +77,9 @@ pub fn solve_top<W: World>(alloc: Global, words: &[String], world: &mut W) -> So
     solve_within(alloc, words, world, INPUT_LIMIT)
 }
 
-/// Answers the script that the words ask for, and reads at most so many bytes of it: that of the file SCRIPT, or without
-/// one of standard input. The script is opened first, then FILE is created, then entries are answered. Words that are
-/// not taken get a text on standard error and nothing else, `--help` and `--version` too.
+/// Answers the script that the words ask for, and reads at most so many bytes of it: that of the file SCRIPT, or
+/// without one of standard input. The script is opened first, then FILE is created, then entries are answered. Words
+/// that are not taken get a text on standard error and nothing else, `--help` and `--version` too.
 ///
 /// After each read all whole commands in what was read are answered before the next read. The status is
 /// `Usage` where the words are not taken, `Fault` only where the world's count of faults rose, and `InputLimit`
@@ -175,8 +175,8 @@ fn create_proof<W: World>(name: Option<&str>, world: &mut W) -> Result<(), World
     }
 }
 
-/// Reads the script that is opened piece by piece, as much at a time as the buffer holds and the limit leaves, and answers
-/// it.
+/// Reads the script that is opened piece by piece, as much at a time as the buffer holds and the limit leaves, and
+/// answers it.
 fn answer_script<W: World>(
     buffer: &mut [u8],
     limit: usize,

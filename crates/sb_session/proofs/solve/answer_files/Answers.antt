@@ -7,8 +7,9 @@ use Rattle.sb_session.proofs.solve.answer_files.Goals as goal
 
 pub returns-clause-ok : goal.returns-clause-ok
 returns-clause-ok g c =
-    run_from (asked_for (option_copied c.args.script) (option_copied c.args.proof) c.args.limit) (is_proved c.new-session.result)
-    c.answer_script-outcome.result (g.W.World.outside c.args.world.now) (g.W.World.outside c.create_proof.new.world)
+    run_from (asked_for (option_copied c.args.script) (option_copied c.args.proof) c.args.limit)
+    (is_proved c.new-session.result) c.answer_script-outcome.result (g.W.World.outside c.args.world.now)
+    (g.W.World.outside c.create_proof.new.world)
     (g.W.World.outside c.answer_script-outcome.new.world) c.args.limit (g.W.World.faults c.args.world.now)
     (g.W.World.faults c.create_proof.new.world) (g.W.World.faults c.answer_script-outcome.new.world) refl
     (c.new-session.ensures.kind ∙ (c.is_some.ensures ∙ some_mapped _ c.args.proof))
