@@ -1,6 +1,7 @@
 -- The clauses of gates are gates, in order.
 use Rattle.std.proofs.Common.{◌≡◌, ℕ, ◌+◌, ◌<◌, Bool, true, false, ◌||◌, if◌then◌else◌, List, [], ◌∷◌, ◌++◌, length, map, take, get_or, slice_get, Some, option_map, refl, sym, ap, ◌∙◌, append_assoc}
 use Rattle.std.specs.List.{list_all, list_any}
+use Rattle.std.specs.Ordering.{match_ordering}
 use Rattle.std.specs.declared.cmp.Ordering.{Ordering}
 use Rattle.std.specs.declared.cmp.Ordering.TheVariants.{Less, Equal, Greater}
 use Rattle.std.proofs.lemmas.Bool.{and_parts, and_from, or_left, or_right}
@@ -23,7 +24,7 @@ use Rattle.sb_atoms.specs.GateClauses.{atom_at, clause_of, clauses_of, gate, is_
 -- Literals in order are the same literals.
 
 abbrev by_order : Ordering → Lit → Lit → List Lit → List Lit
-by_order o l m ms = elim o [ Less ↦ l ∷ m ∷ ms | Equal ↦ m ∷ ms | Greater ↦ m ∷ with_literal l ms ]
+by_order o l m ms = match_ordering o (l ∷ m ∷ ms) (m ∷ ms) (m ∷ with_literal l ms)
 
 twice : (a c : Bool) → (a || c) ≡ (a || (a || c))
 twice true c = refl

@@ -16,7 +16,7 @@ use Rattle.sb_fragment.specs.declared.shape.Connective.TheVariants as connective
 use Rattle.sb_fragment.specs.declared.shape.Shape.TheVariants as shape
 use Rattle.sb_fragment.specs.Compared.{compared}
 use Rattle.sb_fragment.specs.Shapes.{IsApplied, IsComparison, IsConnected, IsShape, parts_of, truth_of, comparison_of}
-use Rattle.sb_fragment.proofs.CallerLemmas.{chain_all, pairs_all_test, compared_map}
+use Rattle.sb_fragment.proofs.CallerLemmas.{pairs_all_test, compared_map}
 use Rattle.sb_atoms.specs.Given.{GivesValues, GivesEach}
 use Rattle.sb_atoms.specs.Truths.{chosen_truth, is_same, connected_truth, are_as_wanted}
 
@@ -233,7 +233,6 @@ words_hold t false h v = rw h.is (sym step)
     step =
         and-true _
         ∙ ap (is_chain are_equal) (meanings_are v h.terms)
-        ∙ chain_all are_equal (map (meaning_of v) (terms_in h.terms))
         ∙ of_each_two are_equal false v (terms_in h.terms)
         ∙ all_same (λ p. are_equal (meaning_of v p.0) (meaning_of v p.1)) (are_as_wanted false v)
         (compared false (terms_in h.terms))

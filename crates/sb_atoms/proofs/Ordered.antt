@@ -2,7 +2,6 @@
 use Rattle.std.proofs.Common.{◌≡◌, ℕ, true, not, ◌&&◌, List, [], ◌∷◌, ◌++◌, length, map, Vec, Global, vec_len, refl, ap, ◌∙◌, arith, rules}
 use Rattle.std.specs.Cmp.{IsTotalOrder}
 use Rattle.std.specs.Cmp.Rules.{comparing}
-use Rattle.std.specs.BTreeSet.{insert_key}
 use Rattle.std.specs.declared.cmp.Ordering.{Ordering}
 use Rattle.std.specs.declared.cmp.Ordering.TheVariants.{Less, Equal, Greater}
 use Rattle.std.specs.Ordering.{is_lt, is_gt, match_ordering, ordering_reverse}
@@ -39,17 +38,7 @@ onto_last (m ∷ ls) set l = ap (with_literal m) (onto_last ls set l)
 
 -- where the literal is put, by its order to the first one
 abbrev by_order : Ordering → Lit → Lit → List Lit → List Lit
-by_order o l m ms = elim o [ Less ↦ l ∷ m ∷ ms | Equal ↦ m ∷ ms | Greater ↦ m ∷ with_literal l ms ]
-
-pub inserted : (ls : List Lit) (l : Lit) → insert_key literal_order ls l ≡ with_literal l ls
-inserted [] l = refl
-inserted (m ∷ ms) l = step (literal_order l m) (inserted ms l)
-  where
-    step : (o : Ordering) → insert_key literal_order ms l ≡ with_literal l ms
-        → match_ordering o (l ∷ m ∷ ms) (m ∷ ms) (m ∷ insert_key literal_order ms l) ≡ by_order o l m ms
-    step Less rest = refl
-    step Equal rest = refl
-    step Greater rest = ap (λ xs. m ∷ xs) rest
+by_order o l m ms = match_ordering o (l ∷ m ∷ ms) (m ∷ ms) (m ∷ with_literal l ms)
 
 -- Below a number.
 

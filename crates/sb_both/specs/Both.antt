@@ -4,7 +4,7 @@ use Rattle.sb_reader.specs.Entries.{Entry}
 use Rattle.sb_script.specs.State as state
 use Rattle.sb_rulebook.specs.Lines.{Said}
 use Rattle.sb_rulebook.specs.Reading.{texts_of}
-use Rattle.sb_rulebook.specs.Judging.{accepted, judged}
+use Rattle.sb_rulebook.specs.Judging.{beginning, accepted, judged}
 use Rattle.sb_rulebook.specs.Accepted.{events}
 use Rattle.sb_sound.specs.TruthLaws.{AreTrue}
 use Rattle.sb_sound.specs.Outcomes.{AreEntriesOf}
@@ -15,7 +15,7 @@ pub record Confirms (script proof : List ℕ) (said : List Said) : Type 0 where
   pub entries : List Entry
   pub all : AreEntriesOf script entries
   pub judged : judged (events state.start entries) proof ≡ accepted said
-  pub true_of : AreTrue state.start entries (texts_of proof) said
+  pub true_of : AreTrue state.start beginning entries (texts_of proof) said
 
 -- some proof does
 abbrev pub IsConfirmed : List ℕ → Type 0

@@ -202,7 +202,7 @@ pub record MeansSo (script proof : List ℕ) (old new : Outside) : Type 0 where
   pub entries : List Entry
   pub all : AreEntriesOf script entries
   pub judged : judged (events state.start entries) proof ≡ accepted said
-  pub true_of : AreTrue state.start entries (texts_of proof) said
+  pub true_of : AreTrue state.start beginning entries (texts_of proof) said
   pub written : new.answers.written ≡ option_map (λ bytes. bytes ++ answer (accepted said)) old.answers.written
 
 -- the status of a run whose last text was written, or not

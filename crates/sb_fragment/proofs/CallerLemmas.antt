@@ -9,7 +9,7 @@ use Rattle.sb_fragment.specs.declared.measure.Measure.{Measure}
 use Rattle.sb_fragment.specs.Measures.{IsMeasure, AreMeasures}
 pub use Rattle.sb_fragment.proofs.AskedFacts.{asked_membership}
 pub use Rattle.sb_fragment.proofs.FittingFacts.{asked_decided}
-pub use Rattle.sb_fragment.proofs.ComparedPairs.{compared_all, compared_map, chain_all, pairs_all_test, map-map, map_same}
+pub use Rattle.sb_fragment.proofs.ComparedPairs.{compared_all, compared_map, pairs_all_test, map-map, map_same}
 pub use Rattle.sb_fragment.proofs.Arguments.{all_at, items_some, some_pair, numbers_compared, terms_compared, number_at, words_at, words_stop, words_end, structure_stop, pair_at, pair_within, pair_read, pairs_done, term_within, term_read, terms_done}
 pub use Rattle.sb_fragment.proofs.Structured.{asked_structure, always_structure, alone_structure, connected_structure, words_structure, structure_sort, pair_sort, membership_structure}
 

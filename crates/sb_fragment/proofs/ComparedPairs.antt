@@ -3,7 +3,7 @@ use Rattle.std.proofs.Common.{◌≡◌, ◌<◌, Bool, true, false, ◌&&◌, L
 use Rattle.std.specs.List.{list_all}
 use Rattle.std.proofs.lemmas.Bool.{and_parts, and_from}
 use Rattle.std.proofs.lemmas.List.{append-nil, append_assoc, map-append, take_all, take_more}
-use Rattle.sb_meaning.specs.Truth.{is_chain, are_pairs}
+use Rattle.sb_meaning.specs.Truth.{are_pairs}
 use Rattle.sb_fragment.specs.Compared.{neighbours, pairs, compared}
 
 -- A test of all is one of all pairs.
@@ -39,13 +39,7 @@ pub compared_all : {X : Type 0} (test : X → Bool) (distinct : Bool) (xs : List
 compared_all test true xs h = pairs_all test xs h
 compared_all test false xs h = neighbours_all test xs h
 
--- Chains and pairs.
-
-pub chain_all : {X : Type 0} (test : X → X → Bool) (xs : List X)
-    → is_chain test xs ≡ list_all (λ p. test p.0 p.1) (neighbours xs)
-chain_all test [] = refl
-chain_all test (x ∷ []) = refl
-chain_all test (x ∷ y ∷ xs) = ap (λ b. test x y && b) (chain_all test (y ∷ xs))
+-- A relation between each two.
 
 with_each_test : {X : Type 0} (test : X → X → Bool) (x : X) (xs : List X) (ps : List (X × X)) (b : Bool)
     → b ≡ list_all (λ p. test p.0 p.1) ps

@@ -27,7 +27,7 @@ use Rattle.sb_fragment.specs.Shapes.{IsApplied, IsComparison, IsConnected, IsSha
 use Rattle.sb_fragment.specs.Fitting.{have_short_words, fit_with, fit_by, both_fit, term_fit, terms_fit, regex_fit, pair_fit, neighbours_fit, words_fit}
 use Rattle.sb_fragment.specs.Rules.{is_decided}
 use Rattle.sb_fragment.proofs.AskedFacts.{asked_membership}
-use Rattle.sb_fragment.proofs.ComparedPairs.{chain_all, pairs_all_test}
+use Rattle.sb_fragment.proofs.ComparedPairs.{pairs_all_test}
 use Rattle.sb_fragment.proofs.MeasureFacts.{both_moved, literal_is, regular_is}
 use Rattle.sb_fragment.proofs.Structured.{each_two, asked_structure, always_structure, alone_structure, connected_structure, words_structure, pair_sort, too_many}
 
@@ -55,7 +55,7 @@ compared_fits t false h = rw h.is (fits_by false h.terms boolean h.first ∙ fit
 
 each_two_all : (distinct : Bool) (ts : List Term) → each_two distinct is_word_pair ts ≡ have_short_words distinct ts
 each_two_all true ts = pairs_all_test is_word_pair ts
-each_two_all false ts = chain_all is_word_pair ts
+each_two_all false ts = refl
 
 words_short : (t : Term) (distinct : Bool) → IsComparison t distinct text → fits t ≡ have_short_words distinct (parts_of t)
 words_short t true h = rw h.is (fits_by true h.terms text h.first ∙ each_two_all true (terms_in h.terms))

@@ -18,7 +18,7 @@ use Rattle.sb_fragment.specs.declared.shape.Connective.TheVariants as connective
 use Rattle.sb_fragment.specs.declared.shape.Shape.TheVariants as shape
 use Rattle.sb_fragment.specs.Shapes.{IsApplied, IsComparison, IsConnected, IsShape, parts_of, truth_of, comparison_of, are_word_pairs}
 use Rattle.sb_fragment.proofs.AskedFacts.{asked_membership}
-use Rattle.sb_fragment.proofs.ComparedPairs.{chain_all, pairs_all_test}
+use Rattle.sb_fragment.proofs.ComparedPairs.{pairs_all_test}
 
 pub terms_in_of : (ts : List Term) → terms_in (terms_of ts) ≡ ts
 terms_in_of [] = refl
@@ -38,7 +38,7 @@ each_two distinct test ts = if distinct then are_pairs test ts else is_chain tes
 
 each_two_all : (distinct : Bool) (ts : List Term) → each_two distinct is_pair ts ≡ are_word_pairs distinct ts
 each_two_all true ts = pairs_all_test is_pair ts
-each_two_all false ts = chain_all is_pair ts
+each_two_all false ts = refl
 
 -- by the sort of the first
 abbrev by_sort : Sort → Bool → List Term → Bool → Bool

@@ -1,11 +1,6 @@
 -- What is compared two by two.
 use Rattle.std.specs.Prelude.{Bool, if◌then◌else◌, List, [], ◌∷◌, ◌++◌, map}
-
--- each two neighbours
-abbrev pub neighbours : {A : Type 0} → List A → List (A × A)
-neighbours [] = []
-neighbours (a ∷ []) = []
-neighbours (a ∷ b ∷ rest) = (a, b) ∷ neighbours (b ∷ rest)
+pub use Rattle.sb_meaning.specs.Truth.{neighbours}
 
 -- each two
 abbrev pub pairs : {A : Type 0} → List A → List (A × A)

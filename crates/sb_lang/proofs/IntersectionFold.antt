@@ -9,6 +9,7 @@ use Rattle.sb_class.specs.Ranges.{Range, in_ranges, rises_from}
 use Rattle.sb_lang.specs.Regex.{Regex, none, set, and}
 use Rattle.std.specs.declared.cmp.Ordering.{Ordering}
 use Rattle.std.specs.declared.cmp.Ordering.TheVariants.{Less, Equal, Greater}
+use Rattle.std.specs.Ordering.{match_ordering}
 use Rattle.sb_lang.specs.Order.{code, codes, regex_cmp, regex_eq}
 use Rattle.sb_lang.specs.Constructors.{is_anything, is_none, mkset, conjuncts, ranges_of, is_set, inter_of, meet_of, meet_sets, with_regex, sorted, and_of, mkand}
 use Rattle.sb_lang.specs.NormalForm.{is_normal}
@@ -175,7 +176,7 @@ sets_in-with_set s (r ∷ rs) h = step (sets_in-with_set s rs) (ranges_of r) ref
   where
     step : (sets_in rs ≡ [] → sets_in (with_regex (set s) rs) ≡ s ∷ []) → (x : List (List Range)) → ranges_of r ≡ x
         → (o : Ordering) → regex_cmp (set s) r ≡ o →
-        sets_in (elim o [ Less ↦ set s ∷ r ∷ rs | Equal ↦ r ∷ rs | Greater ↦ r ∷ with_regex (set s) rs ]) ≡ s ∷ []
+        sets_in (match_ordering o (set s ∷ r ∷ rs) (r ∷ rs) (r ∷ with_regex (set s) rs)) ≡ s ∷ []
     step rest x is Less eq = ap (λ y. s ∷ y) h
     step rest x is Equal eq =
         absurd (cons_is_not_nil s (sets_in rs) (ap (λ y. ranges_of y ++ sets_in rs) ((cmp_decides (set s) r).0 eq) ∙ h))

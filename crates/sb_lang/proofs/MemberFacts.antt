@@ -3,6 +3,7 @@ use Rattle.std.proofs.Common.{◌≡◌, ℕ, Bool, true, false, not, ◌&&◌, 
 use Rattle.std.specs.List.{list_any, list_all, filter, flat_map}
 use Rattle.std.specs.declared.cmp.Ordering.{Ordering}
 use Rattle.std.specs.declared.cmp.Ordering.TheVariants.{Less, Equal, Greater}
+use Rattle.std.specs.Ordering.{match_ordering}
 use Rattle.std.proofs.Math.Bool.{and-false, and-true, and_assoc, or-false, or-true, or_assoc, or_self_left, and_self_left}
 use Rattle.std.proofs.lemmas.Bool.{or_cases, false≢true}
 use Rattle.std.proofs.lemmas.List.Folds.{list_any-append, list_all-append}
@@ -64,7 +65,7 @@ in_some-with_regex r [] w = refl
 in_some-with_regex r (s ∷ ss) w = step (in_some-with_regex r ss w) (regex_cmp r s) refl
   where
     step : in_some (with_regex r ss) w ≡ (language r w || in_some ss w) → (o : Ordering) → regex_cmp r s ≡ o
-        → in_some (elim o [ Less ↦ r ∷ s ∷ ss | Equal ↦ s ∷ ss | Greater ↦ s ∷ with_regex r ss ]) w
+        → in_some (match_ordering o (r ∷ s ∷ ss) (s ∷ ss) (s ∷ with_regex r ss)) w
         ≡ (language r w || (language s w || in_some ss w))
     step rest Less is = refl
     step rest Equal is =
@@ -85,7 +86,7 @@ in_each-with_regex r [] w = refl
 in_each-with_regex r (s ∷ ss) w = step (in_each-with_regex r ss w) (regex_cmp r s) refl
   where
     step : in_each (with_regex r ss) w ≡ (language r w && in_each ss w) → (o : Ordering) → regex_cmp r s ≡ o
-        → in_each (elim o [ Less ↦ r ∷ s ∷ ss | Equal ↦ s ∷ ss | Greater ↦ s ∷ with_regex r ss ]) w
+        → in_each (match_ordering o (r ∷ s ∷ ss) (s ∷ ss) (s ∷ with_regex r ss)) w
         ≡ (language r w && (language s w && in_each ss w))
     step rest Less is = refl
     step rest Equal is =

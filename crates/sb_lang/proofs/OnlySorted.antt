@@ -4,7 +4,7 @@ use Rattle.std.specs.List.{filter, list_any, AllByRecursion}
 use Rattle.std.specs.List.Sorted.{IsStrictlySortedBy}
 use Rattle.std.specs.declared.cmp.Ordering.{Ordering}
 use Rattle.std.specs.declared.cmp.Ordering.TheVariants.{Less, Equal, Greater}
-use Rattle.std.specs.Ordering.{is_lt, is_eq, ordering_reverse}
+use Rattle.std.specs.Ordering.{is_lt, is_eq, ordering_reverse, match_ordering}
 use Rattle.std.proofs.Math.Bool.{or_self_left}
 use Rattle.std.proofs.lemmas.List.Folds.{list_any-append}
 use Rattle.std.proofs.lemmas.Bool.{and_parts, false≢true}
@@ -23,7 +23,7 @@ list_any-with_regex p r [] = refl
 list_any-with_regex p r (s ∷ ss) = step (list_any-with_regex p r ss) (regex_cmp r s) refl
   where
     step : list_any p (with_regex r ss) ≡ (p r || list_any p ss) → (o : Ordering) → regex_cmp r s ≡ o →
-        list_any p (elim o [ Less ↦ r ∷ s ∷ ss | Equal ↦ s ∷ ss | Greater ↦ s ∷ with_regex r ss ])
+        list_any p (match_ordering o (r ∷ s ∷ ss) (s ∷ ss) (s ∷ with_regex r ss))
         ≡ (p r || (p s || list_any p ss))
     step rest Less is = refl
     step rest Equal is = sym (or_self_left (p s) (list_any p ss))

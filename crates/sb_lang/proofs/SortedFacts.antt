@@ -3,7 +3,7 @@ use Rattle.std.proofs.Common.{◌≡◌, ◌+◌, ◌≤◌, Bool, true, false, 
 use Rattle.std.specs.List.{list_any, list_all, filter, flat_map}
 use Rattle.std.specs.declared.cmp.Ordering.{Ordering}
 use Rattle.std.specs.declared.cmp.Ordering.TheVariants.{Less, Equal, Greater}
-use Rattle.std.specs.Ordering.{is_lt, ordering_reverse}
+use Rattle.std.specs.Ordering.{is_lt, ordering_reverse, match_ordering}
 use Rattle.std.proofs.Math.Bool.{and_self_left}
 use Rattle.std.proofs.lemmas.Bool.{and_parts, or_parts, false≢true}
 use Rattle.std.proofs.lemmas.List.Folds.{list_all-append}
@@ -85,7 +85,7 @@ list_all-with_regex p r [] = refl
 list_all-with_regex p r (s ∷ ss) = step (list_all-with_regex p r ss) (regex_cmp r s) refl
   where
     step : list_all p (with_regex r ss) ≡ (p r && list_all p ss) → (o : Ordering) → regex_cmp r s ≡ o →
-        list_all p (elim o [ Less ↦ r ∷ s ∷ ss | Equal ↦ s ∷ ss | Greater ↦ s ∷ with_regex r ss ])
+        list_all p (match_ordering o (r ∷ s ∷ ss) (s ∷ ss) (s ∷ with_regex r ss))
         ≡ (p r && (p s && list_all p ss))
     step rest Less is = refl
     step rest Equal is = sym (and_self_left (p s) (list_all p ss))
@@ -127,7 +127,7 @@ ascending-with_regex r (s ∷ ss) h =
   where
     step : before_all s ss ≡ true → ascending ss ≡ true → ascending (with_regex r ss) ≡ true → (o : Ordering)
         → regex_cmp r s ≡ o →
-        ascending (elim o [ Less ↦ r ∷ s ∷ ss | Equal ↦ s ∷ ss | Greater ↦ s ∷ with_regex r ss ]) ≡ true
+        ascending (match_ordering o (r ∷ s ∷ ss) (s ∷ ss) (s ∷ with_regex r ss)) ≡ true
     step first tail rest Less is =
         ap₂ ◌&&◌ (ap₂ ◌&&◌ (ap is_lt is) (before_all-further r s ss is first)) (ap₂ ◌&&◌ first tail)
     step first tail rest Equal is = ap₂ ◌&&◌ first tail
@@ -155,7 +155,7 @@ unfolding with_regex
 with_regex-first r [] h = refl
 with_regex-first r (s ∷ ss) h =
     let p = and_parts (is_lt (regex_cmp r s)) _ h in
-    ap (λ o. elim o [ Less ↦ r ∷ s ∷ ss | Equal ↦ s ∷ ss | Greater ↦ s ∷ with_regex r ss ])
+    ap (λ o. match_ordering o (r ∷ s ∷ ss) (s ∷ ss) (s ∷ with_regex r ss))
     (less_from (regex_cmp r s) p.0)
 
 pub sorted-ascending : (rs : List Regex) → ascending rs ≡ true → sorted rs ≡ rs
@@ -207,7 +207,7 @@ further : (r : Regex) (s : List Range) (rs : List Regex) → is_lt (regex_cmp r 
     → with_regex (set s) (r ∷ rs) ≡ r ∷ with_regex (set s) rs
 unfolding with_regex
 further r s rs h =
-    ap (λ o. elim o [ Less ↦ set s ∷ r ∷ rs | Equal ↦ r ∷ rs | Greater ↦ r ∷ with_regex (set s) rs ])
+    ap (λ o. match_ordering o (set s ∷ r ∷ rs) (r ∷ rs) (r ∷ with_regex (set s) rs))
     (regex_cmp_total.antisymm (set s) r ∙ ap ordering_reverse (less_from (regex_cmp r (set s)) h))
 
 -- the one set goes to its place
@@ -244,7 +244,7 @@ sets_in-with_regex r [] = omega (arith, sets_in-one r [])
 sets_in-with_regex r (s ∷ ss) = step (sets_in-with_regex r ss) (regex_cmp r s)
   where
     step : length (sets_in (with_regex r ss)) ≤ length (ranges_of r) + length (sets_in ss) → (o : Ordering) →
-        length (sets_in (elim o [ Less ↦ r ∷ s ∷ ss | Equal ↦ s ∷ ss | Greater ↦ s ∷ with_regex r ss ])) ≤ length
+        length (sets_in (match_ordering o (r ∷ s ∷ ss) (s ∷ ss) (s ∷ with_regex r ss))) ≤ length
         (ranges_of r) + length (sets_in (s ∷ ss))
     step rest Less = omega (arith, sets_in-one r (s ∷ ss))
     step rest Equal = omega arith

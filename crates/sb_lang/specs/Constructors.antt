@@ -1,7 +1,7 @@
 -- The normalising constructors: each gives a normal regex of normal parts, so that equal ones are one regex.
 use Rattle.std.specs.Prelude.{ℕ, Bool, true, false, not, ◌&&◌, ◌||◌, ◌==◌, nat_lt, if◌then◌else◌, List, [], ◌∷◌, ◌++◌, filter, flat_map}
 use Rattle.std.specs.List.{list_any}
-use Rattle.std.specs.declared.cmp.Ordering.TheVariants.{Less, Equal, Greater}
+use Rattle.std.specs.BTreeSet.{insert_key}
 use Rattle.sb_class.specs.Ranges.{Range}
 use Rattle.sb_lang.specs.Regex.{Regex, none, eps, set, cat, alt, and, neg, star, rep, path, regexes, parts}
 use Rattle.sb_lang.specs.Order.{regex_cmp, regex_eq}
@@ -76,8 +76,7 @@ meet_sets rs = meet_of (flat_map ranges_of rs) ++ filter (λ r. not (is_set r)) 
 
 -- with one more regex in its place, unless it is there
 unfoldable pub with_regex : Regex → List Regex → List Regex
-with_regex r [] = r ∷ []
-with_regex r (s ∷ ss) = elim (regex_cmp r s) [ Less ↦ r ∷ s ∷ ss | Equal ↦ s ∷ ss | Greater ↦ s ∷ with_regex r ss ]
+with_regex r rs = insert_key regex_cmp rs r
 
 -- ascending, and each once
 unfoldable pub sorted : List Regex → List Regex

@@ -1,12 +1,13 @@
--- Computed examples of truth and of printed values.
-use Rattle.std.specs.Prelude.{◌≡◌, negsuc, true, false, [], ◌∷◌, codes, refl}
+-- Computed examples of symbols, of truth and of printed values.
+use Rattle.std.specs.Prelude.{◌≡◌, pos, negsuc, ◌-ℤ◌, true, false, not, ◌&&◌, [], ◌∷◌, length, codes, refl}
 use Rattle.std.specs.Fmt.{digits}
-use Rattle.sb_lang.specs.Membership.{in_re}
+use Rattle.sb_lang.specs.Membership.{in_re, is_word}
 use Rattle.sb_lang.specs.Languages.{cut, power, some_up_to, iterate}
 use Rattle.sb_meaning.specs.Terms.{Term, Symbol, constant, word, numeral, apply, no_terms, with_term, text, integer, boolean}
 use Rattle.sb_meaning.specs.Terms as symbol
+use Rattle.sb_meaning.specs.Sorts.{signature_of, symbols, arity_of, is_count, is_of_one}
 use Rattle.sb_meaning.specs.Values.{Valuation, Text, Int, Truth}
-use Rattle.sb_meaning.specs.Truth.{holds}
+use Rattle.sb_meaning.specs.Truth.{holds, is_chain, are_pairs, is_less}
 use Rattle.sb_meaning.specs.Printed.{printed}
 
 abbrev pub one : Symbol → Term → Term
@@ -33,6 +34,27 @@ p = constant 3 boolean
 
 abbrev values : Valuation
 values = (0, Text (codes "aa")) ∷ (1, Text (codes "bbb")) ∷ (2, Int (negsuc 4)) ∷ (3, Truth true) ∷ []
+
+-- each symbol has a name of its own
+how_many_symbols : length symbols ≡ 38
+how_many_symbols = refl
+
+names_differ : are_pairs (λ s t. not (is_word (signature_of s).name (signature_of t).name)) symbols ≡ true
+names_differ = refl
+
+-- of one argument a conjunction is the argument, and a difference is a negation
+takes_one : (is_count (arity_of symbol.core_and) 1 && is_of_one symbol.core_and) ≡ true
+takes_one = refl
+
+negates_one : (is_count (arity_of symbol.minus) 1 && not (is_of_one symbol.minus)) ≡ true
+negates_one = refl
+
+-- each two neighbours, and each two
+neighbours_alone : is_chain is_less (pos 1 ∷ pos 3 ∷ pos 5 ∷ []) ≡ true
+neighbours_alone = refl
+
+each_two : are_pairs (λ m n. is_less (n -ℤ m) (pos 3)) (pos 1 ∷ pos 3 ∷ pos 5 ∷ []) ≡ false
+each_two = refl
 
 -- (str.in_re x (re.+ (re.range "a" "b")))
 some_of_a_b : holds (two symbol.str_in_re x

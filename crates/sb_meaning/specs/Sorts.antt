@@ -1,6 +1,6 @@
--- The sorts of terms: what a symbol of the theories takes, and what it makes (SMT-LIB 2.6, the theories Core, Ints and
--- Unicode Strings).
-use Rattle.std.specs.Prelude.{ℕ, Bool, true, false, not, ◌&&◌, ◌==◌, nat_le, List, [], ◌∷◌, length}
+-- The symbols of the theories, by one table, and the sorts of terms: what a symbol takes, and what it makes (SMT-LIB
+-- 2.6, the theories Core, Ints and Unicode Strings).
+use Rattle.std.specs.Prelude.{ℕ, Bool, true, false, not, ◌&&◌, ◌==◌, nat_le, List, [], ◌∷◌, length, codes}
 use Rattle.std.specs.List.{list_all}
 use Rattle.sb_meaning.specs.Terms.{Sort, Term, Symbol, boolean, integer, text, reglan, constant, word, numeral, apply, parameter}
 use Rattle.sb_meaning.specs.Terms as symbol
@@ -16,82 +16,87 @@ pub data Arity : Type 0 where
   -- a truth value, and two of one sort
   choice : Arity
 
+-- What the theories say of a symbol: its name, how many numerals it takes as indices, what it takes, and the sort of
+-- what it makes. Of one argument some symbols make the argument itself, where the theory asks for two or more.
+pub record Signature : Type 0 where
+  pub name : List ℕ
+  pub indices : ℕ
+  pub arity : Arity
+  pub of_one : Bool
+  pub result : Sort
+
+abbrev pub plain : List ℕ → Arity → Sort → Signature
+plain name arity result = record { name = name; indices = 0; arity = arity; of_one = false; result = result }
+
+-- one or more of a sort are joined to one of it
+abbrev pub joining : List ℕ → Sort → Signature
+joining name sort = record { name = name; indices = 0; arity = or_more 1 sort; of_one = true; result = sort }
+
+abbrev pub indexed : List ℕ → ℕ → Arity → Sort → Signature
+indexed name n arity result = record { name = name; indices = n; arity = arity; of_one = false; result = result }
+
+-- the symbols of the theories, one row each
+abbrev pub signature_of : Symbol → Signature
+signature_of symbol.core_true = plain (codes "true") (of_each []) boolean
+signature_of symbol.core_false = plain (codes "false") (of_each []) boolean
+signature_of symbol.core_not = plain (codes "not") (of_each (boolean ∷ [])) boolean
+signature_of symbol.core_and = joining (codes "and") boolean
+signature_of symbol.core_or = joining (codes "or") boolean
+signature_of symbol.core_implies = plain (codes "=>") (or_more 2 boolean) boolean
+signature_of symbol.core_xor = plain (codes "xor") (or_more 2 boolean) boolean
+signature_of symbol.core_ite = plain (codes "ite") choice boolean
+signature_of symbol.core_equal = plain (codes "=") of_one_sort boolean
+signature_of symbol.core_distinct = plain (codes "distinct") of_one_sort boolean
+signature_of symbol.at_most = plain (codes "<=") (or_more 2 integer) boolean
+signature_of symbol.less = plain (codes "<") (or_more 2 integer) boolean
+signature_of symbol.at_least = plain (codes ">=") (or_more 2 integer) boolean
+signature_of symbol.greater = plain (codes ">") (or_more 2 integer) boolean
+signature_of symbol.plus = joining (codes "+") integer
+signature_of symbol.times = joining (codes "*") integer
+signature_of symbol.minus = plain (codes "-") (or_more 1 integer) integer
+signature_of symbol.str_concat = joining (codes "str.++") text
+signature_of symbol.str_len = plain (codes "str.len") (of_each (text ∷ [])) integer
+signature_of symbol.str_in_re = plain (codes "str.in_re") (of_each (text ∷ reglan ∷ [])) boolean
+signature_of symbol.str_prefixof = plain (codes "str.prefixof") (of_each (text ∷ text ∷ [])) boolean
+signature_of symbol.str_suffixof = plain (codes "str.suffixof") (of_each (text ∷ text ∷ [])) boolean
+signature_of symbol.str_contains = plain (codes "str.contains") (of_each (text ∷ text ∷ [])) boolean
+signature_of symbol.str_to_re = plain (codes "str.to_re") (of_each (text ∷ [])) reglan
+signature_of symbol.re_none = plain (codes "re.none") (of_each []) reglan
+signature_of symbol.re_all = plain (codes "re.all") (of_each []) reglan
+signature_of symbol.re_allchar = plain (codes "re.allchar") (of_each []) reglan
+signature_of symbol.re_concat = joining (codes "re.++") reglan
+signature_of symbol.re_union = joining (codes "re.union") reglan
+signature_of symbol.re_inter = joining (codes "re.inter") reglan
+signature_of symbol.re_diff = plain (codes "re.diff") (or_more 2 reglan) reglan
+signature_of symbol.re_star = plain (codes "re.*") (of_each (reglan ∷ [])) reglan
+signature_of symbol.re_plus = plain (codes "re.+") (of_each (reglan ∷ [])) reglan
+signature_of symbol.re_opt = plain (codes "re.opt") (of_each (reglan ∷ [])) reglan
+signature_of symbol.re_comp = plain (codes "re.comp") (of_each (reglan ∷ [])) reglan
+signature_of symbol.re_range = plain (codes "re.range") (of_each (text ∷ text ∷ [])) reglan
+signature_of (symbol.re_power n) = indexed (codes "re.^") 1 (of_each (reglan ∷ [])) reglan
+signature_of (symbol.re_loop n m) = indexed (codes "re.loop") 2 (of_each (reglan ∷ [])) reglan
+
+-- all symbols; indices of a numeral tell apart what is meant
+abbrev pub symbols : List Symbol
+symbols =
+    symbol.core_true ∷ symbol.core_false ∷ symbol.core_not ∷ symbol.core_and ∷ symbol.core_or ∷ symbol.core_implies
+    ∷ symbol.core_xor ∷ symbol.core_ite ∷ symbol.core_equal ∷ symbol.core_distinct
+    ∷ symbol.at_most ∷ symbol.less ∷ symbol.at_least ∷ symbol.greater ∷ symbol.plus ∷ symbol.times ∷ symbol.minus
+    ∷ symbol.str_concat ∷ symbol.str_len ∷ symbol.str_in_re ∷ symbol.str_prefixof ∷ symbol.str_suffixof
+    ∷ symbol.str_contains ∷ symbol.str_to_re ∷ symbol.re_none ∷ symbol.re_all ∷ symbol.re_allchar
+    ∷ symbol.re_concat ∷ symbol.re_union ∷ symbol.re_inter ∷ symbol.re_diff ∷ symbol.re_star ∷ symbol.re_plus
+    ∷ symbol.re_opt ∷ symbol.re_comp ∷ symbol.re_range ∷ symbol.re_power 0 ∷ symbol.re_loop 0 0 ∷ []
+
 -- the arguments of a symbol
 abbrev pub arity_of : Symbol → Arity
-arity_of symbol.core_true = of_each []
-arity_of symbol.core_false = of_each []
-arity_of symbol.core_not = of_each (boolean ∷ [])
-arity_of symbol.core_and = or_more 1 boolean
-arity_of symbol.core_or = or_more 1 boolean
-arity_of symbol.core_implies = or_more 2 boolean
-arity_of symbol.core_xor = or_more 2 boolean
-arity_of symbol.core_ite = choice
-arity_of symbol.core_equal = of_one_sort
-arity_of symbol.core_distinct = of_one_sort
-arity_of symbol.at_most = or_more 2 integer
-arity_of symbol.less = or_more 2 integer
-arity_of symbol.at_least = or_more 2 integer
-arity_of symbol.greater = or_more 2 integer
-arity_of symbol.plus = or_more 1 integer
-arity_of symbol.times = or_more 1 integer
-arity_of symbol.minus = or_more 1 integer
-arity_of symbol.str_concat = or_more 1 text
-arity_of symbol.str_len = of_each (text ∷ [])
-arity_of symbol.str_in_re = of_each (text ∷ reglan ∷ [])
-arity_of symbol.str_prefixof = of_each (text ∷ text ∷ [])
-arity_of symbol.str_suffixof = of_each (text ∷ text ∷ [])
-arity_of symbol.str_contains = of_each (text ∷ text ∷ [])
-arity_of symbol.str_to_re = of_each (text ∷ [])
-arity_of symbol.re_none = of_each []
-arity_of symbol.re_all = of_each []
-arity_of symbol.re_allchar = of_each []
-arity_of symbol.re_concat = or_more 1 reglan
-arity_of symbol.re_union = or_more 1 reglan
-arity_of symbol.re_inter = or_more 1 reglan
-arity_of symbol.re_diff = or_more 2 reglan
-arity_of symbol.re_star = of_each (reglan ∷ [])
-arity_of symbol.re_plus = of_each (reglan ∷ [])
-arity_of symbol.re_opt = of_each (reglan ∷ [])
-arity_of symbol.re_comp = of_each (reglan ∷ [])
-arity_of symbol.re_range = of_each (text ∷ text ∷ [])
-arity_of (symbol.re_power n) = of_each (reglan ∷ [])
-arity_of (symbol.re_loop n m) = of_each (reglan ∷ [])
+arity_of s = (signature_of s).arity
 
--- Of one argument the symbol makes the argument itself, where the theory asks for two or more.
 abbrev pub is_of_one : Symbol → Bool
-is_of_one symbol.core_and = true
-is_of_one symbol.core_or = true
-is_of_one symbol.plus = true
-is_of_one symbol.times = true
-is_of_one symbol.str_concat = true
-is_of_one symbol.re_concat = true
-is_of_one symbol.re_union = true
-is_of_one symbol.re_inter = true
-is_of_one _ = false
+is_of_one s = (signature_of s).of_one
 
 -- the sort of what a symbol makes
 abbrev pub result_of : Symbol → Sort
-result_of symbol.plus = integer
-result_of symbol.times = integer
-result_of symbol.minus = integer
-result_of symbol.str_len = integer
-result_of symbol.str_concat = text
-result_of symbol.str_to_re = reglan
-result_of symbol.re_none = reglan
-result_of symbol.re_all = reglan
-result_of symbol.re_allchar = reglan
-result_of symbol.re_concat = reglan
-result_of symbol.re_union = reglan
-result_of symbol.re_inter = reglan
-result_of symbol.re_diff = reglan
-result_of symbol.re_star = reglan
-result_of symbol.re_plus = reglan
-result_of symbol.re_opt = reglan
-result_of symbol.re_comp = reglan
-result_of symbol.re_range = reglan
-result_of (symbol.re_power n) = reglan
-result_of (symbol.re_loop n m) = reglan
-result_of _ = boolean
+result_of s = (signature_of s).result
 
 -- the sort of a term
 abbrev pub sort_of : Term → Sort

@@ -72,16 +72,23 @@ are_equal (means_number m) (means_number n) = is_eq (int_cmp m n)
 are_equal (means_truth a) (means_truth b) = not (differs a b)
 are_equal _ _ = false
 
+-- each member of a list with its neighbour behind it, and each with all members behind it
+abbrev pub neighbours : {A : Type 0} → List A → List (A × A)
+neighbours [] = []
+neighbours (a ∷ []) = []
+neighbours (a ∷ b ∷ rest) = (a, b) ∷ neighbours (b ∷ rest)
+
+abbrev pub each_with_rest : {A : Type 0} → List A → List (A × List A)
+each_with_rest [] = []
+each_with_rest (a ∷ rest) = (a, rest) ∷ each_with_rest rest
+
 -- the relation holds between each two neighbours
 abbrev pub is_chain : {A : Type 0} → (A → A → Bool) → List A → Bool
-is_chain relation [] = true
-is_chain relation (a ∷ []) = true
-is_chain relation (a ∷ b ∷ rest) = relation a b && is_chain relation (b ∷ rest)
+is_chain relation xs = list_all (λ p. relation p.0 p.1) (neighbours xs)
 
 -- the relation holds between each two
 abbrev pub are_pairs : {A : Type 0} → (A → A → Bool) → List A → Bool
-are_pairs relation [] = true
-are_pairs relation (a ∷ rest) = list_all (relation a) rest && are_pairs relation rest
+are_pairs relation xs = list_all (λ e. list_all (relation e.0) e.1) (each_with_rest xs)
 
 abbrev pub is_less : ℤ → ℤ → Bool
 is_less m n = is_lt (int_cmp m n)

@@ -1,5 +1,6 @@
 -- The literals of a gate's clauses are of its atom, or of those of which the atom speaks.
 use Rattle.sb_refute.proofs.Words.{◌≡◌, ℕ, Bool, true, false, ◌&&◌, if◌then◌else◌, List, [], ◌∷◌, map, refl, list_all, and_parts, and_from, all_append, Lit, negation, literal_order, AtomOver, bool_atom, in_atom, le_atom, sum_atom, and_atom, iff_atom, in_order, with_literal, clause_of, clauses_of, gate, is_trivial, parts_of, Ordering}
+use Rattle.std.specs.Ordering.{match_ordering}
 use Rattle.std.specs.declared.cmp.Ordering.TheVariants.{Less, Equal, Greater}
 
 module _ (p : Lit → Bool) where
@@ -9,9 +10,7 @@ module _ (p : Lit → Bool) where
     where
       step : (o : Ordering) → (p m ≡ true) × (list_all p ms ≡ true)
           → (list_all p ms ≡ true → list_all p (with_literal l ms) ≡ true)
-          → list_all p (elim o as (λ _. List Lit)
-          [ Less ↦ l ∷ m ∷ ms | Equal ↦ m ∷ ms | Greater ↦ m ∷ with_literal l ms ])
-          ≡ true
+          → list_all p (match_ordering o (l ∷ m ∷ ms) (m ∷ ms) (m ∷ with_literal l ms)) ≡ true
       step Less q rest = and_from (p l) (list_all p (m ∷ ms)) h t
       step Equal q rest = t
       step Greater q rest = and_from (p m) (list_all p (with_literal l ms)) q.0 (rest q.1)

@@ -30,7 +30,7 @@ use Rattle.sb_rulebook.specs.Tables.{names_below, is_table_from}
 use Rattle.sb_rulebook.specs.Follows.{by_rule, not_brought}
 use Rattle.sb_rulebook.specs.KeptLaws.{has_targets_below, names_regex_of, is_orderly_clause, rises_above, is_rising, IsOrderly, NothingIsOrderly, LineKeepsOrder, DroppingKeepsOrder, AllDroppedKeepsOrder, CountingAgainKeepsOrder}
 use Rattle.sb_rulebook.proofs.Accepting.{some_of, if_so, if_not, same_ok}
-use Rattle.sb_rulebook.proofs.ListFacts.{all-push, all-map, all-made, all-weaker, all-set, any-at, any-push, distinct-push}
+use Rattle.sb_rulebook.proofs.ListFacts.{by_order, all-push, all-map, all-made, all-weaker, all-set, any-at, any-push, distinct-push}
 use Rattle.sb_rulebook.proofs.SameFacts.{regex_itself}
 
 pub nothing_is_orderly : NothingIsOrderly
@@ -373,7 +373,7 @@ rises-with m n (k ∷ ks) low rising =
   where
     step : (b d : Bool) → nat_lt n k ≡ b → nat_eq n k ≡ d → (nat_lt m k ≡ true) × (rises_above k ks ≡ true)
         → (k < n → rises_above k ks ≡ true → rises_above k (with_number n ks) ≡ true)
-        → rises_above m (if b then n ∷ k ∷ ks else if d then k ∷ ks else k ∷ with_number n ks) ≡ true
+        → rises_above m (by_order b d (n ∷ k ∷ ks) (k ∷ ks) (k ∷ with_number n ks)) ≡ true
     step true d less same parts rest =
         and_from (nat_lt m n) (nat_lt n k && rises_above k ks) (lt-ltb m n low)
         (and_from (nat_lt n k) (rises_above k ks) less parts.1)
@@ -387,7 +387,7 @@ rising-with n [] rising = refl
 rising-with n (k ∷ ks) rising = step (nat_lt n k) (nat_eq n k) refl refl
   where
     step : (b d : Bool) → nat_lt n k ≡ b → nat_eq n k ≡ d
-        → is_rising (if b then n ∷ k ∷ ks else if d then k ∷ ks else k ∷ with_number n ks) ≡ true
+        → is_rising (by_order b d (n ∷ k ∷ ks) (k ∷ ks) (k ∷ with_number n ks)) ≡ true
     step true d less same = and_from (nat_lt n k) (rises_above k ks) less rising
     step false true less same = rising
     step false false less same = rises-with k n ks (grind (arith, nat_tests)) rising

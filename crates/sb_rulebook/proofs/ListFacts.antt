@@ -1,9 +1,15 @@
--- Lists of which each element passes a test, and lists in which none stands twice.
+-- Lists of which each element passes a test, lists in which none stands twice, and a choice by the order of two numbers.
 use Rattle.std.proofs.Common.{◌≡◌, ◌↔◌, ℕ, zero, suc, ◌+◌, Bool, true, false, cond, not, ◌&&◌, ◌||◌, List, [], ◌∷◌, ◌++◌, map, set, slice_get, Option, Some, None, is_some, unwrap_or, refl, sym, ap, ap₂, ◌∙◌, arith}
 use Rattle.std.specs.List.{list_all, list_any, position_from, zip}
+use Rattle.std.specs.Ordering.{match_ordering}
+use Rattle.std.specs.declared.cmp.Ordering.TheVariants.{Less, Equal, Greater}
 use Rattle.std.proofs.lemmas.Bool.{and_parts, and_from, or_parts, or_from, or_left, or_right, not-true, not_from_false, false≢true, true≢false}
 use Rattle.std.proofs.lemmas.List.Folds.{list_all-append, list_any-append}
 use Rattle.sb_rulebook.specs.KeptLaws.{are_distinct}
+
+-- what the order of two numbers makes of three ways, by its tests
+abbrev pub by_order : (b d : Bool) (first same later : List ℕ) → List ℕ
+by_order b d first same later = match_ordering (cond b Less (cond d Equal Greater)) first same later
 
 -- All pass.
 

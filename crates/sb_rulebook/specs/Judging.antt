@@ -43,7 +43,7 @@ pub record Progress : Type 0 where
   pub next : ℕ
 
 abbrev pub beginning : Progress
-beginning = record { phase = at_rest; begun = false; said = []; kept = nothing_kept 1; next = 1 }
+beginning = record { phase = at_rest; begun = false; said = []; kept = nothing_kept newest_format; next = 1 }
 
 -- An event.
 

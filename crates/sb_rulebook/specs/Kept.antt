@@ -1,6 +1,8 @@
 -- What a proof keeps: all that its lines have established so far.
-use Rattle.std.specs.Prelude.{ℕ, ◌+◌, ◌-◌, ◌^◌, Bool, true, false, ◌==◌, nat_lt, nat_eq, if◌then◌else◌, List, [], ◌∷◌, ◌++◌, map, set, slice_get, Option, Some, None, unwrap_or, Result, Ok, Err}
+use Rattle.std.specs.Prelude.{ℕ, ◌+◌, ◌-◌, ◌^◌, Bool, true, false, ◌==◌, nat_lt, if◌then◌else◌, List, [], ◌∷◌, ◌++◌, map, set, slice_get, Option, Some, None, unwrap_or, Result, Ok, Err}
 use Rattle.std.specs.List.{list_any}
+use Rattle.std.specs.Ordering.{nat_cmp}
+use Rattle.std.specs.BTreeSet.{insert_key}
 use Rattle.sb_lit.specs.declared.clause.Lit.{Lit}
 use Rattle.sb_lit.specs.Kept.{Kept, kept_up_to}
 use Rattle.sb_lang.specs.Regex.{Regex}
@@ -97,8 +99,7 @@ rests_of kept id = unwrap_or (slice_get kept.rests id) []
 
 -- ascending lists put together, each number once
 abbrev pub with_number : ℕ → List ℕ → List ℕ
-with_number n [] = n ∷ []
-with_number n (m ∷ ms) = if nat_lt n m then n ∷ m ∷ ms else if nat_eq n m then m ∷ ms else m ∷ with_number n ms
+with_number n ns = insert_key nat_cmp ns n
 
 abbrev pub with_numbers : List ℕ → List ℕ → List ℕ
 with_numbers [] ms = ms

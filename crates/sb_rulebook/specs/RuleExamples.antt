@@ -15,8 +15,9 @@ use Rattle.sb_rulebook.specs.Expansions.{is_expansion}
 use Rattle.sb_rulebook.specs.Gates.{is_gate}
 use Rattle.sb_rulebook.specs.BoundClauses.{is_order, is_linear}
 use Rattle.sb_rulebook.specs.Splits.{is_step, is_empty}
+use Rattle.sb_rulebook.specs.Brought.{newest_format}
 use Rattle.sb_rulebook.specs.Follows.{by_rule}
-use Rattle.sb_rulebook.specs.Verdicts.{Question, refusal_of, denies}
+use Rattle.sb_rulebook.specs.Verdicts.{Question, refusal_of, denies, denied_by}
 use Rattle.sb_rulebook.specs.Relevant.{lies_between}
 use Rattle.sb_rulebook.specs.Tables.{is_table}
 use Rattle.sb_rulebook.specs.KeptLaws.{are_distinct, has_targets_below, names_regex_of, is_orderly_clause, is_rising}
@@ -195,7 +196,7 @@ not_the_other_way = refl
 -- Empty: x is in a, and x is not in a or b; y is in b.
 
 abbrev nothing : AllKept
-nothing = nothing_kept 1
+nothing = nothing_kept newest_format
 
 abbrev cover : AllKept
 cover = record nothing {
@@ -480,6 +481,14 @@ an_assumption_is_refuted = refl
 no_assumption_is : refusal_of without_assumption refuted (said_unsat 0 None) ≡ Some wrong_verdict
 unfolding computing
 no_assumption_is = refl
+
+-- an assumption that is given twice is named once, at its first place
+denied_once :
+    denied_by (record question { assumptions = (0, false) ∷ (3, true) ∷ (0, false) ∷ (0, true) ∷ [] }) refuted
+    (record { literals = plus 0 ∷ []; level = 0 })
+    ≡ (0, false) ∷ []
+unfolding computing
+denied_once = refl
 
 -- places are listed in the formats that have them alone
 no_places_here : refusal_of question refuted (said_unsat 0 (Some (0 ∷ []))) ≡ Some wrong_verdict

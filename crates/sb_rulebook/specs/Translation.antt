@@ -1,8 +1,9 @@
 -- The literal of a Bool term, over a table of atoms: it is true exactly where the term is. There is none where an
 -- atom that it needs is not in the table, or where the term is of a form that has no translation.
-use Rattle.std.specs.Prelude.{ℤ, pos, ◌-ℤ◌, neg_ℤ, true, int_le, if◌then◌else◌, List, [], ◌∷◌, ◌++◌, map, Option, Some, None, option_map, option_and_then}
-use Rattle.std.specs.declared.cmp.Ordering.TheVariants.{Less, Equal, Greater}
+use Rattle.std.specs.Prelude.{ℤ, pos, ◌-ℤ◌, neg_ℤ, true, int_le, if◌then◌else◌, List, [], ◌∷◌, map, Option, Some, None, option_map, option_and_then}
 use Rattle.std.specs.Ordering.{is_gt}
+use Rattle.std.specs.List.{flat_map}
+use Rattle.std.specs.BTreeSet.{insert_key}
 use Rattle.sb_lit.specs.declared.clause.Lit.{Lit}
 use Rattle.sb_lit.specs.Clauses.{negation, literal_order}
 use Rattle.sb_lang.specs.Regex.{Regex}
@@ -10,6 +11,7 @@ use Rattle.sb_lang.specs.Normal.{word_regex}
 use Rattle.sb_meaning.specs.Terms.{Symbol, boolean, integer, text, reglan, Term, Terms, constant, apply, no_terms, with_term}
 use Rattle.sb_meaning.specs.Terms as symbol
 use Rattle.sb_meaning.specs.Sorts.{sort_of}
+use Rattle.sb_meaning.specs.Truth.{neighbours, each_with_rest}
 use Rattle.sb_rulebook.specs.Atoms.{Atom, bool_atom, in_atom, le_atom, sum_atom, and_atom, iff_atom, number_of, is_one}
 use Rattle.sb_rulebook.specs.Parts.{together, regex_of}
 use Rattle.sb_script.specs.Sums.{Summand, Sum, subtracted, if_small, sum_of}
@@ -24,9 +26,7 @@ negated = option_map negation
 
 -- the literals in order, each once
 abbrev pub with_literal : Lit → List Lit → List Lit
-with_literal l [] = l ∷ []
-with_literal l (m ∷ ms) =
-    elim (literal_order l m) [ Less ↦ l ∷ m ∷ ms | Equal ↦ m ∷ ms | Greater ↦ m ∷ with_literal l ms ]
+with_literal l ls = insert_key literal_order ls l
 
 abbrev pub in_order : List Lit → List Lit
 in_order [] = []
@@ -123,13 +123,10 @@ equality atoms a b = elim (sort_of a.0) [
 
 -- what a relation makes of each two neighbours, and of each two
 abbrev pub of_neighbours : {A : Type 0} → (A → A → Option Lit) → List A → List (Option Lit)
-of_neighbours relation [] = []
-of_neighbours relation (a ∷ []) = []
-of_neighbours relation (a ∷ b ∷ rest) = relation a b ∷ of_neighbours relation (b ∷ rest)
+of_neighbours relation xs = map (λ p. relation p.0 p.1) (neighbours xs)
 
 abbrev pub of_pairs : {A : Type 0} → (A → A → Option Lit) → List A → List (Option Lit)
-of_pairs relation [] = []
-of_pairs relation (a ∷ rest) = map (relation a) rest ++ of_pairs relation rest
+of_pairs relation xs = flat_map (λ e. map (relation e.0) e.1) (each_with_rest xs)
 
 -- all of them are true
 abbrev pub all_true : List Atom → List (Option Lit) → Option Lit

@@ -8,6 +8,7 @@ use Rattle.sb_meaning.specs.Values.{Value, Valuation}
 use Rattle.sb_meaning.specs.Truth.{holds}
 use Rattle.sb_script.specs.Scopes.{Constant}
 use Rattle.sb_script.specs.State.{Assumption, fits}
+use Rattle.sb_script.specs.Verdicts.{each_once}
 use Rattle.sb_rulebook.specs.Refusals.{Refusal, unknown_id, wrong_verdict}
 use Rattle.sb_rulebook.specs.Atoms.{Atom, bool_atom, truth_at}
 use Rattle.sb_rulebook.specs.Lines.{Said, said_sat, said_unsat, said_unknown, said_unsupported}
@@ -53,10 +54,10 @@ abbrev pub denies : Lit → Option Atom → Assumption → Bool
 denies l (Some (bool_atom serial)) a = (serial == a.0) && is_same_truth l.positive (not a.1)
 denies l _ a = false
 
--- the assumptions that a literal of the clause denies
+-- the assumptions that a literal of the clause denies, each once, in the order given
 abbrev pub denied_by : Question → AllKept → KeptClause → List Assumption
 denied_by q kept clause =
-    filter (λ a. list_any (λ l. denies l (slice_get kept.atoms l.atom) a) clause.literals) q.assumptions
+    filter (λ a. list_any (λ l. denies l (slice_get kept.atoms l.atom) a) clause.literals) (each_once q.assumptions)
 
 abbrev pub denies_assumption : Question → AllKept → Lit → Bool
 denies_assumption q kept l = list_any (denies l (slice_get kept.atoms l.atom)) q.assumptions

@@ -1,6 +1,6 @@
 -- The commands that forms ask for: a definition of a function only where definitions are brought.
-use Rattle.std.proofs.Common.{◌≡◌, ℕ, Bool, true, ◌&&◌, List, [], ◌∷◌, Option, Some, None, refl}
-use Rattle.std.specs.Prelude.{filter, option_map}
+use Rattle.std.proofs.Common.{◌≡◌, ℕ, Bool, true, false, ◌&&◌, List, [], ◌∷◌, map, Option, Some, None, refl}
+use Rattle.std.specs.Prelude.{option_map}
 use Rattle.std.specs.List.{list_all}
 use Rattle.sb_reader.specs.Forms.{Form, Symbol, Keyword, Numeral, Words, Group, more}
 use Rattle.sb_script.specs.Names.{Name}
@@ -8,8 +8,8 @@ use Rattle.sb_script.specs.Brought.{a_command, definitions, is_brought}
 use Rattle.sb_script.specs.Symbols.{found_in}
 use Rattle.sb_script.specs.Texts.{number_of}
 use Rattle.sb_script.specs.Commands as command
-use Rattle.sb_script.specs.Commands.{list_of, symbol_in, declarable, is_sort_form, is_parameter, parameters_of, is_item, is_assumption_form, function_of, definition_of, constant_shape, function_shape, definition_shape, logic_shape, option_shape, assert_shape, assuming_shape, value_shape, keyword_shape, info_shape, levels_shape, echo_shape, bare, shapes, command_of}
-use Rattle.sb_script.proofs.FoundLemmas.{if_some, some_by, Each, found_has, each_filtered}
+use Rattle.sb_script.specs.Commands.{list_of, symbol_in, declarable, is_sort_form, is_parameter, parameters_of, is_item, is_assumption_form, function_of, definition_of, constant_shape, function_shape, definition_shape, logic_shape, option_shape, assert_shape, assuming_shape, value_shape, keyword_shape, info_shape, levels_shape, echo_shape, bare, shapes, answered_by, answered, command_of}
+use Rattle.sb_script.proofs.FoundLemmas.{if_some, some_by, Each, found_has}
 
 abbrev pub is_allowed : command.Command → Bool
 is_allowed (command.define_function name parameters sort body) = is_brought definitions
@@ -103,19 +103,26 @@ shapes_give =
     assert_gives also constant_gives also function_gives also definition_gives
     also levels_give command.push (λ n. refl) also levels_give command.pop (λ n. refl)
     also bare_gives command.check_sat refl also assuming_gives also bare_gives command.get_model refl
-    also value_gives also bare_gives command.get_unsat_assumptions refl
+    also value_gives also bare_gives command.get_unsat_assumptions refl also bare_gives command.another refl
     also logic_gives also option_gives also keyword_gives command.get_option (λ key. refl)
     also info_gives also keyword_gives command.get_info (λ key. refl) also echo_gives
     also bare_gives command.reset_assertions refl also bare_gives command.reset refl
     also bare_gives command.exit refl also tt
 
-abbrev brought : List (Name × (List Form → Option command.Command))
-brought = filter (λ row. is_brought (a_command row.0)) shapes
+answered_gives : (b : Bool) (shape : List Form → Option command.Command) → Gives shape → Gives (answered_by b shape)
+answered_gives true shape gives forms = gives forms
+answered_gives false shape gives forms = mapped (λ c. command.another) (λ c. refl) (shape forms)
+
+all_give : (rows : List (Name × (List Form → Option command.Command))) → Each Gives rows
+    → Each Gives (map answered rows)
+all_give [] each = tt
+all_give (row ∷ rows) each =
+    (answered_gives (is_brought (a_command row.0)) row.1 each.0, all_give rows each.1)
 
 pub command_allowed : (form : Form) → if_some is_allowed (command_of form) ≡ true
 command_allowed (Group (more (Symbol name) arguments)) =
-    step (found_in brought name) (λ shape is. found_has Gives brought name shape
-    (each_filtered Gives (λ row. is_brought (a_command row.0)) shapes shapes_give) is)
+    step (found_in (map answered shapes) name)
+    (λ shape is. found_has Gives (map answered shapes) name shape (all_give shapes shapes_give) is)
   where
     step : (o : Option (List Form → Option command.Command))
         → ((shape : List Form → Option command.Command) → o ≡ Some shape → Gives shape)

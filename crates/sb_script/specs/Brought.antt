@@ -1,6 +1,6 @@
--- What is read and decided so far. All else is answered `unsupported`, as what is left out for good is. Which is which
--- stands here alone.
-use Rattle.std.specs.Prelude.{ℕ, Bool, true, false, ◌&&◌, List, [], ◌∷◌, codes, Option, Some, None}
+-- What is read and decided so far, by what is to come. That is answered `unsupported`, as what is left out for good is.
+-- Which is which stands here alone.
+use Rattle.std.specs.Prelude.{ℕ, Bool, true, false, not, ◌&&◌, List, [], ◌∷◌, codes, Option, Some, None}
 use Rattle.sb_meaning.specs.Terms.{Sort, Symbol, Term, Terms, boolean, integer, text, reglan, constant, word, apply, no_terms, with_term, terms_in}
 use Rattle.sb_meaning.specs.Terms as symbol
 use Rattle.sb_meaning.specs.Sorts.{sort_of}
@@ -24,51 +24,32 @@ pub data Feature : Type 0 where
   -- the proof of a check, so that the limits on sizes count, past which there is none
   proofs : Feature
 
-abbrev pub brought_commands : List Name
-brought_commands =
-    codes "assert" ∷ codes "check-sat" ∷ codes "declare-const" ∷ codes "declare-fun" ∷ codes "define-fun"
-    ∷ codes "echo" ∷ codes "exit" ∷ codes "get-info" ∷ codes "get-model" ∷ codes "get-option" ∷ codes "get-value"
-    ∷ codes "pop" ∷ codes "push" ∷ codes "reset" ∷ codes "reset-assertions" ∷ codes "set-info" ∷ codes "set-logic"
-    ∷ codes "set-option" ∷ []
+-- the commands, the options, the symbols and the sorts of constants that are to come
+abbrev pub commands_to_come : List Name
+commands_to_come = codes "check-sat-assuming" ∷ codes "get-unsat-assumptions" ∷ []
 
-abbrev pub brought_options : List Name
-brought_options =
-    codes ":print-success" ∷ codes ":produce-models"
-    ∷ codes ":produce-unsat-assumptions" ∷ codes ":global-declarations" ∷ []
+abbrev pub options_to_come : List Name
+options_to_come = codes ":reproducible-resource-limit" ∷ []
 
 abbrev pub is_brought_symbol : Symbol → Bool
-is_brought_symbol symbol.core_true = true
-is_brought_symbol symbol.core_false = true
-is_brought_symbol symbol.core_not = true
-is_brought_symbol symbol.core_and = true
-is_brought_symbol symbol.core_or = true
-is_brought_symbol symbol.core_implies = true
-is_brought_symbol symbol.core_xor = true
-is_brought_symbol symbol.core_ite = true
-is_brought_symbol symbol.core_equal = true
-is_brought_symbol symbol.core_distinct = true
-is_brought_symbol symbol.str_in_re = true
-is_brought_symbol symbol.str_to_re = true
-is_brought_symbol symbol.re_none = true
-is_brought_symbol symbol.re_all = true
-is_brought_symbol symbol.re_allchar = true
-is_brought_symbol symbol.re_range = true
-is_brought_symbol symbol.re_concat = true
-is_brought_symbol symbol.re_union = true
-is_brought_symbol symbol.re_inter = true
-is_brought_symbol symbol.re_diff = true
-is_brought_symbol symbol.re_star = true
-is_brought_symbol symbol.re_plus = true
-is_brought_symbol symbol.re_opt = true
-is_brought_symbol symbol.re_comp = true
-is_brought_symbol (symbol.re_power n) = true
-is_brought_symbol (symbol.re_loop n m) = true
-is_brought_symbol _ = false
+is_brought_symbol symbol.at_most = false
+is_brought_symbol symbol.less = false
+is_brought_symbol symbol.at_least = false
+is_brought_symbol symbol.greater = false
+is_brought_symbol symbol.plus = false
+is_brought_symbol symbol.times = false
+is_brought_symbol symbol.minus = false
+is_brought_symbol symbol.str_concat = false
+is_brought_symbol symbol.str_len = false
+is_brought_symbol symbol.str_prefixof = false
+is_brought_symbol symbol.str_suffixof = false
+is_brought_symbol symbol.str_contains = false
+is_brought_symbol _ = true
 
 abbrev pub is_brought_sort : Sort → Bool
-is_brought_sort boolean = true
-is_brought_sort text = true
-is_brought_sort _ = false
+is_brought_sort integer = false
+is_brought_sort reglan = false
+is_brought_sort _ = true
 
 -- The term is a regular expression over literals: a word, a range, no word, every word, every character, or made of such
 -- by concatenation, union, intersection, difference, complement, option, repetition, powers and loops.
@@ -160,8 +141,8 @@ abbrev mutual
 abbrev pub is_brought : Feature → Bool
 is_brought (a_symbol s) = is_brought_symbol s
 is_brought (a_sort sort) = is_brought_sort sort
-is_brought (a_command name) = is_among brought_commands name
-is_brought (an_option name) = is_among brought_options name
+is_brought (a_command name) = not (is_among commands_to_come name)
+is_brought (an_option name) = not (is_among options_to_come name)
 is_brought numerals = false
 is_brought lets = true
 is_brought functions = true

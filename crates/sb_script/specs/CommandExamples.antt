@@ -26,9 +26,24 @@ two_numbers = refl
 a_name_of_levels : shaped_by shapes (codes "pop") (x ∷ []) ≡ None
 a_name_of_levels = refl
 
--- before they are answered, such commands are left out whatever their shape is
-not_answered_yet : shaped (codes "get-unsat-assumptions") (one ∷ one ∷ []) ≡ Some another
+-- before they are answered, such commands are left out, and a wrong shape comes first
+not_answered_yet : shaped (codes "get-unsat-assumptions") [] ≡ Some another
 not_answered_yet = refl
+
+a_number_too_many : shaped (codes "get-unsat-assumptions") (one ∷ []) ≡ None
+a_number_too_many = refl
+
+assumes_later : shaped (codes "check-sat-assuming") (group (x ∷ []) ∷ []) ≡ Some another
+assumes_later = refl
+
+assumes_no_list : shaped (codes "check-sat-assuming") (x ∷ []) ≡ None
+assumes_no_list = refl
+
+asks_for_a_core_later : shaped (codes "get-unsat-core") [] ≡ Some another
+asks_for_a_core_later = refl
+
+asks_for_too_much : shaped (codes "get-unsat-core") (one ∷ []) ≡ None
+asks_for_too_much = refl
 
 answered_by_shape : shaped (codes "push") (one ∷ one ∷ []) ≡ None
 answered_by_shape = refl

@@ -1,5 +1,5 @@
 -- Commands: what a form asks for, by its shape alone (SMT-LIB 2.6, section 3.9). A form of another shape is malformed.
-use Rattle.std.specs.Prelude.{ℕ, Bool, true, false, not, ◌&&◌, ◌||◌, if◌then◌else◌, List, [], ◌∷◌, filter, codes, Option, Some, None, option_map}
+use Rattle.std.specs.Prelude.{ℕ, Bool, true, false, not, ◌&&◌, ◌||◌, if◌then◌else◌, List, [], ◌∷◌, map, codes, Option, Some, None, option_map}
 use Rattle.std.specs.List.{list_all}
 use Rattle.sb_reader.specs.Forms.{Form, Forms, Symbol, QuotedSymbol, Keyword, Numeral, Words, Group, none, more}
 use Rattle.sb_script.specs.Names.{Name, is_name, is_reserved, begins_term}
@@ -176,6 +176,7 @@ shapes =
     ∷ (codes "get-model", bare get_model)
     ∷ (codes "get-value", value_shape)
     ∷ (codes "get-unsat-assumptions", bare get_unsat_assumptions)
+    ∷ (codes "get-unsat-core", bare another)
     ∷ (codes "set-logic", logic_shape)
     ∷ (codes "set-option", option_shape)
     ∷ (codes "get-option", keyword_shape get_option)
@@ -186,14 +187,22 @@ shapes =
     ∷ (codes "reset", bare reset)
     ∷ (codes "exit", bare exit) ∷ []
 
+-- a command that is to come is left out, where it has its shape
+abbrev pub answered_by : Bool → (List Form → Option Command) → List Form → Option Command
+answered_by true shape = shape
+answered_by false shape = λ forms. option_map (λ command. another) (shape forms)
+
+abbrev pub answered : Name × (List Form → Option Command) → Name × (List Form → Option Command)
+answered row = (row.0, answered_by (is_brought (a_command row.0)) row.1)
+
 -- A command by its name, by a table of shapes, with what follows the name. A name that is not in the table is of a
 -- command that is left out.
 abbrev pub shaped_by : List (Name × (List Form → Option Command)) → Name → List Form → Option Command
 shaped_by table name arguments = elim (found_in table name) [ Some shape ↦ shape arguments | None ↦ Some another ]
 
--- a command that is answered
+-- a command by its name, with what follows the name
 abbrev pub shaped : Name → List Form → Option Command
-shaped name arguments = shaped_by (filter (λ row. is_brought (a_command row.0)) shapes) name arguments
+shaped name arguments = shaped_by (map answered shapes) name arguments
 
 -- the command of a form: a list that begins with a symbol without bars
 abbrev pub command_of : Form → Option Command

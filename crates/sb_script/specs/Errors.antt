@@ -26,52 +26,35 @@ pub data Error : Type 0 where
   no_unknown_answer : Error
   unexpected_end : Error
 
-abbrev pub text_of : Error → List ℕ
-text_of unexpected_close = codes "unexpected )"
-text_of bad_token = codes "bad token"
-text_of too_deep = codes "nesting deeper than 512"
-text_of malformed_command = codes "malformed command"
-text_of logic_already_set = codes "logic already set"
-text_of option_too_late = codes "option set too late"
-text_of bad_option_value = codes "bad option value"
-text_of numeral_too_large = codes "numeral too large"
-text_of (already_declared name) = codes "already declared " ++ name_in_text name
-text_of (unknown_symbol name) = codes "unknown symbol " ++ name_in_text name
-text_of wrong_sort = codes "wrong sort"
-text_of wrong_count = codes "wrong number of arguments"
-text_of bad_index = codes "bad index"
-text_of not_a_literal = codes "not a literal"
-text_of no_such_level = codes "no such level"
-text_of models_not_enabled = codes "models not enabled"
-text_of assumptions_not_enabled = codes "assumptions not enabled"
-text_of no_model = codes "no model"
-text_of no_unsat_answer = codes "no unsat answer"
-text_of no_unknown_answer = codes "no unknown answer"
-text_of unexpected_end = codes "unexpected end of input"
+-- the place of an error in that order, and its text
+abbrev pub place_and_text : Error → ℕ × List ℕ
+place_and_text unexpected_close = (0, codes "unexpected )")
+place_and_text bad_token = (1, codes "bad token")
+place_and_text too_deep = (2, codes "nesting deeper than 512")
+place_and_text malformed_command = (3, codes "malformed command")
+place_and_text logic_already_set = (4, codes "logic already set")
+place_and_text option_too_late = (5, codes "option set too late")
+place_and_text bad_option_value = (6, codes "bad option value")
+place_and_text numeral_too_large = (7, codes "numeral too large")
+place_and_text (already_declared name) = (8, codes "already declared " ++ name_in_text name)
+place_and_text (unknown_symbol name) = (9, codes "unknown symbol " ++ name_in_text name)
+place_and_text wrong_sort = (10, codes "wrong sort")
+place_and_text wrong_count = (11, codes "wrong number of arguments")
+place_and_text bad_index = (12, codes "bad index")
+place_and_text not_a_literal = (13, codes "not a literal")
+place_and_text no_such_level = (14, codes "no such level")
+place_and_text models_not_enabled = (15, codes "models not enabled")
+place_and_text assumptions_not_enabled = (16, codes "assumptions not enabled")
+place_and_text no_model = (17, codes "no model")
+place_and_text no_unsat_answer = (18, codes "no unsat answer")
+place_and_text no_unknown_answer = (19, codes "no unknown answer")
+place_and_text unexpected_end = (20, codes "unexpected end of input")
 
--- the place of an error in that order
 abbrev pub place_of : Error → ℕ
-place_of unexpected_close = 0
-place_of bad_token = 1
-place_of too_deep = 2
-place_of malformed_command = 3
-place_of logic_already_set = 4
-place_of option_too_late = 5
-place_of bad_option_value = 6
-place_of numeral_too_large = 7
-place_of (already_declared name) = 8
-place_of (unknown_symbol name) = 9
-place_of wrong_sort = 10
-place_of wrong_count = 11
-place_of bad_index = 12
-place_of not_a_literal = 13
-place_of no_such_level = 14
-place_of models_not_enabled = 15
-place_of assumptions_not_enabled = 16
-place_of no_model = 17
-place_of no_unsat_answer = 18
-place_of no_unknown_answer = 19
-place_of unexpected_end = 20
+place_of e = (place_and_text e).0
+
+abbrev pub text_of : Error → List ℕ
+text_of e = (place_and_text e).1
 
 -- the earlier of two, and of two in one place the first
 abbrev pub earlier : Error → Option Error → Error

@@ -5,7 +5,7 @@ use Rattle.std.specs.List.{list_all}
 use Rattle.sb_reader.specs.Forms.{Forms, Numeral, OtherNumber, none, more}
 use Rattle.sb_meaning.specs.Terms.{Sort, Term, Terms, constant, word, numeral, apply, parameter, no_terms, with_term, terms_of}
 use Rattle.sb_meaning.specs.Terms as symbol
-use Rattle.sb_meaning.specs.Sorts.{arity_of, is_of_one, sort_of, are_sorts, is_count, takes_sorts, is_left_out_use}
+use Rattle.sb_meaning.specs.Sorts.{signature_of, arity_of, is_of_one, sort_of, are_sorts, is_count, takes_sorts, is_left_out_use}
 use Rattle.sb_script.specs.Names.{Name, is_name}
 use Rattle.sb_script.specs.Symbols.{symbol_named, is_indexed, is_left_out}
 use Rattle.sb_script.specs.Scopes.{Naming, Named, a_constant, a_definition, a_marked_name, a_term, named}
@@ -53,10 +53,13 @@ indices_of _ = None
 abbrev pub are_small_indices : List ℕ → Bool
 are_small_indices ns = list_all (λ n. nat_le n 65535) ns
 
+abbrev pub if_named : Name → symbol.Symbol → Option symbol.Symbol
+if_named name s = if is_name name (signature_of s).name then Some s else None
+
 -- the symbol with these indices, by their number
 abbrev pub symbol_with : Name → List ℕ → Option symbol.Symbol
-symbol_with name (n ∷ []) = if is_name name (codes "re.^") then Some (symbol.re_power n) else None
-symbol_with name (n ∷ m ∷ []) = if is_name name (codes "re.loop") then Some (symbol.re_loop n m) else None
+symbol_with name (n ∷ []) = if_named name (symbol.re_power n)
+symbol_with name (n ∷ m ∷ []) = if_named name (symbol.re_loop n m)
 symbol_with name ns = None
 
 abbrev pub if_small_indices : List ℕ → symbol.Symbol → Result Head Fault

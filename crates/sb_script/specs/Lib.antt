@@ -7,9 +7,9 @@ pub mod Texts
 pub mod TextExamples
 pub mod Heads
 pub mod SymbolExamples
+pub mod Commands
 pub mod Reading
 pub mod ReadingExamples
-pub mod Commands
 pub mod CommandExamples
 pub mod State
 pub mod Pieces

@@ -2,8 +2,10 @@
 -- length of a String constant, the other a numeral or its negation. They stand in an assertion, or in a conjunct of
 -- one.
 use Rattle.std.specs.Prelude.{ℤ, pos, ◌+ℤ◌, neg_ℤ, List, [], ◌∷◌, ◌++◌, Option, Some, None}
+use Rattle.std.specs.List.{flat_map}
 use Rattle.sb_meaning.specs.Terms.{integer, text, Term, Terms, constant, numeral, apply, no_terms, with_term, terms_in}
 use Rattle.sb_meaning.specs.Terms as symbol
+use Rattle.sb_meaning.specs.Truth.{neighbours}
 use Rattle.sb_script.specs.Sums.{Variable, int_constant, length_of}
 use Rattle.sb_script.specs.Bounds.{Bound, at_least, at_most}
 
@@ -32,9 +34,7 @@ bounds_of_pair d a b =
     ++ bound_by at_least (variable_in b) (moved (neg_ℤ d) (number_in a))
 
 abbrev pub of_neighbours : (Term → Term → List Bound) → List Term → List Bound
-of_neighbours bounds [] = []
-of_neighbours bounds (a ∷ []) = []
-of_neighbours bounds (a ∷ b ∷ rest) = bounds a b ++ of_neighbours bounds (b ∷ rest)
+of_neighbours bounds ts = flat_map (λ p. bounds p.0 p.1) (neighbours ts)
 
 abbrev mutual
   pub bounds_of : Term → List Bound

@@ -1,5 +1,5 @@
 -- Options, the logic, and what may be asked of the solver itself (SMT-LIB 2.6, sections 4.1.6, 4.1.7 and 4.1.8).
-use Rattle.std.specs.Prelude.{ℕ, ◌^◌, Bool, true, false, ◌||◌, nat_lt, if◌then◌else◌, List, [], ◌∷◌, ◌++◌, filter, codes, decimal, Option, Some, None}
+use Rattle.std.specs.Prelude.{ℕ, ◌^◌, Bool, true, false, ◌||◌, nat_lt, if◌then◌else◌, List, [], ◌∷◌, ◌++◌, map, filter, codes, decimal, Option, Some, None}
 use Rattle.sb_reader.specs.Forms.{Form, Numeral}
 use Rattle.sb_script.specs.Names.{Name, is_name}
 use Rattle.sb_script.specs.Brought.{an_option, is_brought}
@@ -59,14 +59,27 @@ abbrev pub set_resource_limit : Form → State → Step
 set_resource_limit (Numeral digits) s = with_limit (number_of digits) s
 set_resource_limit _ s = fails_by error.bad_option_value s
 
--- the options by key, with what a value makes of the state
+abbrev pub truth_text : Bool → List ℕ
+truth_text true = codes "true"
+truth_text false = codes "false"
+
+-- the options by key: what a value makes of the state, and the text of the value
+abbrev pub options : List (Name × ((Form → State → Step) × (State → List ℕ)))
+options =
+    (codes ":print-success", (set_print_success, λ s. truth_text s.options.print_success))
+    ∷ (codes ":produce-models", (set_produce_models, λ s. truth_text s.options.produce_models))
+    ∷ (
+      codes ":produce-unsat-assumptions",
+      (set_produce_assumptions, λ s. truth_text s.options.produce_unsat_assumptions),
+    )
+    ∷ (codes ":global-declarations", (set_global_declarations, λ s. truth_text s.options.global_declarations))
+    ∷ (codes ":reproducible-resource-limit", (set_resource_limit, λ s. decimal s.options.resource_limit)) ∷ []
+
 abbrev pub settings : List (Name × (Form → State → Step))
-settings =
-    (codes ":print-success", set_print_success)
-    ∷ (codes ":produce-models", set_produce_models)
-    ∷ (codes ":produce-unsat-assumptions", set_produce_assumptions)
-    ∷ (codes ":global-declarations", set_global_declarations)
-    ∷ (codes ":reproducible-resource-limit", set_resource_limit) ∷ []
+settings = map (λ row. (row.0, row.1.0)) options
+
+abbrev pub option_texts : List (Name × (State → List ℕ))
+option_texts = map (λ row. (row.0, row.1.1)) options
 
 abbrev pub set_by : List (Name × (Form → State → Step)) → Name → Form → State → Step
 set_by table key value s = elim (found_in table key) [ Some set ↦ set value s | None ↦ is_unsupported s ]
@@ -75,18 +88,6 @@ abbrev pub set_option : Name → Form → State → Step
 set_option key value s = set_by (filter (λ row. is_brought (an_option row.0)) settings) key value s
 
 -- Values of options, and what else may be asked for.
-
-abbrev pub truth_text : Bool → List ℕ
-truth_text true = codes "true"
-truth_text false = codes "false"
-
-abbrev pub option_texts : List (Name × (State → List ℕ))
-option_texts =
-    (codes ":print-success", λ s. truth_text s.options.print_success)
-    ∷ (codes ":produce-models", λ s. truth_text s.options.produce_models)
-    ∷ (codes ":produce-unsat-assumptions", λ s. truth_text s.options.produce_unsat_assumptions)
-    ∷ (codes ":global-declarations", λ s. truth_text s.options.global_declarations)
-    ∷ (codes ":reproducible-resource-limit", λ s. decimal s.options.resource_limit) ∷ []
 
 abbrev pub get_by : List (Name × (State → List ℕ)) → Name → State → Step
 get_by table key s = elim (found_in table key) [ Some text ↦ answers (line (text s)) s | None ↦ is_unsupported s ]

@@ -1,7 +1,7 @@
 -- How a term is read: the tree of a form, or the first fault in reading order (SMT-LIB 2.6, sections 3.6 and 3.7). The
 -- head is read first (its name, then its indices), then the arguments from left to right, then their number and
 -- their sorts are judged. A list of wrong shape is malformed whatever stands in it.
-use Rattle.std.specs.Prelude.{Bool, true, false, not, ◌&&◌, ◌||◌, if◌then◌else◌, List, [], ◌∷◌, ◌++◌, codes, Option, Some, None, Result, Ok, Err}
+use Rattle.std.specs.Prelude.{Bool, true, false, not, ◌&&◌, ◌||◌, if◌then◌else◌, List, [], ◌∷◌, ◌++◌, codes, Option, Some, None, is_some, Result, Ok, Err}
 use Rattle.sb_reader.specs.Forms.{Form, Forms, Symbol, QuotedSymbol, Keyword, Numeral, OtherNumber, Words, Group, none, more}
 use Rattle.sb_script.specs.Names.{Name, is_name, is_among, is_reserved, begins_term}
 use Rattle.sb_meaning.specs.Terms.{Term}
@@ -9,6 +9,7 @@ use Rattle.sb_script.specs.Brought.{numerals, lets, is_brought}
 use Rattle.sb_script.specs.Faults.{Fault, unsupported, malformed, already_bound}
 use Rattle.sb_script.specs.Texts.{read_text, read_numeral}
 use Rattle.sb_script.specs.Scopes.{Naming, a_term}
+use Rattle.sb_script.specs.Commands.{declarable}
 use Rattle.sb_script.specs.Heads.{Head, read_head, read_indexed, applied_to}
 
 infixl 10 ◌>>=◌
@@ -57,10 +58,36 @@ names_in (n ∷ ns) = n.0 ∷ names_in ns
 abbrev pub once : List Naming → Result (List Naming) Fault
 once bound = elim (first_again [] (names_in bound)) [ Some name ↦ Err (already_bound name) | None ↦ Ok bound ]
 
+-- keywords of an annotation, each with one value at most, that of :named a name
+abbrev mutual
+  pub are_annotations : Forms → Bool
+  are_annotations none = true
+  are_annotations (more (Keyword key) forms) = are_annotations_of key forms
+  are_annotations _ = false
+
+  -- the same behind a keyword
+  pub are_annotations_of : Name → Forms → Bool
+  are_annotations_of key none = not (is_name key (codes ":named"))
+  are_annotations_of key (more (Keyword next) forms) =
+      not (is_name key (codes ":named")) && are_annotations_of next forms
+  are_annotations_of key (more form forms) =
+      (not (is_name key (codes ":named")) || is_some (declarable form)) && are_annotations forms
+
+-- term :keyword value .., of an annotation: one keyword or more
+abbrev pub is_annotation : Forms → Bool
+is_annotation (more term (more annotation annotations)) = are_annotations (more annotation annotations)
+is_annotation _ = false
+
+-- the list has the shape that its head, a reserved word, asks for
+abbrev pub has_shape_of : Name → Forms → Bool
+has_shape_of name arguments =
+    if is_name name (codes "!") then is_annotation arguments
+    else if is_name name (codes "let") then is_let arguments
+    else begins_term name
+
 -- what follows a reserved word that is the head of a list, where it is left out
 abbrev pub read_reserved : Name → Forms → Fault
-read_reserved name arguments =
-    if begins_term name || (is_name name (codes "let") && is_let arguments) then unsupported else malformed
+read_reserved name arguments = if has_shape_of name arguments then unsupported else malformed
 
 -- the term of a form
 abbrev mutual

@@ -226,7 +226,7 @@ constant_with_an_argument = refl
 symbol_without_arguments : read names (Symbol (codes "re.range")) ≡ Err wrong_count
 symbol_without_arguments = refl
 
--- (f), whatever f is; (let ((z x)) z); let alone
+-- (f), whatever f is; (let ((z x)) z)
 shape_before_head : read names (group (Symbol (codes "f") ∷ [])) ≡ Err malformed
 shape_before_head = refl
 
@@ -235,6 +235,42 @@ a_let_is_read : read names
     ≡ read names x
 a_let_is_read = refl
 
+-- an annotation is left out, and a wrong shape comes first: (! x :named a), (! x :weight "a" :named a), (! x :weight);
+-- (! x), (! x "a"), (! x :named), (! x :named let), (! x :weight "a" "b")
+abbrev annotated : List Form → Form
+annotated fs = group (Symbol (codes "!") ∷ x ∷ fs)
+
+abbrev named : Form
+named = Keyword (codes ":named")
+
+abbrev weight : Form
+weight = Keyword (codes ":weight")
+
+a_named_term : read names (annotated (named ∷ y ∷ [])) ≡ Err unsupported
+a_named_term = refl
+
+two_annotations : read names (annotated (weight ∷ a ∷ named ∷ y ∷ [])) ≡ Err unsupported
+two_annotations = refl
+
+an_annotation_without_a_value : read names (annotated (weight ∷ [])) ≡ Err unsupported
+an_annotation_without_a_value = refl
+
+no_annotation : read names (annotated []) ≡ Err malformed
+no_annotation = refl
+
+no_key : read names (annotated (a ∷ [])) ≡ Err malformed
+no_key = refl
+
+no_name : read names (annotated (named ∷ [])) ≡ Err malformed
+no_name = refl
+
+named_by_a_reserved_word : read names (annotated (named ∷ Symbol (codes "let") ∷ [])) ≡ Err malformed
+named_by_a_reserved_word = refl
+
+two_values : read names (annotated (weight ∷ a ∷ b ∷ [])) ≡ Err malformed
+two_values = refl
+
+-- let alone
 reserved_in_a_term : read names (Symbol (codes "let")) ≡ Err malformed
 reserved_in_a_term = refl
 

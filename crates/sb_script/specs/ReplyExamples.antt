@@ -8,7 +8,7 @@ use Rattle.sb_script.specs.State.{State, start, a_mark}
 use Rattle.sb_script.specs.State as state
 use Rattle.sb_script.specs.Steps.{answers, leaves, checks, exits, line, unsupported_line}
 use Rattle.sb_script.specs.Replies.{step_of}
-use Rattle.sb_script.specs.Verdicts.{settled, is_sat}
+use Rattle.sb_script.specs.Verdicts.{settled, is_sat, each_once, are_some_of}
 use Rattle.sb_script.specs.ReadingExamples.{group, range}
 use Rattle.sb_script.specs.Fragment.{in_fragment}
 use Rattle.sb_lang.specs.Membership.{in_re}
@@ -172,6 +172,17 @@ a_model = refl
 a_value : (run (command (Symbol (codes "get-value") ∷ group (QuotedSymbol (codes "x") ∷ []) ∷ []) ∷ []) after_check).0
     ≡ line (codes "((x \"a\"))")
 a_value = refl
+
+-- of assumptions each is named once, at its first place
+named_once : each_once ((1, true) ∷ (2, false) ∷ (1, true) ∷ (1, false) ∷ (2, false) ∷ [])
+    ≡ (1, true) ∷ (2, false) ∷ (1, false) ∷ []
+named_once = refl
+
+some_of_them : are_some_of ((1, true) ∷ (2, false) ∷ []) ((1, true) ∷ (1, true) ∷ (2, false) ∷ []) ≡ true
+some_of_them = refl
+
+one_of_them_twice : are_some_of ((1, true) ∷ (1, true) ∷ []) ((1, true) ∷ (1, true) ∷ (2, false) ∷ []) ≡ false
+one_of_them_twice = refl
 
 -- a declaration ends it
 no_model : (run (declare (codes "y") (codes "String") ∷ get_model ∷ []) after_check).0 ≡ line (codes "success")

@@ -1,12 +1,13 @@
 -- Computed examples of symbols with arguments: for each symbol of the theories a right use, one of a wrong sort and one
 -- with too few or too many arguments.
-use Rattle.std.specs.Prelude.{◌≡◌, ℕ, Bool, true, false, List, [], ◌∷◌, codes, Option, Some, is_none, Ok, Err, refl}
+use Rattle.std.specs.Prelude.{◌≡◌, ℕ, Bool, true, false, List, [], ◌∷◌, filter, length, codes, Option, Some, is_none, Ok, Err, refl}
 use Rattle.std.specs.List.{list_all}
 use Rattle.sb_word.specs.Literals.{hex_value, hex_number_from}
 use Rattle.sb_reader.specs.Forms.{Form, Numeral, OtherNumber, Symbol}
 use Rattle.sb_meaning.specs.Terms.{Sort, boolean, integer, text, reglan, Term, Terms, constant, word, numeral, apply, no_terms, with_term}
 use Rattle.sb_meaning.specs.Terms as symbol
 use Rattle.sb_script.specs.Faults.{Fault, wrong_sort, wrong_count, bad_index, unsupported, numeral_too_large}
+use Rattle.sb_script.specs.Symbols.{symbols_of_theories, indexed_symbols, left_out_names, is_brought_row, symbol_named, is_left_out}
 use Rattle.sb_script.specs.Heads.{judged, made, head_symbol, head_term, head_constant, applied_to, with_indices, indices_of, character_word}
 use Rattle.sb_script.specs.ReadingExamples.{forms}
 
@@ -173,6 +174,22 @@ left_out =
 
 left_out_uses : list_all (λ u. is_unsupported (judged u.0 u.1)) left_out ≡ true
 left_out_uses = refl
+
+-- Of the names of the theories so many are read, with and without indices, and so many are left out.
+names_read : length (filter is_brought_row symbols_of_theories) ≡ 24
+names_read = refl
+
+names_with_indices : length (filter is_brought_row indexed_symbols) ≡ 2
+names_with_indices = refl
+
+names_not_read : length left_out_names ≡ 32
+names_not_read = refl
+
+a_name_that_is_read : symbol_named (codes "re.opt") ≡ Some symbol.re_opt
+a_name_that_is_read = refl
+
+a_name_to_come : is_left_out (codes "str.len") ≡ true
+a_name_to_come = refl
 
 -- One argument where two are asked for is the argument itself: (+ 5), (or p), (str.++ x); (- 5) is a negation.
 one_number : made symbol.plus (numeral 5 ∷ []) ≡ numeral 5

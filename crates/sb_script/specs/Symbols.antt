@@ -1,9 +1,9 @@
 -- The names of the theories Core, Ints and Unicode Strings: symbols that are read, and what is left out.
-use Rattle.std.specs.Prelude.{Bool, true, not, ◌||◌, if◌then◌else◌, List, [], ◌∷◌, ◌++◌, map, filter, codes, Option, Some, None, is_some}
+use Rattle.std.specs.Prelude.{Bool, true, not, ◌||◌, ◌==◌, if◌then◌else◌, List, [], ◌∷◌, ◌++◌, map, filter, codes, Option, Some, None, is_some}
 use Rattle.sb_script.specs.Names.{Name, is_name, is_among}
 use Rattle.sb_script.specs.Brought.{a_symbol, a_sort, is_brought}
 use Rattle.sb_meaning.specs.Terms.{Sort, Symbol, boolean, integer, text}
-use Rattle.sb_meaning.specs.Terms as symbol
+use Rattle.sb_meaning.specs.Sorts.{signature_of, symbols}
 use Rattle.sb_script.specs.Scopes.{Naming, named}
 
 -- what stands in a table by this name; the first row counts
@@ -11,49 +11,16 @@ abbrev pub found_in : {A : Type 0} → List (Name × A) → Name → Option A
 found_in [] name = None
 found_in (row ∷ rows) name = if is_name name row.0 then Some row.1 else found_in rows name
 
--- the symbols of the theories, by name
-abbrev pub symbols_of_theories : List (Name × Symbol)
-symbols_of_theories =
-    (codes "true", symbol.core_true)
-    ∷ (codes "false", symbol.core_false)
-    ∷ (codes "not", symbol.core_not)
-    ∷ (codes "and", symbol.core_and)
-    ∷ (codes "or", symbol.core_or)
-    ∷ (codes "=>", symbol.core_implies)
-    ∷ (codes "xor", symbol.core_xor)
-    ∷ (codes "ite", symbol.core_ite)
-    ∷ (codes "=", symbol.core_equal)
-    ∷ (codes "distinct", symbol.core_distinct)
-    ∷ (codes "<=", symbol.at_most)
-    ∷ (codes "<", symbol.less)
-    ∷ (codes ">=", symbol.at_least)
-    ∷ (codes ">", symbol.greater)
-    ∷ (codes "+", symbol.plus)
-    ∷ (codes "*", symbol.times)
-    ∷ (codes "-", symbol.minus)
-    ∷ (codes "str.++", symbol.str_concat)
-    ∷ (codes "str.len", symbol.str_len)
-    ∷ (codes "str.in_re", symbol.str_in_re)
-    ∷ (codes "str.prefixof", symbol.str_prefixof)
-    ∷ (codes "str.suffixof", symbol.str_suffixof)
-    ∷ (codes "str.contains", symbol.str_contains)
-    ∷ (codes "str.to_re", symbol.str_to_re)
-    ∷ (codes "re.none", symbol.re_none)
-    ∷ (codes "re.all", symbol.re_all)
-    ∷ (codes "re.allchar", symbol.re_allchar)
-    ∷ (codes "re.++", symbol.re_concat)
-    ∷ (codes "re.union", symbol.re_union)
-    ∷ (codes "re.inter", symbol.re_inter)
-    ∷ (codes "re.diff", symbol.re_diff)
-    ∷ (codes "re.*", symbol.re_star)
-    ∷ (codes "re.+", symbol.re_plus)
-    ∷ (codes "re.opt", symbol.re_opt)
-    ∷ (codes "re.comp", symbol.re_comp)
-    ∷ (codes "re.range", symbol.re_range) ∷ []
+-- symbols, by name
+abbrev pub by_name : List Symbol → List (Name × Symbol)
+by_name ss = map (λ s. ((signature_of s).name, s)) ss
 
--- the symbols that take indices; those of a numeral tell apart what is meant
+-- the symbols of the theories, by name, and those that take indices
+abbrev pub symbols_of_theories : List (Name × Symbol)
+symbols_of_theories = by_name (filter (λ s. (signature_of s).indices == 0) symbols)
+
 abbrev pub indexed_symbols : List (Name × Symbol)
-indexed_symbols = (codes "re.^", symbol.re_power 0) ∷ (codes "re.loop", symbol.re_loop 0 0) ∷ []
+indexed_symbols = by_name (filter (λ s. not ((signature_of s).indices == 0)) symbols)
 
 -- the names of the theories that are not read, and names that they once had
 abbrev pub names_left_out : List Name

@@ -1,5 +1,5 @@
 -- What a check finds, and when a verdict may be given.
-use Rattle.std.specs.Prelude.{◌≡◌, ℕ, Bool, true, false, not, ◌&&◌, ◌==◌, if◌then◌else◌, List, [], ◌∷◌, codes, Option, Some, None}
+use Rattle.std.specs.Prelude.{◌≡◌, ℕ, Bool, true, false, not, ◌&&◌, ◌==◌, if◌then◌else◌, List, [], ◌∷◌, filter, codes, Option, Some, None}
 use Rattle.std.specs.List.{list_any}
 use Rattle.sb_meaning.specs.Values.{Valuation}
 use Rattle.sb_reader.specs.Entries.{Entry}
@@ -32,6 +32,11 @@ settled is_outside s = record s { mode = plain }
 
 abbrev pub is_same_assumption : Assumption → Assumption → Bool
 is_same_assumption a b = (a.0 == b.0) && (if a.1 then b.1 else not b.1)
+
+-- each assumption once, at its first place
+abbrev pub each_once : List Assumption → List Assumption
+each_once [] = []
+each_once (a ∷ others) = a ∷ filter (λ b. not (is_same_assumption a b)) (each_once others)
 
 -- Some of the assumptions, each once, in the order given.
 abbrev pub are_some_of : List Assumption → List Assumption → Bool

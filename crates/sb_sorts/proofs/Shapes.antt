@@ -3,13 +3,14 @@ use Rattle.std.proofs.Common.{◌≡◌, ℕ, Bool, true, false, not, if◌then�
 use Rattle.sb_reader.specs.Forms.{Form, Forms, Symbol, QuotedSymbol, Keyword, Numeral, OtherNumber, Words, Group, none, more, is_none, only_of, pair_of}
 use Rattle.sb_script.specs.Names.{Name, is_reserved}
 use Rattle.sb_script.specs.Scopes.{Naming}
+use Rattle.sb_script.specs.Commands.{declarable}
 use Rattle.sb_script.specs.Faults.{Fault, bad_index, malformed}
 use Rattle.sb_script.specs.Heads.{Head, head_term, hexadecimal_digits, character_word, read_indexed}
 use Rattle.sb_meaning.specs.Terms.{word}
 use Rattle.sb_word.specs.LiteralWords.{character_of}
 use Rattle.sb_sorts.specs.Characters.{character_in}
 use Rattle.sb_script.specs.Reading.{is_binding, is_let, read_index_list}
-use Rattle.sb_sorts.specs.Heads.{name_of, has_bindings, beginning_of, some_beginning}
+use Rattle.sb_sorts.specs.Heads.{has_bindings, beginning_of, some_beginning}
 
 pub some_map : {A B : Type 0} (f : A → B) (o : Option A) → is_some o ≡ is_some (option_map f o)
 some_map f None = refl
@@ -27,7 +28,7 @@ unreserved true names name indices = refl
 unreserved false names name indices = refl
 
 index_list_name : (names : List Naming) (f g : Form) (gs : Forms)
-    → read_index_list names (more f (more g gs)) ≡ by_name names (more g gs) (name_of f)
+    → read_index_list names (more f (more g gs)) ≡ by_name names (more g gs) (declarable f)
 index_list_name names (Symbol name) g gs = unreserved (is_reserved name) names name (more g gs)
 index_list_name names (QuotedSymbol name) g gs = refl
 index_list_name names (Keyword name) g gs = refl
@@ -46,7 +47,7 @@ no_index names (Words bytes) = refl
 no_index names (Group list) = refl
 
 pub indexed : (names : List Naming) (first : Form) (indices : Forms) → is_none indices ≡ false
-    → read_index_list names (more first indices) ≡ by_name names indices (name_of first)
+    → read_index_list names (more first indices) ≡ by_name names indices (declarable first)
 indexed names first none some = absurd (true≢false some)
 indexed names first (more index indices) some = index_list_name names first index indices
 
@@ -60,7 +61,7 @@ named_or_not : (r : Bool) (name : Name) → not r ≡ is_some (if r then None el
 named_or_not true name = refl
 named_or_not false name = refl
 
-binding_name : (f g : Form) → is_binding (Group (more f (more g none))) ≡ is_some (name_of f)
+binding_name : (f g : Form) → is_binding (Group (more f (more g none))) ≡ is_some (declarable f)
 binding_name (Symbol name) g = named_or_not (is_reserved name) name
 binding_name (QuotedSymbol name) g = refl
 binding_name (Keyword name) g = refl
@@ -89,7 +90,7 @@ many_forms (Group list) g h hs = refl
 
 abbrev pub has_name : Option (Form × Form) → Bool
 has_name None = false
-has_name (Some (first, second)) = is_some (name_of first)
+has_name (Some (first, second)) = is_some (declarable first)
 
 pub binding_of_pair : (parts : Forms) → is_binding (Group parts) ≡ has_name (pair_of parts)
 binding_of_pair none = refl

@@ -1,5 +1,5 @@
 -- Private: what the parts of reading say: heads, the forms of a slice, and the first fault.
-use Rattle.std.specs.Prelude.{◌≡◌, ℕ, Bool, true, false, ◌&&◌, nat_lt, if◌then◌else◌, List, [], ◌∷◌, map, codes, Option, Some, None, Result, Ok, Err}
+use Rattle.std.specs.Prelude.{◌≡◌, ℕ, Bool, true, false, ◌&&◌, nat_lt, if◌then◌else◌, List, [], ◌∷◌, map, codes, Result, Ok, Err}
 use Rattle.sb_reader.specs.Forms.{Form, Forms, Symbol, QuotedSymbol, Keyword, Numeral, OtherNumber, Words, Group, none, more}
 use Rattle.sb_sorts.specs.declared.read.ReadFault.{ReadFault}
 use Rattle.sb_sorts.specs.declared.head.Head.{Head}
@@ -104,16 +104,6 @@ some_beginning names (Words bytes) others = Err malformed
 abbrev pub beginning_of : List Naming → Form → Forms → Result Beginning Fault
 beginning_of names first none = Err malformed
 beginning_of names first (more second rest) = some_beginning names first (more second rest)
-
--- the name that a form is: a symbol, but no reserved word
-abbrev pub name_of : Form → Option Name
-name_of (Symbol name) = if is_reserved name then None else Some name
-name_of (QuotedSymbol name) = Some name
-name_of (Keyword name) = None
-name_of (Numeral digits) = None
-name_of (OtherNumber bytes) = None
-name_of (Words bytes) = None
-name_of (Group list) = None
 
 -- the form is ((name term) ..)
 abbrev pub has_bindings : Form → Bool

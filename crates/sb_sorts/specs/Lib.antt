@@ -11,3 +11,4 @@ pub mod NamedRows
 pub mod Locals
 pub mod Unfolding
 pub mod Binding
+pub mod Annotations

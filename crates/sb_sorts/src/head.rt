@@ -4,6 +4,7 @@ ghost use Rattle.std.specs.Prelude.{◌≡◌, ℕ, true, ◌&&◌, List, length
 ghost use Rattle.sb_script.specs.Symbols as theory_names;
 ghost use Rattle.sb_script.specs.Names.{is_name};
 ghost use Rattle.sb_script.specs.Scopes.{named};
+ghost use Rattle.sb_script.specs.Commands.{declarable};
 ghost use Rattle.sb_sorts.specs.Scopes.{named_in, is_body_below};
 ghost use Rattle.sb_sorts.specs.NameTable.{named_below};
 ghost use Rattle.sb_sorts.specs.Indices.{numeral_in, by_loop};
@@ -13,9 +14,10 @@ ghost use Rattle.sb_script.specs.Heads as theory;
 ghost use Rattle.sb_script.specs.Faults.{Fault};
 ghost use Rattle.sb_meaning.specs.Terms.{Term};
 ghost use Rattle.sb_sorts.specs.Locals.{names_at, AreAt};
-ghost use Rattle.sb_sorts.specs.Heads.{head_in, head_below, has_number_below, is_of_theories, beginning_in, beginning_below, beginning_number_below, beginning_of, some_beginning, symbol_beginning, with_arguments, name_of, has_bindings, Beginning, Gives};
+ghost use Rattle.sb_sorts.specs.Heads.{head_in, head_below, has_number_below, is_of_theories, beginning_in, beginning_below, beginning_number_below, beginning_of, some_beginning, symbol_beginning, with_arguments, has_bindings, Beginning, Gives};
 ghost use Rattle.sb_sorts.specs.Reads.{Faults};
 
+use crate::annotation::is_annotation;
 use crate::character::{Character, character_of};
 use crate::locals::Locals;
 use crate::names::{begins_term, is_indexed, is_left_out, is_reserved, symbol_named};
@@ -239,7 +241,7 @@ fn read_indexed(
 
 /// The name that a form is: a symbol, but no reserved word.
 pub(crate) fn name_of(form: Shape<'_>) -> Option<&[u8]>
-    ensures { option_map (λ name. name.now) result ≡ name_of (shape_of form.entry) }
+    ensures { option_map (λ name. name.now) result ≡ declarable (shape_of form.entry) }
 {
     match form {
         Shape::Symbol(name) if !is_reserved(name) => Some(name),
@@ -344,12 +346,24 @@ pub(crate) fn is_let(forms: Shapes<'_>) -> bool
     }
 }
 
-/// The fault of a list whose head is a reserved word.
+/// Whether a list has the shape that its head, a reserved word, asks for.
+fn has_shape_of(name: &[u8], arguments: Shapes<'_>) -> bool
+    ensures { result ≡ meaning.has_shape_of name.now (shapes_in arguments.entry) }
+{
+    if name == b"!".as_slice() {
+        is_annotation(arguments)
+    } else if name == b"let".as_slice() {
+        is_let(arguments)
+    } else {
+        begins_term(name)
+    }
+}
+
+/// The fault of a list whose head is a reserved word; a `let` of its shape is read elsewhere.
 fn read_reserved(name: &[u8], arguments: Shapes<'_>) -> ReadFault
     ensures { Faults {A = Beginning} (Err (meaning.read_reserved name.now (shapes_in arguments.entry))) result }
 {
-    // a `let` of its shape is read elsewhere
-    if begins_term(name) || (name == b"let".as_slice() && is_let(arguments)) {
+    if has_shape_of(name, arguments) {
         ReadFault::Unsupported
     } else {
         ReadFault::Malformed

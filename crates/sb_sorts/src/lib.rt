@@ -6,6 +6,7 @@
 //! numbers of the terms that are asserted.
 #![tactic(auto)]
 
+mod annotation;
 mod apply;
 mod character;
 mod head;

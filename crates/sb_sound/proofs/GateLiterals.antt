@@ -3,7 +3,7 @@ use Rattle.std.proofs.Common.{◌≡◌, ℕ, Bool, true, false, not, cond, ◌&
 use Rattle.std.specs.List.{list_all}
 use Rattle.std.specs.declared.cmp.Ordering.{Ordering}
 use Rattle.std.specs.declared.cmp.Ordering.TheVariants.{Less, Equal, Greater}
-use Rattle.std.specs.Ordering.{nat_cmp, bool_cmp, ordering_then, is_gt}
+use Rattle.std.specs.Ordering.{nat_cmp, bool_cmp, ordering_then, is_gt, match_ordering}
 use Rattle.std.proofs.Math.Bool.{and-true, not-not}
 use Rattle.std.proofs.lemmas.Bool.{eqb-true}
 use Rattle.sb_lit.specs.declared.clause.Lit.{Lit}
@@ -96,7 +96,7 @@ all_with p l [] = refl
 all_with p l (m ∷ ms) = step (literal_order l m) refl (all_with p l ms)
   where
     step : (o : Ordering) → literal_order l m ≡ o → list_all p (with_literal l ms) ≡ (p l && list_all p ms)
-        → list_all p (elim o [ Less ↦ l ∷ m ∷ ms | Equal ↦ m ∷ ms | Greater ↦ m ∷ with_literal l ms ])
+        → list_all p (match_ordering o (l ∷ m ∷ ms) (m ∷ ms) (m ∷ with_literal l ms))
         ≡ (p l && (p m && list_all p ms))
     step Less e later = refl
     step Equal e later =

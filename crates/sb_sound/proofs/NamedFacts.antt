@@ -3,11 +3,13 @@ use Rattle.std.proofs.Common.{◌≡◌, Bool, true, ◌&&◌, if◌then◌else�
 use Rattle.std.specs.List.{list_all, list_any}
 use Rattle.std.proofs.lemmas.Bool.{and_parts, or_cases, or_left, or_right, false≢true}
 use Rattle.sb_lit.specs.Kept.{KeptClause}
+use Rattle.sb_script.specs.Verdicts.{each_once}
 use Rattle.sb_rulebook.specs.Refusals.{Refusal, unknown_id}
 use Rattle.sb_rulebook.specs.Atoms.{truths_of, literal_holds}
 use Rattle.sb_rulebook.specs.Verdicts.{denied_by, assumption_holds, denies, denies_assumption, refutes, are_live, is_listed, unless_wrong}
 use Rattle.sb_sound.specs.VerdictLaws.{NamedAreRefuted}
 use Rattle.sb_sound.proofs.PassFacts.{list_any-filter, one_fails}
+use Rattle.sb_sound.proofs.SomeFacts.{any_once}
 use Rattle.sb_sound.proofs.VerdictFacts.{unsat-parts, denied_fails}
 
 -- an element of the list that passes both tests: whatever test it passes, some element of the list does
@@ -55,5 +57,6 @@ named_refuted q kept id places clause follows there v true_so =
     let denied = denies l (slice_get kept.atoms l.atom) in
     one_fails denied (assumption_holds v) (denied_by q kept clause)
     (list_any-filter (λ a. list_any (λ m. denies m (slice_get kept.atoms m.atom) a) clause.literals) denied
-    q.assumptions (λ a so. found.among (λ m. denies m (slice_get kept.atoms m.atom) a) so) found.first)
+    (each_once q.assumptions) (λ a so. found.among (λ m. denies m (slice_get kept.atoms m.atom) a) so)
+    (any_once denied q.assumptions found.first))
     (λ a so. denied_fails v kept.atoms l a found.second so)

@@ -1,10 +1,11 @@
 -- What a clause rests on, where clauses are put together, and where that is true.
-use Rattle.std.proofs.Common.{◌≡◌, ℕ, ◌<◌, ◌≤◌, Bool, true, false, if◌then◌else◌, nat_lt, nat_eq, List, [], ◌∷◌, ◌++◌, length, slice_get, Option, Some, unwrap_or, refl, ap, sym, subst, ◌⊎◌, inl, inr}
+use Rattle.std.proofs.Common.{◌≡◌, ℕ, ◌<◌, ◌≤◌, Bool, true, false, nat_lt, nat_eq, List, [], ◌∷◌, ◌++◌, length, slice_get, Option, Some, unwrap_or, refl, ap, sym, subst, ◌⊎◌, inl, inr}
 use Rattle.std.specs.List.{Contains}
 use Rattle.std.proofs.lemmas.Bool.{eqb-true}
 use Rattle.sb_meaning.specs.Terms.{Term}
 use Rattle.sb_meaning.specs.Values.{Valuation}
 use Rattle.sb_rulebook.specs.Kept.{AllKept, Asked, rests_of, rests_of_any, with_number, with_numbers}
+use Rattle.sb_rulebook.proofs.CallerLemmas.{by_order}
 use Rattle.sb_sound.specs.SoundLaws.{LevelsHold, PlacesHold, StandsAt}
 use Rattle.sb_sound.proofs.PassFacts.{Contains-cases, Contains-first, Contains-later, Contains-none}
 use Rattle.sb_sound.proofs.Accepting.{slice_get-front, Contains-slice_get}
@@ -15,7 +16,7 @@ module _ (n p : ℕ) where
   number-new (m ∷ ms) = step (nat_lt n m) (nat_eq n m) refl (number-new ms)
     where
       step : (b d : Bool) → nat_eq n m ≡ d → Contains (with_number n ms) n
-          → Contains (if b then n ∷ m ∷ ms else if d then m ∷ ms else m ∷ with_number n ms) n
+          → Contains (by_order b d (n ∷ m ∷ ms) (m ∷ ms) (m ∷ with_number n ms)) n
       step true d is rest = Contains-first n (m ∷ ms)
       step false true is rest = subst (λ k. Contains (m ∷ ms) k) (sym (eqb-true n m is)) (Contains-first m ms)
       step false false is rest = Contains-later m (with_number n ms) n rest
@@ -30,7 +31,7 @@ module _ (n p : ℕ) where
       later (inr there) rest = Contains-later m (with_number n ms) p (rest there)
 
       step : (b d : Bool) → (m ≡ p) ⊎ Contains ms p → (Contains ms p → Contains (with_number n ms) p)
-          → Contains (if b then n ∷ m ∷ ms else if d then m ∷ ms else m ∷ with_number n ms) p
+          → Contains (by_order b d (n ∷ m ∷ ms) (m ∷ ms) (m ∷ with_number n ms)) p
       step true d where_it_is rest = Contains-later n (m ∷ ms) p h
       step false true where_it_is rest = h
       step false false where_it_is rest = later where_it_is rest
@@ -45,7 +46,7 @@ module _ (n p : ℕ) where
       later (inr there) rest = elim (rest there) as (λ _. (n ≡ p) ⊎ Contains (m ∷ ms) p)
           [ inl new ↦ inl new | inr old ↦ inr (Contains-later m ms p old) ]
 
-      step : (b d : Bool) → Contains (if b then n ∷ m ∷ ms else if d then m ∷ ms else m ∷ with_number n ms) p
+      step : (b d : Bool) → Contains (by_order b d (n ∷ m ∷ ms) (m ∷ ms) (m ∷ with_number n ms)) p
           → (Contains (with_number n ms) p → (n ≡ p) ⊎ Contains ms p) → (n ≡ p) ⊎ Contains (m ∷ ms) p
       step true d h rest = Contains-cases n (m ∷ ms) p h
       step false true h rest = inr h

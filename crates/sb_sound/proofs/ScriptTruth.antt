@@ -1,5 +1,5 @@
 -- The verdicts of an accepted proof are true of the states and the assumptions of their checks.
-use Rattle.std.proofs.Common.{◌≡◌, ℕ, Bool, true, List, [], ◌∷◌, ◌++◌, map, Option, Some, None, refl, sym, subst, ◌∙◌}
+use Rattle.std.proofs.Common.{◌≡◌, ℕ, Bool, true, List, [], ◌∷◌, ◌++◌, map, Option, Some, None, sym, subst, ◌∙◌}
 use Rattle.std.specs.List.{list_all, list_any}
 use Rattle.std.specs.Prelude.{slice_get}
 use Rattle.std.proofs.lemmas.Bool.{true≢false, and_parts, and_from}
@@ -8,26 +8,27 @@ use Rattle.sb_meaning.specs.Terms.{Term}
 use Rattle.sb_meaning.specs.Values.{Value, Valuation}
 use Rattle.sb_meaning.specs.Truth.{all_hold}
 use Rattle.sb_script.specs.State as state
-use Rattle.sb_script.specs.State.{State, Assumption, assumed, names_of, constants_of, live, live_terms, fits, is_model, Satisfiable}
+use Rattle.sb_script.specs.State.{State, Assumption, assumed, names_of, constants_of, live, live_terms, fits, Satisfiable}
+use Rattle.sb_script.specs.Verdicts.{each_once}
 use Rattle.sb_script.specs.Steps.{Step, answers, leaves, checks, exits, above, all}
 use Rattle.sb_script.specs.Replies.{step_of}
 use Rattle.sb_rulebook.specs.Lines.{Said, said_sat, said_unsat, said_unknown, said_unsupported}
 use Rattle.sb_rulebook.specs.Reading.{LineText, texts_of}
-use Rattle.sb_rulebook.specs.Kept.{AllKept, rests_of}
+use Rattle.sb_rulebook.specs.Kept.{AllKept, count_again, rests_of}
 use Rattle.sb_rulebook.specs.Verdicts.{denies, denied_by}
-use Rattle.sb_rulebook.specs.Judging.{Event}
+use Rattle.sb_rulebook.specs.Judging.{Event, leaves_above, leaves_all, Progress, beginning, meets}
 use Rattle.sb_rulebook.specs.Accepted.{live_by_level, question_in, events_of, state_behind, events}
 use Rattle.sb_sound.specs.TermLaws.{HasSorts}
 use Rattle.sb_sound.specs.SoundLaws.{LevelsHold, AreContradicted, AreContradictedAt, IsUnsat, MeansSo}
 use Rattle.sb_sound.specs.VerdictLaws.{IsModel}
-use Rattle.sb_sound.specs.AcceptedLaws.{AllMeanSo, questions, counted_among, AcceptedScriptMeansSo}
+use Rattle.sb_sound.specs.AcceptedLaws.{AllMeanSo, counted_among, AcceptedScriptMeansSo}
 use Rattle.sb_sound.specs.TruthLaws.{terms_at, AreContradictory, IsTrueUnsat, IsTrueSat, IsTrueOf, AreTrueBehind, AreTrue, AcceptedScriptIsTrue}
 use Rattle.sb_sound.specs.ScriptLaws.{IsFit, EmptyClauseRefutes}
 use Rattle.sb_sound.proofs.ScriptHistory.{IsKept, names_fit, assumption_fits, start_fits, entry_keeps}
 use Rattle.sb_sound.proofs.FittingValues.{has_sorts, has_words}
 use Rattle.sb_sound.proofs.AssumedTerms.{hold_both, given_hold, unless_mark, live_hold, asserted_hold, places_hold}
 use Rattle.sb_sound.proofs.PassFacts.{all_filter, all_contained}
-use Rattle.sb_sound.proofs.SomeFacts.{filter_some, some_once}
+use Rattle.sb_sound.proofs.SomeFacts.{some_once, all_once}
 
 module _ (s : State) (fit : IsFit s) where
   sorts_of : (v : Valuation) → fits (constants_of s) v ≡ true → HasSorts v s.sorts
@@ -63,28 +64,24 @@ module _ (s : State) (fit : IsFit s) where
         contradicted v (has_words (constants_of s) v fitting) sorts (places_hold v s.first s.above places both.1)
         (sym (given_hold v s.sorts sorts named fine) ∙ both.0)
 
-    true_unsat : (kept : AllKept) (id : ℕ) (places : Option (List ℕ))
-        → IsUnsat (question_in s given) kept id places → IsTrueUnsat s given id places
-    true_unsat kept id places h =
+    true_unsat : (kept after : AllKept) (id : ℕ) (places : Option (List ℕ)) → after ≡ count_again kept
+        → IsUnsat (question_in s given) kept id places → IsTrueUnsat s given after id places
+    true_unsat kept after id places same h =
         let denied : Assumption → Bool =
         λ a. list_any (λ l. denies l (slice_get kept.atoms l.atom) a) h.clause.literals in
         let named = denied_by (question_in s given) kept h.clause in
-        let fine = all_filter (assumption_fits s.sorts) denied given bools in
-        record {
+        let fine = all_filter (assumption_fits s.sorts) denied (each_once given)
+        (all_once (assumption_fits s.sorts) given bools) in
+        subst (λ (k : AllKept). IsTrueUnsat s given k id places) (sym same) (record {
           inside = h.inside;
           all = no_model given bools h.all;
-          kept = kept;
           clause = h.clause;
           there = h.there;
-          named = named;
-          denied = refl;
-          some = filter_some denied given;
-          contradicted = no_model named fine h.core;
-          core = λ once. record { some = some_once denied given once; contradicted = no_model named fine h.core };
+          core = record { some = some_once denied given; contradicted = no_model named fine h.core };
           rests = λ listed is.
               subst (λ (ps : List ℕ). AreContradictory s ps named) (sym (h.listed listed is))
               (none_at (rests_of kept id) named fine h.rests);
-        }
+        })
 
     true_sat : (values : List Value) → IsModel (question_in s given) values → IsTrueSat s given values
     true_sat values h =
@@ -100,33 +97,31 @@ module _ (s : State) (fit : IsFit s) where
               ∙ and_from (all_hold (map assumed given) v) (all_hold (live_terms s) v) assumptions terms);
         }
 
-    true_of : (kept : AllKept) (lines : List LineText) (said : Said) → kept.counted ≡ counted_among lines
-        → MeansSo (question_in s given) kept said → IsTrueOf s given lines said
-    true_of kept lines (said_unsat id places) counts h = true_unsat kept id places h
-    true_of kept lines (said_sat values) counts h = true_sat values h
-    true_of kept lines (said_unknown n) counts h =
+    true_of : (kept after : AllKept) (lines : List LineText) (said : Said) → after ≡ count_again kept
+        → kept.counted ≡ counted_among lines → MeansSo (question_in s given) kept said
+        → IsTrueOf s given after lines said
+    true_of kept after lines (said_unsat id places) same counts h = true_unsat kept after id places same h
+    true_of kept after lines (said_sat values) same counts h = true_sat values h
+    true_of kept after lines (said_unknown n) same counts h =
         record { inside = h.inside; limit = h.limit; counted = sym counts ∙ h.counted }
-    true_of kept lines said_unsupported counts h = h
+    true_of kept after lines said_unsupported same counts h = h
 
 -- All entries.
 
-none_left : (came : List LineText) (verdicts : List Said) → AllMeanSo [] came verdicts → verdicts ≡ []
-none_left came [] h = refl
-none_left came (said ∷ verdicts) h = absurd h
-
 module _ (s : State) (fit : IsFit s) (entries : List Entry)
-    (more : (now : State) → IsFit now → (came : List LineText) (verdicts : List Said)
-    → AllMeanSo (questions (events now entries)) came verdicts → AreTrue now entries came verdicts) where
-  true_behind : (x : Step) → IsKept s x → (came : List LineText) (verdicts : List Said)
-      → AllMeanSo (questions (events_of x s
-      ++ elim (state_behind x s) as (λ _. List Event) [ Some next ↦ events next entries | None ↦ [] ])) came verdicts
-      → AreTrueBehind x s (λ next left rest. AreTrue next entries left rest) came verdicts
-  true_behind (answers text new) kept came verdicts h = more new kept.fit came verdicts h
-  true_behind (leaves (above level) text new) kept came verdicts h = more new kept.1 came verdicts h
-  true_behind (leaves all text new) kept came verdicts h = more new kept.1 came verdicts h
-  true_behind (checks given) bools came [] h = absurd h
-  true_behind (checks given) bools came (said ∷ verdicts) h =
-      let answer = h.4 in
+    (more : (now : State) → IsFit now → (p : Progress) (came : List LineText) (verdicts : List Said)
+    → AllMeanSo p (events now entries) came verdicts → AreTrue now p entries came verdicts) where
+  true_behind : (x : Step) → IsKept s x → (p : Progress) (came : List LineText) (verdicts : List Said)
+      → AllMeanSo p (events_of x s
+      ++ elim (state_behind x s) as (λ _. List Event) [ Some next ↦ events next entries | None ↦ [] ]) came verdicts
+      → AreTrueBehind x s p (λ next after left rest. AreTrue next after entries left rest) came verdicts
+  true_behind (answers text new) kept p came verdicts h = more new kept.fit p came verdicts h
+  true_behind (leaves (above level) text new) kept p came verdicts h =
+      more new kept.1 (meets (leaves_above level) p) came verdicts h
+  true_behind (leaves all text new) kept p came verdicts h = more new kept.1 (meets leaves_all p) came verdicts h
+  true_behind (checks given) bools p came [] h = absurd h
+  true_behind (checks given) bools p came (said ∷ verdicts) h =
+      let answer = h.6 in
       record {
         lines = h.0;
         verdict = h.1;
@@ -134,20 +129,22 @@ module _ (s : State) (fit : IsFit s) (entries : List Entry)
         whole = h.3;
         no_verdicts = answer.no_verdicts;
         is_verdict = answer.is_verdict;
-        so = true_of s fit given bools answer.kept h.0 said answer.counted answer.means;
-        rest = more s fit h.2 verdicts h.5;
+        after = h.4;
+        run = h.5;
+        so = true_of s fit given bools answer.kept h.4.kept h.0 said answer.kept_on answer.counted answer.means;
+        rest = more s fit h.4 h.2 verdicts h.7;
       }
-  true_behind (exits text) kept came verdicts h = none_left came verdicts h
+  true_behind (exits text) kept p came verdicts h = h
 
-true_along : (entries : List Entry) (s : State) → IsFit s → (came : List LineText) (verdicts : List Said)
-    → AllMeanSo (questions (events s entries)) came verdicts → AreTrue s entries came verdicts
-true_along [] s fit came verdicts h = none_left came verdicts h
-true_along (entry ∷ entries) s fit came verdicts h =
-    true_behind s fit entries (true_along entries) (step_of entry s) (entry_keeps s fit entry) came verdicts h
+true_along : (entries : List Entry) (s : State) → IsFit s → (p : Progress) (came : List LineText) (verdicts : List Said)
+    → AllMeanSo p (events s entries) came verdicts → AreTrue s p entries came verdicts
+true_along [] s fit p came verdicts h = h
+true_along (entry ∷ entries) s fit p came verdicts h =
+    true_behind s fit entries (true_along entries) (step_of entry s) (entry_keeps s fit entry) p came verdicts h
 
 pub script_true : AcceptedScriptMeansSo → AcceptedScriptIsTrue
 script_true means entries bytes verdicts h =
-    true_along entries state.start start_fits (texts_of bytes) verdicts (means entries bytes verdicts h)
+    true_along entries state.start start_fits beginning (texts_of bytes) verdicts (means entries bytes verdicts h)
 
 -- The empty clause is true under no valuation.
 pub empty_clause : EmptyClauseRefutes

@@ -1,6 +1,6 @@
 -- What an accepted proof of a script means, in the words of scripts.
-use Rattle.std.specs.Prelude.{◌≡◌, ◌⊎◌, ℕ, ◌-◌, ◌^◌, Bool, ◌&&◌, ◌==◌, true, false, not, if◌then◌else◌, List, [], ◌∷◌, ◌++◌, map, slice_get, Option, Some, None, Ok}
-use Rattle.std.specs.List.{list_all, list_any}
+use Rattle.std.specs.Prelude.{◌≡◌, ℕ, true, false, not, List, [], ◌∷◌, ◌++◌, map, slice_get, Option, Some, None, Ok}
+use Rattle.std.specs.List.{list_all}
 use Rattle.sb_lit.specs.Kept.{KeptClause, kept_at}
 use Rattle.sb_meaning.specs.Terms.{Term}
 use Rattle.sb_meaning.specs.Values.{Value, Valuation}
@@ -9,31 +9,16 @@ use Rattle.sb_reader.specs.Entries.{Entry}
 use Rattle.sb_script.specs.State as state
 use Rattle.sb_script.specs.State.{State, Assertion, asserted, a_mark, Assumption, assumed, live, constants_of, fits, is_model, Satisfiable}
 use Rattle.sb_script.specs.Fragment.{in_fragment}
-use Rattle.sb_script.specs.Verdicts.{is_same_assumption, IsCore}
+use Rattle.sb_script.specs.Verdicts.{IsCore}
 use Rattle.sb_script.specs.Steps.{Step, answers, leaves, checks, exits}
 use Rattle.sb_script.specs.Replies.{step_of}
 use Rattle.sb_rulebook.specs.Lines.{verdict_line, Said, said_sat, said_unsat, said_unknown, said_unsupported}
 use Rattle.sb_rulebook.specs.Reading.{LineText, texts_of, read}
-use Rattle.sb_rulebook.specs.Kept.{AllKept}
+use Rattle.sb_rulebook.specs.Kept.{AllKept, most_counted}
 use Rattle.sb_rulebook.specs.Verdicts.{denied_by, valued}
-use Rattle.sb_rulebook.specs.Judging.{accepted, judged}
-use Rattle.sb_rulebook.specs.Accepted.{events, question_in}
+use Rattle.sb_rulebook.specs.Judging.{asks, Progress, beginning, meets, through, accepted, judged}
+use Rattle.sb_rulebook.specs.Accepted.{asked_in, question_in, event_of_leaving, events}
 use Rattle.sb_sound.specs.AcceptedLaws.{is_verdict_read, counted_among}
-
--- the limit in force: 0 stands for 2^64 - 1
-abbrev pub limit_of : State → ℕ
-limit_of s = if s.options.resource_limit == 0 then 2 ^ 64 - 1 else s.options.resource_limit
-
--- some of a list, in its order
-abbrev pub AreSomeOf : {A : Type 0} → List A → List A → Type 0
-AreSomeOf [] ys = Unit {0}
-AreSomeOf (x ∷ xs) [] = ⊥
-AreSomeOf (x ∷ xs) (y ∷ ys) = ((x ≡ y) × AreSomeOf xs ys) ⊎ AreSomeOf (x ∷ xs) ys
-
--- no assumption stands twice
-abbrev pub stand_once : List Assumption → Bool
-stand_once [] = true
-stand_once (a ∷ given) = not (list_any (is_same_assumption a) given) && stand_once given
 
 -- the terms of the live assertions at these places
 abbrev pub terms_at : List Assertion → List ℕ → List Term
@@ -51,20 +36,18 @@ AreContradictory s places named =
     → all_hold (map assumed named ++ terms_at (live s) places) v ≡ true → ⊥
 
 -- `unsat`: no values of the live constants make all live assertions and all assumptions true
-pub record IsTrueUnsat (s : State) (given : List Assumption) (id : ℕ) (places : Option (List ℕ)) : Type 0 where
-  pub inside : in_fragment s ≡ true
-  pub all : Satisfiable s given → ⊥
-  -- nor all live assertions and those assumptions alone that the named clause denies
-  pub kept : AllKept
-  pub clause : KeptClause
-  pub there : kept_at kept.clauses id ≡ Some clause
-  pub named : List Assumption
-  pub denied : named ≡ denied_by (question_in s given) kept clause
-  pub some : AreSomeOf named given
-  pub contradicted : Satisfiable s named → ⊥
-  pub core : stand_once given ≡ true → IsCore s given named
-  -- nor these and the assertions that are listed, where any are
-  pub rests : (listed : List ℕ) → places ≡ Some listed → AreContradictory s listed named
+pub record IsTrueUnsat (s : State) (given : List Assumption) (kept : AllKept) (id : ℕ) (places : Option (List ℕ))
+    : Type 0
+  where
+    pub inside : in_fragment s ≡ true
+    pub all : Satisfiable s given → ⊥
+    -- nor all live assertions and those assumptions alone that the named clause denies, of those that the proof keeps
+    pub clause : KeptClause
+    pub there : kept_at kept.clauses id ≡ Some clause
+    pub core : IsCore s given (denied_by (question_in s given) kept clause)
+    -- nor these and the assertions that are listed, where any are
+    pub rests : (listed : List ℕ) → places ≡ Some listed
+        → AreContradictory s listed (denied_by (question_in s given) kept clause)
 
 -- `sat`: the values of the line are of the live constants, and make all live assertions and all assumptions true
 pub record IsTrueSat (s : State) (given : List Assumption) (values : List Value) : Type 0 where
@@ -76,47 +59,51 @@ pub record IsTrueSat (s : State) (given : List Assumption) (values : List Value)
 -- `unknown`: the number is the limit in force, and so many of the lines that came for the check are counted
 pub record IsTrueUnknown (s : State) (lines : List LineText) (n : ℕ) : Type 0 where
   pub inside : in_fragment s ≡ true
-  pub limit : n ≡ limit_of s
+  pub limit : n ≡ most_counted (asked_in s)
   pub counted : counted_among lines ≡ n
 
--- what is said of a check is true of the state and the assumptions under which it stands
-abbrev pub IsTrueOf : State → List Assumption → List LineText → Said → Type 0
-IsTrueOf s given lines (said_unsat id places) = IsTrueUnsat s given id places
-IsTrueOf s given lines (said_sat values) = IsTrueSat s given values
-IsTrueOf s given lines (said_unknown n) = IsTrueUnknown s lines n
-IsTrueOf s given lines said_unsupported = in_fragment s ≡ false
+-- what is said of a check is true of the state and the assumptions under which it stands, by what the proof keeps
+abbrev pub IsTrueOf : State → List Assumption → AllKept → List LineText → Said → Type 0
+IsTrueOf s given kept lines (said_unsat id places) = IsTrueUnsat s given kept id places
+IsTrueOf s given kept lines (said_sat values) = IsTrueSat s given values
+IsTrueOf s given kept lines (said_unknown n) = IsTrueUnknown s lines n
+IsTrueOf s given kept lines said_unsupported = in_fragment s ≡ false
 
--- a check is answered by the first verdict line among those that came, and what it says is true; then the rest
-pub record IsAnsweredSo (s : State) (given : List Assumption) (came : List LineText) (said : Said)
-    (Rest : List LineText → Type 0) : Type 0 where
-  pub lines : List LineText
-  pub verdict : LineText
-  pub left : List LineText
-  pub whole : came ≡ lines ++ verdict ∷ left
-  pub no_verdicts : list_all (λ text. not (is_verdict_read (read text))) lines ≡ true
-  pub is_verdict : read verdict ≡ Ok (verdict_line said)
-  pub so : IsTrueOf s given lines said
-  pub rest : Rest left
+-- A check is answered by the first verdict line among those that came, which take the proof from how far it had come,
+-- and what it says is true; then the rest.
+pub record IsAnsweredSo (s : State) (given : List Assumption) (before : Progress) (came : List LineText) (said : Said)
+    (Rest : Progress → List LineText → Type 0) : Type 0
+  where
+    pub lines : List LineText
+    pub verdict : LineText
+    pub left : List LineText
+    pub whole : came ≡ lines ++ verdict ∷ left
+    pub no_verdicts : list_all (λ text. not (is_verdict_read (read text))) lines ≡ true
+    pub is_verdict : read verdict ≡ Ok (verdict_line said)
+    pub after : Progress
+    pub run : through (meets (asks (question_in s given)) before) came ≡ (after, left)
+    pub so : IsTrueOf s given after.kept lines said
+    pub rest : Rest after left
 
 -- each check takes the next verdict, other steps take none, and behind the end of the run there is none
-abbrev pub AreTrueBehind : Step → State → (State → List LineText → List Said → Type 0) → List LineText → List Said
-    → Type 0
-AreTrueBehind (answers text new) s Rest came verdicts = Rest new came verdicts
-AreTrueBehind (leaves what text new) s Rest came verdicts = Rest new came verdicts
-AreTrueBehind (checks given) s Rest came [] = ⊥
-AreTrueBehind (checks given) s Rest came (said ∷ verdicts) =
-    IsAnsweredSo s given came said (λ left. Rest s left verdicts)
-AreTrueBehind (exits text) s Rest came verdicts = verdicts ≡ []
+abbrev pub AreTrueBehind : Step → State → Progress → (State → Progress → List LineText → List Said → Type 0)
+    → List LineText → List Said → Type 0
+AreTrueBehind (answers text new) s p Rest came verdicts = Rest new p came verdicts
+AreTrueBehind (leaves what text new) s p Rest came verdicts = Rest new (meets (event_of_leaving what) p) came verdicts
+AreTrueBehind (checks given) s p Rest came [] = ⊥
+AreTrueBehind (checks given) s p Rest came (said ∷ verdicts) =
+    IsAnsweredSo s given p came said (λ after left. Rest s after left verdicts)
+AreTrueBehind (exits text) s p Rest came verdicts = verdicts ≡ []
 
--- The verdicts are those of the checks of a script that goes on from this state, in order, and each is true where its
--- check stands. The lines up to a verdict came for its check.
-abbrev pub AreTrue : State → List Entry → List LineText → List Said → Type 0
-AreTrue s [] came verdicts = verdicts ≡ []
-AreTrue s (entry ∷ entries) came verdicts =
-    AreTrueBehind (step_of entry s) s (λ next left rest. AreTrue next entries left rest) came verdicts
+-- The verdicts are those of the checks of a script that goes on from this state, and of a proof that had come so far,
+-- in order, and each is true where its check stands. The lines up to a verdict came for its check.
+abbrev pub AreTrue : State → Progress → List Entry → List LineText → List Said → Type 0
+AreTrue s p [] came verdicts = verdicts ≡ []
+AreTrue s p (entry ∷ entries) came verdicts =
+    AreTrueBehind (step_of entry s) s p (λ next after left rest. AreTrue next after entries left rest) came verdicts
 
 -- an accepted proof of a script
 abbrev pub AcceptedScriptIsTrue : Type 0
 AcceptedScriptIsTrue = (entries : List Entry) (bytes : List ℕ) (verdicts : List Said)
     → judged (events state.start entries) bytes ≡ accepted verdicts
-    → AreTrue state.start entries (texts_of bytes) verdicts
+    → AreTrue state.start beginning entries (texts_of bytes) verdicts

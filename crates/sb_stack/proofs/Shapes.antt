@@ -179,3 +179,25 @@ pub keyword_of_only : (make : List ℕ → meaning.Command) (forms : Forms)
 keyword_of_only make none = refl
 keyword_of_only make (more f none) = keyword_of_one make f
 keyword_of_only make (more f (more g fs)) = two_keywords make f g (meaning.list_of fs)
+
+-- what is assumed
+pub assuming_of_only : (forms : Forms) → meaning.assuming_shape (meaning.list_of forms)
+    ≡ of_only (λ f. meaning.assuming_shape (f ∷ [])) (only_of forms)
+assuming_of_only none = refl
+assuming_of_only (more f none) = refl
+assuming_of_only (more (Group fs) (more g gs)) = refl
+assuming_of_only (more _ (more g gs)) = refl
+
+-- a list as an assumption, by its two forms where it has two
+abbrev pub assumed_pair : Option (Form × Form) → Bool
+assumed_pair None = true
+assumed_pair (Some (head, form)) = meaning.is_assumption_form (Group (more head (more form none)))
+
+pub assumed_of_pair : (forms : Forms) → meaning.is_assumption_form (Group forms) ≡ assumed_pair (pair_of forms)
+assumed_of_pair none = refl
+assumed_of_pair (more (Symbol x) none) = refl
+assumed_of_pair (more _ none) = refl
+assumed_of_pair (more f (more g none)) = refl
+assumed_of_pair (more (Symbol x) (more (Symbol y) (more h fs))) = refl
+assumed_of_pair (more (Symbol x) (more _ (more h fs))) = refl
+assumed_of_pair (more _ (more g (more h fs))) = refl

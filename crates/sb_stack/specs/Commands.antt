@@ -1,12 +1,11 @@
 -- Private: the commands of the code, and the forms of a list, as the definitions have them.
-use Rattle.std.specs.Prelude.{ℕ, List, filter, Option, Some, None, codes}
+use Rattle.std.specs.Prelude.{ℕ, false, List, map, Option, Some, None, codes}
 use Rattle.sb_reader.specs.declared.sexpr.Shapes.{Shapes}
 use Rattle.sb_reader.specs.Forms.{Form, Forms, Keyword, Numeral, none, more, shape_of, shapes_in}
 use Rattle.sb_stack.specs.declared.command.Kind.{Kind}
 use Rattle.sb_stack.specs.declared.command.Kind.TheVariants as kind
 use Rattle.sb_stack.specs.declared.command.Command.{Command}
 use Rattle.sb_stack.specs.declared.command.Command.TheVariants as code
-use Rattle.sb_script.specs.Brought.{a_command, is_brought}
 use Rattle.sb_script.specs.Names.{Name}
 use Rattle.sb_script.specs.Texts.{number_of}
 use Rattle.sb_script.specs.Commands as meaning
@@ -61,8 +60,11 @@ shape_in kind.DefineFun = meaning.definition_shape
 shape_in kind.Push = meaning.levels_shape meaning.push
 shape_in kind.Pop = meaning.levels_shape meaning.pop
 shape_in kind.CheckSat = meaning.bare meaning.check_sat
+shape_in kind.CheckSatAssuming = meaning.answered_by false meaning.assuming_shape
 shape_in kind.GetModel = meaning.bare meaning.get_model
 shape_in kind.GetValue = meaning.value_shape
+shape_in kind.GetUnsatAssumptions = meaning.answered_by false (meaning.bare meaning.get_unsat_assumptions)
+shape_in kind.GetUnsatCore = meaning.bare meaning.another
 shape_in kind.SetLogic = meaning.logic_shape
 shape_in kind.SetOption = meaning.option_shape
 shape_in kind.GetOption = meaning.keyword_shape meaning.get_option
@@ -73,6 +75,6 @@ shape_in kind.ResetAssertions = meaning.bare meaning.reset_assertions
 shape_in kind.Reset = meaning.bare meaning.reset
 shape_in kind.Exit = meaning.bare meaning.exit
 
--- the commands that are answered, by name
+-- the commands whose shapes are looked at, by name
 abbrev pub answered_shapes : List (Name × (List Form → Option meaning.Command))
-answered_shapes = filter (λ row. is_brought (a_command row.0)) meaning.shapes
+answered_shapes = map meaning.answered meaning.shapes

@@ -1,14 +1,14 @@
 //! Commands: what a form asks for, by its shape alone (SMT-LIB 2.6, section 3.9).
 
-ghost use Rattle.std.specs.Prelude.{◌≡◌, [], ◌∷◌, option_map, option_copied};
+ghost use Rattle.std.specs.Prelude.{◌≡◌, false, [], ◌∷◌, option_map, option_copied};
 ghost use Rattle.std.specs.List.{list_all};
-ghost use Rattle.sb_reader.specs.Forms.{Group, form_of, shape_of, shapes_in};
+ghost use Rattle.sb_reader.specs.Forms.{Symbol, Group, none, more, form_of, shape_of, shapes_in};
 ghost use Rattle.sb_script.specs.Commands as meaning;
 ghost use Rattle.sb_script.specs.Symbols.{found_in};
 ghost use Rattle.sb_stack.specs.Commands.{command_in, shape_in, answered_shapes, forms_in, keyword_in, numeral_in, levels_in};
 
 use sb_reader::{Sexpr, Shape, Shapes};
-use sb_sorts::{is_reserved, look_up};
+use sb_sorts::{begins_term, is_reserved, look_up};
 
 /// A command, which borrows from its form.
 #[derive(Clone, Copy)]
@@ -50,7 +50,7 @@ pub(crate) enum Command<'a> {
     Another,
 }
 
-/// The commands that are answered, by what follows their names.
+/// The commands whose shapes are looked at, by what follows their names.
 #[derive(Clone, Copy)]
 pub(crate) enum Kind {
     Assert,
@@ -60,8 +60,11 @@ pub(crate) enum Kind {
     Push,
     Pop,
     CheckSat,
+    CheckSatAssuming,
     GetModel,
     GetValue,
+    GetUnsatAssumptions,
+    GetUnsatCore,
     SetLogic,
     SetOption,
     GetOption,
@@ -73,7 +76,7 @@ pub(crate) enum Kind {
     Exit,
 }
 
-/// The commands that are answered, by their names.
+/// The commands whose shapes are looked at, by their names.
 const KINDS: &[(&[u8], Kind)] = &[
     (b"assert", Kind::Assert),
     (b"declare-const", Kind::DeclareConst),
@@ -82,8 +85,11 @@ const KINDS: &[(&[u8], Kind)] = &[
     (b"push", Kind::Push),
     (b"pop", Kind::Pop),
     (b"check-sat", Kind::CheckSat),
+    (b"check-sat-assuming", Kind::CheckSatAssuming),
     (b"get-model", Kind::GetModel),
     (b"get-value", Kind::GetValue),
+    (b"get-unsat-assumptions", Kind::GetUnsatAssumptions),
+    (b"get-unsat-core", Kind::GetUnsatCore),
     (b"set-logic", Kind::SetLogic),
     (b"set-option", Kind::SetOption),
     (b"get-option", Kind::GetOption),
@@ -128,7 +134,7 @@ fn shaped<'a>(name: &[u8], arguments: Shapes<'a>) -> Option<Command<'a>>
     }
 }
 
-/// The kind of the commands of this name, where they are answered.
+/// The kind of the commands of this name, where their shapes are looked at.
 fn kind_named(name: &[u8]) -> Option<Kind>
     ensures { option_map shape_in result ≡ found_in answered_shapes name.now }
 {
@@ -147,8 +153,11 @@ fn shaped_as<'a>(kind: Kind, arguments: Shapes<'a>) -> Option<Command<'a>>
         Kind::Push => push_shape(arguments),
         Kind::Pop => pop_shape(arguments),
         Kind::CheckSat => bare(Command::CheckSat, arguments),
+        Kind::CheckSatAssuming => assuming_shape(arguments),
         Kind::GetModel => bare(Command::GetModel, arguments),
         Kind::GetValue => value_shape(arguments),
+        Kind::GetUnsatAssumptions => unsat_assumptions_shape(arguments),
+        Kind::GetUnsatCore => bare(Command::Another, arguments),
         Kind::SetLogic => logic_shape(arguments),
         Kind::SetOption => option_shape(arguments),
         Kind::GetOption => asked_option_shape(arguments),
@@ -563,6 +572,98 @@ fn asked_items(items: Shapes<'_>) -> Option<Command<'_>>
         return None;
     }
     Some(Command::GetValue(items))
+}
+
+/// The question for the assumptions that are unsatisfiable, which is to come.
+fn unsat_assumptions_shape(arguments: Shapes<'_>) -> Option<Command<'_>>
+    ensures { option_map command_in result
+        ≡ meaning.answered_by false (meaning.bare meaning.get_unsat_assumptions) (forms_in arguments.entry) }
+{
+    bare(Command::Another, arguments)
+}
+
+/// A check under assumptions, which is to come.
+fn assuming_shape(arguments: Shapes<'_>) -> Option<Command<'_>>
+    ensures { option_map command_in result
+        ≡ meaning.answered_by false meaning.assuming_shape (forms_in arguments.entry) }
+{
+    match arguments.only() {
+        Some(terms) => assuming(terms),
+        None => None,
+    }
+}
+
+/// The check under a list of assumptions.
+fn assuming(terms: Shape<'_>) -> Option<Command<'_>>
+    ensures { option_map command_in result
+        ≡ meaning.answered_by false meaning.assuming_shape (shape_of terms.entry ∷ []) }
+{
+    match terms {
+        Shape::List(terms) => are_assumptions(terms).then_some(Command::Another),
+        _ => None,
+    }
+}
+
+fn are_assumptions(forms: Shapes<'_>) -> bool
+    ensures { result ≡ list_all meaning.is_assumption_form (forms_in forms.entry) }
+{
+    let mut left = forms;
+    while let Some((form, behind)) = left.split_first() {
+        if !is_assumption(form) {
+            return false;
+        }
+        left = behind;
+    }
+    true
+}
+
+/// What may stand in a list of assumptions: no keyword, and no bare reserved word, alone or behind `not`.
+fn is_assumption(form: Shape<'_>) -> bool
+    ensures { result ≡ meaning.is_assumption_form (shape_of form.entry) }
+{
+    match form {
+        Shape::Keyword(_) => false,
+        Shape::Symbol(name) => is_assumed_name(name),
+        Shape::List(forms) => is_assumed_list(forms),
+        _ => true,
+    }
+}
+
+/// A symbol without bars as an assumption, be it the name of a term or a word that begins one.
+fn is_assumed_name(name: &[u8]) -> bool
+    ensures { result ≡ meaning.is_assumption_form (Symbol name.now) }
+{
+    begins_term(name) || !is_reserved(name)
+}
+
+fn is_assumed_list(forms: Shapes<'_>) -> bool
+    ensures { result ≡ meaning.is_assumption_form (Group (shapes_in forms.entry)) }
+{
+    match forms.pair() {
+        Some((head, form)) => is_assumed_pair(head, form),
+        None => true,
+    }
+}
+
+/// A list of two forms as an assumption.
+fn is_assumed_pair(head: Shape<'_>, form: Shape<'_>) -> bool
+    ensures { result
+        ≡ meaning.is_assumption_form (Group (more (shape_of head.entry) (more (shape_of form.entry) none))) }
+{
+    match head {
+        Shape::Symbol(head) => is_assumed_behind(head, form),
+        _ => true,
+    }
+}
+
+/// A form behind a symbol: behind `not` a symbol stands as it does alone.
+fn is_assumed_behind(head: &[u8], form: Shape<'_>) -> bool
+    ensures { result ≡ meaning.is_assumption_form (Group (more (Symbol head.now) (more (shape_of form.entry) none))) }
+{
+    match form {
+        Shape::Symbol(name) => head != b"not".as_slice() || is_assumed_name(name),
+        _ => true,
+    }
 }
 
 /// A command without arguments.

@@ -8,3 +8,4 @@ pub mod OneWord
 pub mod EscapeLemmas
 pub mod LiteralWordLemmas
 pub mod FrontLemmas
+pub mod NumeralLemmas

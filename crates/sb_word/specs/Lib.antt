@@ -5,3 +5,5 @@ pub mod LiteralWords
 pub mod LiteralExamples
 pub mod Refusals
 pub mod Spelling
+pub mod Numerals
+pub mod NumeralExamples

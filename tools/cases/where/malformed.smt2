@@ -26,6 +26,11 @@ check-sat
 (get-value x)
 (pop -1)
 (set-option print-success true)
+(check-sat-assuming p)
+(check-sat-assuming (p (not let)))
+(get-unsat-core p)
+(assert (! p :named))
+(assert (or p (! p 1)))
 (assert (or p
 (check-sat))
 (check-sat)
