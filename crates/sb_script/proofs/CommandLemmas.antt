@@ -1,133 +1,144 @@
--- The commands that forms ask for: a definition of a function only where definitions are brought.
-use Rattle.std.proofs.Common.{◌≡◌, ℕ, Bool, true, false, ◌&&◌, List, [], ◌∷◌, map, Option, Some, None, refl}
+-- What commands do: what holds of what each row of the table makes holds of what the command of a form does.
+use Rattle.std.proofs.Common.{◌≡◌, ℕ, Bool, true, false, ◌&&◌, if◌then◌else◌, List, [], ◌∷◌, map, codes, Option, Some, None, IfSome, sym, ap, ◌∙◌, refl}
 use Rattle.std.specs.Prelude.{option_map}
 use Rattle.std.specs.List.{list_all}
-use Rattle.sb_reader.specs.Forms.{Form, Symbol, Keyword, Numeral, Words, Group, more}
-use Rattle.sb_script.specs.Names.{Name}
-use Rattle.sb_script.specs.Brought.{a_command, definitions, is_brought}
-use Rattle.sb_script.specs.Symbols.{found_in}
+use Rattle.std.specs.Cmp.Lexicographic.{same_text}
+use Rattle.sb_reader.specs.Forms.{Form, Keyword, Numeral, Words, Group, more}
+use Rattle.sb_script.specs.Names.{Name, is_name, found_in}
+use Rattle.sb_script.specs.Brought.{a_command, is_brought}
 use Rattle.sb_script.specs.Texts.{number_of}
-use Rattle.sb_script.specs.Commands as command
-use Rattle.sb_script.specs.Commands.{list_of, symbol_in, declarable, is_sort_form, is_parameter, parameters_of, is_item, is_assumption_form, function_of, definition_of, constant_shape, function_shape, definition_shape, logic_shape, option_shape, assert_shape, assuming_shape, value_shape, keyword_shape, info_shape, levels_shape, echo_shape, bare, shapes, answered_by, answered, command_of}
-use Rattle.sb_script.proofs.FoundLemmas.{if_some, some_by, Each, found_has}
+use Rattle.sb_script.specs.Commands.{Parameter, list_of, symbol_in, declarable, is_sort_form, is_parameter, parameters_of, is_item, is_assumption_form, constant_shape, function_shape, definition_shape, logic_shape, option_shape, assert_shape, assuming_shape, value_shape, keyword_shape, info_shape, levels_shape, echo_shape, bare}
+use Rattle.sb_script.specs.Steps.{is_unsupported}
+use Rattle.sb_script.specs.Replies.{Effect, commands, answered_by, answered, shaped_by, shaped}
+use Rattle.sb_script.proofs.FoundLemmas.{Each}
 
-abbrev pub is_allowed : command.Command → Bool
-is_allowed (command.define_function name parameters sort body) = is_brought definitions
-is_allowed _ = true
+abbrev Shape : Type 0
+Shape = List Form → Option Effect
 
-abbrev Gives : (List Form → Option command.Command) → Type 0
-Gives shape = (forms : List Form) → if_some is_allowed (shape forms) ≡ true
+module _ (P : Effect → Type 0) where
+  -- what the shape makes has the property
+  abbrev pub Gives : Shape → Type 0
+  Gives shape = (forms : List Form) → IfSome (shape forms) P
 
-mapped : {A : Type 0} (f : A → command.Command) → ((x : A) → is_allowed (f x) ≡ true) → (o : Option A)
-    → if_some is_allowed (option_map f o) ≡ true
-mapped f h (Some x) = h x
-mapped f h None = refl
+  mapped : {A : Type 0} (make : A → Effect) → ((x : A) → P (make x)) → (o : Option A) → IfSome (option_map make o) P
+  mapped make h (Some x) = h x
+  mapped make h None = tt
 
-assert_gives : Gives assert_shape
-assert_gives (term ∷ []) = refl
-assert_gives _ = refl
+  by_test : (b : Bool) (o : Option Effect) → IfSome o P → IfSome (if b then o else None) P
+  by_test true o h = h
+  by_test false o h = tt
 
-constant_gives : Gives constant_shape
-constant_gives (name ∷ sort ∷ []) =
-    some_by is_allowed (is_sort_form sort) (option_map (λ n. command.declare_constant n sort) (declarable name)) None
-    (mapped (λ n. command.declare_constant n sort) (λ n. refl) (declarable name)) refl
-constant_gives _ = refl
+  -- One lemma for each shape.
 
-function_gives : Gives function_shape
-function_gives (name ∷ Group sorts ∷ sort ∷ []) =
-    some_by is_allowed (list_all is_sort_form (list_of sorts) && is_sort_form sort)
-    (option_map (λ n. function_of n (list_of sorts) sort) (declarable name)) None
-    (mapped (λ n. function_of n (list_of sorts) sort) (λ n. of_either n (list_of sorts)) (declarable name)) refl
-  where
-    of_either : (n : Name) (ss : List Form) → is_allowed (function_of n ss sort) ≡ true
-    of_either n [] = refl
-    of_either n (s ∷ ss) = refl
-function_gives _ = refl
+  pub logic_gives : (make : Name → Effect) → ((name : Name) → P (make name)) → Gives (logic_shape make)
+  logic_gives make h (logic ∷ []) = mapped make h (symbol_in logic)
+  logic_gives make h _ = tt
 
-definition_gives : Gives definition_shape
-definition_gives (name ∷ Group parameters ∷ sort ∷ body ∷ []) =
-    some_by is_allowed (list_all is_parameter (list_of parameters) && is_sort_form sort)
-    (option_map (λ n. definition_of n (parameters_of (list_of parameters)) sort body) (declarable name)) None
-    (mapped (λ n. definition_of n (parameters_of (list_of parameters)) sort body) (λ n. refl) (declarable name)) refl
-definition_gives _ = refl
+  pub option_gives : (make : Name → Form → Effect) → ((key : Name) (value : Form) → P (make key value))
+      → Gives (option_shape make)
+  option_gives make h (Keyword key ∷ value ∷ []) = h key value
+  option_gives make h _ = tt
 
-logic_gives : Gives logic_shape
-logic_gives (logic ∷ []) = mapped command.set_logic (λ n. refl) (symbol_in logic)
-logic_gives _ = refl
+  pub constant_gives : (make : Name → Form → Effect) → ((name : Name) (sort : Form) → P (make name sort))
+      → Gives (constant_shape make)
+  constant_gives make h (name ∷ sort ∷ []) =
+      by_test (is_sort_form sort) (option_map (λ n. make n sort) (declarable name))
+      (mapped (λ n. make n sort) (λ n. h n sort) (declarable name))
+  constant_gives make h _ = tt
 
-option_gives : Gives option_shape
-option_gives (Keyword key ∷ value ∷ []) = refl
-option_gives _ = refl
+  pub function_gives : (make : Name → List Form → Form → Effect)
+      → ((name : Name) (sorts : List Form) (sort : Form) → P (make name sorts sort)) → Gives (function_shape make)
+  function_gives make h (name ∷ Group sorts ∷ sort ∷ []) =
+      by_test (list_all is_sort_form (list_of sorts) && is_sort_form sort)
+      (option_map (λ n. make n (list_of sorts) sort) (declarable name))
+      (mapped (λ n. make n (list_of sorts) sort) (λ n. h n (list_of sorts) sort) (declarable name))
+  function_gives make h _ = tt
 
-value_gives : Gives value_shape
-value_gives (Group (more item items) ∷ []) =
-    some_by is_allowed (list_all is_item (item ∷ list_of items)) (Some (command.get_value (item ∷ list_of items))) None
-    refl refl
-value_gives _ = refl
+  pub definition_gives : (make : Name → List Parameter → Form → Form → Effect)
+      → ((name : Name) (ps : List Parameter) (sort body : Form) → P (make name ps sort body))
+      → Gives (definition_shape make)
+  definition_gives make h (name ∷ Group parameters ∷ sort ∷ body ∷ []) =
+      let ps = parameters_of (list_of parameters) in
+      by_test (list_all is_parameter (list_of parameters) && is_sort_form sort)
+      (option_map (λ n. make n ps sort body) (declarable name))
+      (mapped (λ n. make n ps sort body) (λ n. h n ps sort body) (declarable name))
+  definition_gives make h _ = tt
 
-assuming_gives : Gives assuming_shape
-assuming_gives (Group forms ∷ []) =
-    some_by is_allowed (list_all is_assumption_form (list_of forms)) (Some (command.check_sat_assuming (list_of forms)))
-    None refl refl
-assuming_gives _ = refl
+  pub assert_gives : (make : Form → Effect) → ((form : Form) → P (make form)) → Gives (assert_shape make)
+  assert_gives make h (term ∷ []) = h term
+  assert_gives make h _ = tt
 
-keyword_gives : (make : Name → command.Command) → ((key : Name) → is_allowed (make key) ≡ true)
-    → Gives (keyword_shape make)
-keyword_gives make h (Keyword key ∷ []) = h key
-keyword_gives make h _ = refl
+  pub value_gives : (make : List Form → Effect) → ((forms : List Form) → P (make forms)) → Gives (value_shape make)
+  value_gives make h (Group (more item items) ∷ []) =
+      let all = item ∷ list_of items in by_test (list_all is_item all) (Some (make all)) (h all)
+  value_gives make h _ = tt
 
-info_gives : Gives info_shape
-info_gives (Keyword key ∷ forms) = refl
-info_gives _ = refl
+  pub keyword_gives : (make : Name → Effect) → ((key : Name) → P (make key)) → Gives (keyword_shape make)
+  keyword_gives make h (Keyword key ∷ []) = h key
+  keyword_gives make h _ = tt
 
-echo_gives : Gives echo_shape
-echo_gives (Words bytes ∷ []) = refl
-echo_gives _ = refl
+  pub info_gives : (made : Effect) → P made → Gives (info_shape made)
+  info_gives made h (Keyword key ∷ forms) = h
+  info_gives made h _ = tt
 
-levels_give : (make : ℕ → command.Command) → ((n : ℕ) → is_allowed (make n) ≡ true) → Gives (levels_shape make)
-levels_give make h [] = h 1
-levels_give make h (Numeral digits ∷ []) = h (number_of digits)
-levels_give make h _ = refl
+  pub levels_give : (make : ℕ → Effect) → ((n : ℕ) → P (make n)) → Gives (levels_shape make)
+  levels_give make h [] = h 1
+  levels_give make h (Numeral digits ∷ []) = h (number_of digits)
+  levels_give make h _ = tt
 
-bare_gives : (c : command.Command) → is_allowed c ≡ true → Gives (bare c)
-bare_gives c h [] = h
-bare_gives c h (form ∷ forms) = refl
+  pub assuming_gives : (make : List Form → Effect) → ((forms : List Form) → P (make forms))
+      → Gives (assuming_shape make)
+  assuming_gives make h (Group forms ∷ []) =
+      by_test (list_all is_assumption_form (list_of forms)) (Some (make (list_of forms))) (h (list_of forms))
+  assuming_gives make h _ = tt
+
+  pub echo_gives : (make : List ℕ → Effect) → ((bytes : List ℕ) → P (make bytes)) → Gives (echo_shape make)
+  echo_gives make h (Words bytes ∷ []) = h bytes
+  echo_gives make h _ = tt
+
+  pub bare_gives : (made : Effect) → P made → Gives (bare made)
+  bare_gives made h [] = h
+  bare_gives made h (form ∷ forms) = tt
+
+  -- All commands, where `exit` stands for itself.
+
+  abbrev Unless : Bool → Type 0 → Type 0
+  Unless true Q = Unit {0}
+  Unless false Q = Q
+
+  -- what the row makes has the property, unless it is that of `exit`
+  abbrev pub Row : Name × Shape → Type 0
+  Row row = Unless (is_name row.0 (codes "exit")) (Gives row.1)
+
+  answered_gives : P is_unsupported → (b : Bool) (shape : Shape) → Gives shape → Gives (answered_by b shape)
+  answered_gives out true shape gives forms = gives forms
+  answered_gives out false shape gives forms = mapped (λ effect. is_unsupported) (λ effect. out) (shape forms)
+
+  rows_give : P is_unsupported → (rows : List (Name × Shape)) → Each Row rows → (name : Name)
+      → is_name name (codes "exit") ≡ false → (forms : List Form)
+      → IfSome (shaped_by (map answered rows) name forms) P
+  rows_give out [] each name other forms = out
+  rows_give out (row ∷ rows) each name other forms =
+      step (is_name name row.0) refl (rows_give out rows each.1 name other forms)
+    where
+      given : (b : Bool) → b ≡ false → Unless b (Gives row.1) → Gives row.1
+      given true is gives = absurd (Prim.cc (is))
+      given false is gives = gives
+
+      step : (b : Bool) → is_name name row.0 ≡ b → IfSome (shaped_by (map answered rows) name forms) P
+          → IfSome (elim (if b then Some (answered row).1 else found_in (map answered rows) name) as
+          (λ _. Option Effect) [ Some shape ↦ shape forms | None ↦ Some is_unsupported ]) P
+      step true same rest =
+          let key = ap (λ n. is_name n (codes "exit")) (same_text name row.0 (sym same)) in
+          answered_gives out (is_brought (a_command row.0)) row.1
+          (given (is_name row.0 (codes "exit")) (sym key ∙ other) each.0) forms
+      step false same rest = rest
+
+  pub command_gives : P is_unsupported → Each Row commands → (name : Name) → is_name name (codes "exit") ≡ false
+      → (forms : List Form) → IfSome (shaped name forms) P
+  command_gives out each = rows_give out commands each
 
 -- two facts
 infixr 5 ◌also◌
-◌also◌ : {P Q : Type 0} → P → Q → P × Q
+pub ◌also◌ : {P Q : Type 0} → P → Q → P × Q
 p also q = (p, q)
-
-shapes_give : Each Gives shapes
-shapes_give =
-    assert_gives also constant_gives also function_gives also definition_gives
-    also levels_give command.push (λ n. refl) also levels_give command.pop (λ n. refl)
-    also bare_gives command.check_sat refl also assuming_gives also bare_gives command.get_model refl
-    also value_gives also bare_gives command.get_unsat_assumptions refl also bare_gives command.another refl
-    also logic_gives also option_gives also keyword_gives command.get_option (λ key. refl)
-    also info_gives also keyword_gives command.get_info (λ key. refl) also echo_gives
-    also bare_gives command.reset_assertions refl also bare_gives command.reset refl
-    also bare_gives command.exit refl also tt
-
-answered_gives : (b : Bool) (shape : List Form → Option command.Command) → Gives shape → Gives (answered_by b shape)
-answered_gives true shape gives forms = gives forms
-answered_gives false shape gives forms = mapped (λ c. command.another) (λ c. refl) (shape forms)
-
-all_give : (rows : List (Name × (List Form → Option command.Command))) → Each Gives rows
-    → Each Gives (map answered rows)
-all_give [] each = tt
-all_give (row ∷ rows) each =
-    (answered_gives (is_brought (a_command row.0)) row.1 each.0, all_give rows each.1)
-
-pub command_allowed : (form : Form) → if_some is_allowed (command_of form) ≡ true
-command_allowed (Group (more (Symbol name) arguments)) =
-    step (found_in (map answered shapes) name)
-    (λ shape is. found_has Gives (map answered shapes) name shape (all_give shapes shapes_give) is)
-  where
-    step : (o : Option (List Form → Option command.Command))
-        → ((shape : List Form → Option command.Command) → o ≡ Some shape → Gives shape)
-        → if_some is_allowed (elim o as (λ _. Option command.Command)
-        [ Some shape ↦ shape (list_of arguments) | None ↦ Some command.another ]) ≡ true
-    step (Some shape) gives = gives shape refl (list_of arguments)
-    step None gives = refl
-command_allowed _ = refl

@@ -1,8 +1,7 @@
 -- What is found in a table by its name.
 use Rattle.std.proofs.Common.{◌≡◌, Bool, true, false, if◌then◌else◌, List, [], ◌∷◌, Option, Some, None, subst, refl}
 use Rattle.std.specs.Prelude.{filter}
-use Rattle.sb_script.specs.Names.{Name, is_name}
-use Rattle.sb_script.specs.Symbols.{found_in}
+use Rattle.sb_script.specs.Names.{Name, is_name, found_in}
 
 -- what there is passes the test
 abbrev pub if_some : {A : Type 0} → (A → Bool) → Option A → Bool
@@ -14,14 +13,14 @@ pub some_by : {A : Type 0} (p : A → Bool) (b : Bool) (x y : Option A) → if_s
 some_by p true x y h k = h
 some_by p false x y h k = k
 
--- what the rows of a table give has the property
-abbrev pub Each : {A : Type 0} → (A → Type 0) → List (Name × A) → Type 0
+-- each row has the property
+abbrev pub Each : {A : Type 0} → (A → Type 0) → List A → Type 0
 Each P [] = Unit {0}
-Each P (row ∷ rows) = P row.1 × Each P rows
+Each P (row ∷ rows) = P row × Each P rows
 
--- so has what is found
-pub found_has : {A : Type 0} (P : A → Type 0) (rows : List (Name × A)) (name : Name) (x : A) → Each P rows
-    → found_in rows name ≡ Some x → P x
+-- what the rows of a table give has the property, so what is found has it
+pub found_has : {A : Type 0} (P : A → Type 0) (rows : List (Name × A)) (name : Name) (x : A)
+    → Each (λ (row : Name × A). P row.1) rows → found_in rows name ≡ Some x → P x
 found_has P [] name x each is = absurd (Prim.cc (is))
 found_has {A} P (row ∷ rows) name x each is =
     step (is_name name row.0) (found_has P rows name x each.1) is
@@ -31,7 +30,7 @@ found_has {A} P (row ∷ rows) name x each is =
     step true rest same = let here : row.1 ≡ x = Prim.cc (same) in subst P here each.0
     step false rest same = rest same
 
-pub each_filtered : {A : Type 0} (P : A → Type 0) (p : Name × A → Bool) (rows : List (Name × A)) → Each P rows
+pub each_filtered : {A : Type 0} (P : A → Type 0) (p : A → Bool) (rows : List A) → Each P rows
     → Each P (filter p rows)
 each_filtered P p [] each = tt
 each_filtered P p (row ∷ rows) each = step (p row) (each_filtered P p rows each.1)

@@ -1,30 +1,30 @@
--- What becomes of an entry: what holds of each change that an entry may make of a state holds of every entry. It is said
--- of the state beside the same with another mode, since what an entry changes does not depend on the mode.
-use Rattle.std.proofs.Common.{◌≡◌, ℕ, ◌+◌, ◌^◌, Bool, true, false, not, ◌++◌, if◌then◌else◌, List, [], map, codes, length, nat_lt, nat_le, Option, Some, None, Result, Ok, Err, refl, sym, subst}
+-- What becomes of an entry: what holds of each change that an entry may make of a state holds of every entry. It is
+-- said of the state beside the same with another mode, since what an entry changes does not depend on the mode.
+use Rattle.std.proofs.Common.{◌≡◌, ℕ, ◌+◌, ◌^◌, Bool, true, false, not, ◌++◌, if◌then◌else◌, List, [], ◌∷◌, map, codes, length, nat_lt, nat_le, Option, Some, None, IfSome, Result, Ok, Err, refl, sym, subst}
 use Rattle.std.specs.Prelude.{filter}
-use Rattle.sb_reader.specs.Forms.{Form, Numeral}
+use Rattle.std.specs.Cmp.Lexicographic.{same_text}
+use Rattle.sb_reader.specs.Forms.{Form, Forms, Symbol, Numeral, Group, none, more}
 use Rattle.sb_reader.specs.Entries.{Entry, Command, Refused}
 use Rattle.sb_meaning.specs.Terms.{Sort, Term, boolean}
 use Rattle.sb_meaning.specs.Values.{Valuation}
 use Rattle.sb_meaning.specs.Sorts.{sort_of, is_same_sort}
-use Rattle.sb_script.specs.Names.{Name, is_name}
+use Rattle.sb_script.specs.Names.{Name, is_name, found_in}
 use Rattle.sb_script.specs.Brought.{an_option, definitions, is_brought, is_brought_sort}
-use Rattle.sb_script.specs.Symbols.{found_in, sorts_of_constants, sort_named, is_taken}
+use Rattle.sb_script.specs.Symbols.{sorts_of_constants, sort_named, is_taken}
 use Rattle.sb_script.specs.Faults.{Fault}
 use Rattle.sb_script.specs.Reading.{read}
 use Rattle.sb_script.specs.Texts.{number_of}
 use Rattle.sb_script.specs.Errors as error
 use Rattle.sb_script.specs.Errors.{Error, first_of}
-use Rattle.sb_script.specs.Commands as command
-use Rattle.sb_script.specs.Commands.{Parameter, symbol_in, command_of}
+use Rattle.sb_script.specs.Commands.{Parameter, list_of, symbol_in}
 use Rattle.sb_script.specs.State.{State, Mode, Options, plain, satisfied, refuted, undecided, asserted, a_mark, names_of, declared, defined, marked, with_assertion, pushed, popped, without_assertions, start_behind}
-use Rattle.sb_script.specs.Steps.{Step, answers, leaves, checks, exits, above, all, fails_by, is_unsupported, fault_error}
+use Rattle.sb_script.specs.Steps.{Step, answers, leaves, checks, exits, above, all, fails_by, succeeds, is_unsupported, fault_error}
 use Rattle.sb_script.specs.Options as option
 use Rattle.sb_script.specs.Options.{is_logic, truth_in, with_truth, reason_unknown, option_texts, info_texts, settings}
 use Rattle.sb_script.specs.Replies as meaning
-use Rattle.sb_script.specs.Replies.{sort_of_form, sort_in_definition, sorts_in_definition, name_errors, body_errors, bound_from, unless_error, defines, define_by, level_limit, assumed_form, errors_in, assumptions_in, contradicted, with_values, some_malformed, first_unknown, all_constants, values_of, item_of, step, step_of, is_exit, is_exit_command}
+use Rattle.sb_script.specs.Replies.{sort_of_form, sort_in_definition, sorts_in_definition, name_errors, body_errors, bound_from, unless_error, defines, define_by, level_limit, assumed_form, errors_in, assumptions_in, contradicted, with_values, some_malformed, first_unknown, all_constants, values_of, item_of, Effect, commands, shaped, step_of, is_exit}
 use Rattle.sb_script.proofs.FoundLemmas.{if_some, Each, found_has, each_filtered, found_passes}
-use Rattle.sb_script.proofs.CommandLemmas.{is_allowed, command_allowed}
+use Rattle.sb_script.proofs.CommandLemmas.{Row, logic_gives, option_gives, constant_gives, function_gives, definition_gives, assert_gives, value_gives, keyword_gives, info_gives, levels_give, assuming_gives, echo_gives, bare_gives, command_gives, ◌also◌}
 
 abbrev pub with_mode : Mode → State → State
 with_mode m s = record s { mode = m }
@@ -164,7 +164,7 @@ module _ (m : Mode) (s : State) (P : Bool → Step → Step → Type 0) (keep : 
   abbrev Sets : (Form → State → Step) → Type 0
   Sets set = (value : Form) → P false (set value moved) (set value s)
 
-  settings_set : Each Sets settings
+  settings_set : Each (λ (row : Name × (Form → State → Step)). Sets row.1) settings
   settings_set = (
     λ value. truth_set value (λ b. record s.options { print_success = b }),
     (
@@ -178,7 +178,8 @@ module _ (m : Mode) (s : State) (P : Bool → Step → Step → Type 0) (keep : 
       let brought = filter (λ row. is_brought (an_option row.0)) settings in
       by_option (found_in brought key) _ _ _ _
       (λ set is. found_has Sets brought key set
-      (each_filtered Sets (λ row. is_brought (an_option row.0)) settings settings_set) is value)
+      (each_filtered (λ (row : Name × (Form → State → Step)). Sets row.1) (λ row. is_brought (an_option row.0)) settings
+      settings_set) is value)
       (keep.stays _ _)
 
   -- Declarations and definitions.
@@ -234,49 +235,104 @@ module _ (m : Mode) (s : State) (P : Bool → Step → Step → Type 0) (keep : 
       (keep.stays _ _))
       (λ fault. by_option (fault_error fault) _ _ _ _ (λ e is. keep.stays _ _) (keep.omits _))
 
-  command_keeps : (c : command.Command) → is_allowed c ≡ true
-      → P (is_exit_command (Some c)) (step c moved) (step c s)
-  command_keeps (command.set_logic name) h =
+  -- Each command, by a row.
+
+  abbrev Kept : Effect → Type 0
+  Kept effect = P false (effect moved) (effect s)
+
+  logic_set : (name : Name) → Kept (option.set_logic name)
+  logic_set name =
       by_test s.logic_set _ _ _ _ (λ is. keep.stays _ _)
       (by_test (is_logic name) _ _ _ _ (λ is. keep.sets _ true true s.options) (keep.stays _ _))
-  command_keeps (command.set_option key value) h = option_set key value
-  command_keeps (command.get_option key) h =
+
+  option_told : (key : Name) → Kept (option.get_option key)
+  option_told key =
       by_option (found_in (filter (λ row. is_brought (an_option row.0)) option_texts) key) _ _ _ _
       (λ text is. keep.stays _ _) (keep.stays _ _)
-  command_keeps command.set_info h = keep.stays _ _
-  command_keeps (command.get_info key) h = by_answers _ _ (get_info_answers moved key) (get_info_answers s key)
-  command_keeps (command.declare_constant name sort) h = constant_declared name sort
-  command_keeps (command.declare_function name) h = function_declared name
-  command_keeps (command.define_function name ps sort body) h = function_made name ps sort body h
-  command_keeps (command.assert form) h = term_asserted form
-  command_keeps (command.push n) h =
+
+  constant_or_function : (name : Name) (sorts : List Form) (sort : Form) → Kept (meaning.function_of name sorts sort)
+  constant_or_function name [] sort = constant_declared name sort
+  constant_or_function name (other ∷ others) sort = function_declared name
+
+  levels_pushed : (n : ℕ) → Kept (meaning.push n)
+  levels_pushed n =
       by_test (nat_le (n + length s.above) level_limit) _ _ _ _ (λ is. keep.pushes _ n) (keep.stays _ _)
-  command_keeps (command.pop n) h =
-      by_test (nat_le n (length s.above)) _ _ _ _ (λ is. keep.pops _ n) (keep.stays _ _)
-  command_keeps command.check_sat h = keep.asks []
-  command_keeps (command.check_sat_assuming forms) h =
-      by_errors (errors_in (map (assumed_form s) forms)) _ _ (keep.asks forms)
-  command_keeps command.get_model h =
-      by_answers _ _ (with_values_answers moved _ (λ v. (_, refl))) (with_values_answers s _ (λ v. (_, refl)))
-  command_keeps (command.get_value forms) h =
-      by_answers _ _ (get_value_answers moved forms) (get_value_answers s forms)
-  command_keeps command.get_unsat_assumptions h =
+
+  levels_popped : (n : ℕ) → Kept (meaning.pop n)
+  levels_popped n = by_test (nat_le n (length s.above)) _ _ _ _ (λ is. keep.pops _ n) (keep.stays _ _)
+
+  asked_under : (forms : List Form) → Kept (meaning.check_sat_assuming forms)
+  asked_under forms = by_errors (errors_in (map (assumed_form s) forms)) _ _ (keep.asks forms)
+
+  model_told : Kept meaning.get_model
+  model_told = by_answers _ _ (with_values_answers moved _ (λ v. (_, refl))) (with_values_answers s _ (λ v. (_, refl)))
+
+  contradiction_told : Kept meaning.get_unsat_assumptions
+  contradiction_told =
       by_answers _ _
       (a_test moved s.options.produce_unsat_assumptions _ _ (contradicted_answers moved m) (_, refl))
       (a_test s s.options.produce_unsat_assumptions _ _ (contradicted_answers s s.mode) (_, refl))
-  command_keeps (command.echo bytes) h = keep.stays _ _
-  command_keeps command.reset_assertions h = keep.clears _
-  command_keeps command.reset h = keep.resets _
-  command_keeps command.exit h = keep.ends _
-  command_keeps command.another h = keep.stays _ _
 
-  form_keeps : (o : Option command.Command) → if_some is_allowed o ≡ true
-      → P (is_exit_command o)
-      (elim o as (λ _. Step) [ Some c ↦ step c moved | None ↦ fails_by error.malformed_command moved ])
-      (elim o as (λ _. Step) [ Some c ↦ step c s | None ↦ fails_by error.malformed_command s ])
-  form_keeps None h = keep.stays _ _
-  form_keeps (Some c) h = command_keeps c h
+  rows_keep : Each (Row Kept) commands
+  rows_keep =
+      assert_gives Kept meaning.assert term_asserted
+      also constant_gives Kept meaning.declare_constant constant_declared
+      also function_gives Kept meaning.function_of constant_or_function
+      also definition_gives Kept meaning.definition_of (λ name ps sort body. function_made name ps sort body refl)
+      also levels_give Kept meaning.push levels_pushed
+      also levels_give Kept meaning.pop levels_popped
+      also bare_gives Kept meaning.check_sat (keep.asks [])
+      also assuming_gives Kept meaning.check_sat_assuming asked_under
+      also bare_gives Kept meaning.get_model model_told
+      also value_gives Kept meaning.get_value
+      (λ forms. by_answers _ _ (get_value_answers moved forms) (get_value_answers s forms))
+      also bare_gives Kept meaning.get_unsat_assumptions contradiction_told
+      also bare_gives Kept is_unsupported (keep.stays _ _)
+      also logic_gives Kept option.set_logic logic_set
+      also option_gives Kept option.set_option option_set
+      also keyword_gives Kept option.get_option option_told
+      also info_gives Kept succeeds (keep.stays _ _)
+      also keyword_gives Kept option.get_info
+      (λ key. by_answers _ _ (get_info_answers moved key) (get_info_answers s key))
+      also echo_gives Kept meaning.echo (λ bytes. keep.stays _ _)
+      also bare_gives Kept meaning.reset_assertions (keep.clears _)
+      also bare_gives Kept meaning.reset (keep.resets _)
+      also tt also tt
+
+  -- a command by its name, with what follows it
+  abbrev Keeps : Name → Forms → Type 0
+  Keeps name arguments =
+      let entry = Command (Group (more (Symbol name) arguments)) in
+      P (is_exit entry) (step_of entry moved) (step_of entry s)
+
+  exit_keeps : (arguments : Forms) → Keeps (codes "exit") arguments
+  exit_keeps none = keep.ends _
+  exit_keeps (more form forms) = keep.stays _ _
+
+  no_exit : (name : Name) (arguments : Forms) → is_name name (codes "exit") ≡ false
+      → is_exit (Command (Group (more (Symbol name) arguments))) ≡ false
+  no_exit name none is = is
+  no_exit name (more form forms) is = refl
+
+  by_effect : (o : Option Effect) → IfSome o Kept → P false
+      (elim o as (λ _. Step) [ Some effect ↦ effect moved | None ↦ fails_by error.malformed_command moved ])
+      (elim o as (λ _. Step) [ Some effect ↦ effect s | None ↦ fails_by error.malformed_command s ])
+  by_effect None h = keep.stays _ _
+  by_effect (Some effect) h = h
+
+  command_keeps : (name : Name) (arguments : Forms) → Keeps name arguments
+  command_keeps name arguments = step (is_name name (codes "exit")) refl
+    where
+      step : (b : Bool) → is_name name (codes "exit") ≡ b → Keeps name arguments
+      step true is =
+          subst (λ (n : Name). Keeps n arguments) (sym (same_text name (codes "exit") (sym is))) (exit_keeps arguments)
+      step false is =
+          let entry = Command (Group (more (Symbol name) arguments)) in
+          subst (λ (ends : Bool). P ends (step_of entry moved) (step_of entry s)) (sym (no_exit name arguments is))
+          (by_effect (shaped name (list_of arguments))
+          (command_gives Kept (keep.stays _ _) rows_keep name is (list_of arguments)))
 
   pub entry_keeps : (entry : Entry) → P (is_exit entry) (step_of entry moved) (step_of entry s)
-  entry_keeps (Command form) = form_keeps (command_of form) (command_allowed form)
+  entry_keeps (Command (Group (more (Symbol name) arguments))) = command_keeps name arguments
+  entry_keeps (Command _) = keep.stays _ _
   entry_keeps (Refused refusal) = keep.stays _ _

@@ -1,8 +1,10 @@
--- Computed examples of commands by their shapes, of those too that are not answered yet.
+-- Computed examples of what commands do by their shapes, of those too that are not answered yet.
 use Rattle.std.specs.Prelude.{◌≡◌, [], ◌∷◌, codes, Some, None, refl}
 use Rattle.sb_reader.specs.Forms.{Form, Symbol, QuotedSymbol, Keyword, Numeral, Words}
 use Rattle.sb_script.specs.ReadingExamples.{group}
-use Rattle.sb_script.specs.Commands.{shapes, shaped_by, shaped, command_of, push, pop, check_sat_assuming, get_value, get_unsat_assumptions, set_info, get_info, get_option, echo, reset, reset_assertions, declare_constant, declare_function, another}
+use Rattle.sb_script.specs.Steps.{succeeds, is_unsupported}
+use Rattle.sb_script.specs.Options.{get_option, get_info}
+use Rattle.sb_script.specs.Replies.{declare_constant, declare_function, push, pop, check_sat_assuming, get_value, get_unsat_assumptions, echo, reset, reset_assertions, commands, shaped_by, shaped, command_of}
 
 abbrev one : Form
 one = Numeral (codes "1")
@@ -14,32 +16,32 @@ abbrev bool : Form
 bool = Symbol (codes "Bool")
 
 -- one level where no number stands, and one number at most
-one_level : shaped_by shapes (codes "push") [] ≡ Some (push 1)
+one_level : shaped_by commands (codes "push") [] ≡ Some (push 1)
 one_level = refl
 
-some_levels : shaped_by shapes (codes "pop") (Numeral (codes "12") ∷ []) ≡ Some (pop 12)
+some_levels : shaped_by commands (codes "pop") (Numeral (codes "12") ∷ []) ≡ Some (pop 12)
 some_levels = refl
 
-two_numbers : shaped_by shapes (codes "push") (one ∷ one ∷ []) ≡ None
+two_numbers : shaped_by commands (codes "push") (one ∷ one ∷ []) ≡ None
 two_numbers = refl
 
-a_name_of_levels : shaped_by shapes (codes "pop") (x ∷ []) ≡ None
+a_name_of_levels : shaped_by commands (codes "pop") (x ∷ []) ≡ None
 a_name_of_levels = refl
 
 -- before they are answered, such commands are left out, and a wrong shape comes first
-not_answered_yet : shaped (codes "get-unsat-assumptions") [] ≡ Some another
+not_answered_yet : shaped (codes "get-unsat-assumptions") [] ≡ Some is_unsupported
 not_answered_yet = refl
 
 a_number_too_many : shaped (codes "get-unsat-assumptions") (one ∷ []) ≡ None
 a_number_too_many = refl
 
-assumes_later : shaped (codes "check-sat-assuming") (group (x ∷ []) ∷ []) ≡ Some another
+assumes_later : shaped (codes "check-sat-assuming") (group (x ∷ []) ∷ []) ≡ Some is_unsupported
 assumes_later = refl
 
 assumes_no_list : shaped (codes "check-sat-assuming") (x ∷ []) ≡ None
 assumes_no_list = refl
 
-asks_for_a_core_later : shaped (codes "get-unsat-core") [] ≡ Some another
+asks_for_a_core_later : shaped (codes "get-unsat-core") [] ≡ Some is_unsupported
 asks_for_a_core_later = refl
 
 asks_for_too_much : shaped (codes "get-unsat-core") (one ∷ []) ≡ None
@@ -48,75 +50,75 @@ asks_for_too_much = refl
 answered_by_shape : shaped (codes "push") (one ∷ one ∷ []) ≡ None
 answered_by_shape = refl
 
-left_out_for_good : shaped_by shapes (codes "declare-sort") (one ∷ []) ≡ Some another
+left_out_for_good : shaped_by commands (codes "declare-sort") (one ∷ []) ≡ Some is_unsupported
 left_out_for_good = refl
 
 -- assumptions are any forms but keywords and reserved words, and there may be none
-no_assumption : shaped_by shapes (codes "check-sat-assuming") (group [] ∷ []) ≡ Some (check_sat_assuming [])
+no_assumption : shaped_by commands (codes "check-sat-assuming") (group [] ∷ []) ≡ Some (check_sat_assuming [])
 no_assumption = refl
 
-any_assumption : shaped_by shapes (codes "check-sat-assuming") (group (x ∷ one ∷ []) ∷ [])
+any_assumption : shaped_by commands (codes "check-sat-assuming") (group (x ∷ one ∷ []) ∷ [])
     ≡ Some (check_sat_assuming (x ∷ one ∷ []))
 any_assumption = refl
 
-a_keyword_assumed : shaped_by shapes (codes "check-sat-assuming") (group (Keyword (codes ":x") ∷ []) ∷ []) ≡ None
+a_keyword_assumed : shaped_by commands (codes "check-sat-assuming") (group (Keyword (codes ":x") ∷ []) ∷ []) ≡ None
 a_keyword_assumed = refl
 
 a_reserved_word_assumed :
-    shaped_by shapes (codes "check-sat-assuming") (group (group (Symbol (codes "not") ∷ Symbol (codes "let") ∷ []) ∷
+    shaped_by commands (codes "check-sat-assuming") (group (group (Symbol (codes "not") ∷ Symbol (codes "let") ∷ []) ∷
     []) ∷ [])
     ≡ None
 a_reserved_word_assumed = refl
 
-assumptions_without_a_list : shaped_by shapes (codes "check-sat-assuming") (x ∷ []) ≡ None
+assumptions_without_a_list : shaped_by commands (codes "check-sat-assuming") (x ∷ []) ≡ None
 assumptions_without_a_list = refl
 
 -- values are asked for in a list that is not empty, of anything but keywords
-a_text_asked : shaped_by shapes (codes "get-value") (group (Words (codes "a") ∷ []) ∷ [])
+a_text_asked : shaped_by commands (codes "get-value") (group (Words (codes "a") ∷ []) ∷ [])
     ≡ Some (get_value (Words (codes "a") ∷ []))
 a_text_asked = refl
 
-a_keyword_asked : shaped_by shapes (codes "get-value") (group (Keyword (codes ":x") ∷ []) ∷ []) ≡ None
+a_keyword_asked : shaped_by commands (codes "get-value") (group (Keyword (codes ":x") ∷ []) ∷ []) ≡ None
 a_keyword_asked = refl
 
-nothing_asked : shaped_by shapes (codes "get-value") (group [] ∷ []) ≡ None
+nothing_asked : shaped_by commands (codes "get-value") (group [] ∷ []) ≡ None
 nothing_asked = refl
 
 -- what follows a keyword
-anything_behind : shaped_by shapes (codes "set-info") (Keyword (codes ":status") ∷ one ∷ x ∷ []) ≡ Some set_info
+anything_behind : shaped_by commands (codes "set-info") (Keyword (codes ":status") ∷ one ∷ x ∷ []) ≡ Some succeeds
 anything_behind = refl
 
-nothing_behind : shaped_by shapes (codes "set-info") (Keyword (codes ":status") ∷ []) ≡ Some set_info
+nothing_behind : shaped_by commands (codes "set-info") (Keyword (codes ":status") ∷ []) ≡ Some succeeds
 nothing_behind = refl
 
-no_keyword : shaped_by shapes (codes "set-info") (x ∷ []) ≡ None
+no_keyword : shaped_by commands (codes "set-info") (x ∷ []) ≡ None
 no_keyword = refl
 
-an_option_without_value : shaped_by shapes (codes "set-option") (Keyword (codes ":print-success") ∷ []) ≡ None
+an_option_without_value : shaped_by commands (codes "set-option") (Keyword (codes ":print-success") ∷ []) ≡ None
 an_option_without_value = refl
 
-an_option_asked : shaped_by shapes (codes "get-option") (Keyword (codes ":print-success") ∷ [])
+an_option_asked : shaped_by commands (codes "get-option") (Keyword (codes ":print-success") ∷ [])
     ≡ Some (get_option (codes ":print-success"))
 an_option_asked = refl
 
-an_information_asked : shaped_by shapes (codes "get-info") (Keyword (codes ":name") ∷ [])
+an_information_asked : shaped_by commands (codes "get-info") (Keyword (codes ":name") ∷ [])
     ≡ Some (get_info (codes ":name"))
 an_information_asked = refl
 
 -- a text that is echoed
-a_text : shaped_by shapes (codes "echo") (Words (codes "a\"\"b") ∷ []) ≡ Some (echo (codes "a\"\"b"))
+a_text : shaped_by commands (codes "echo") (Words (codes "a\"\"b") ∷ []) ≡ Some (echo (codes "a\"\"b"))
 a_text = refl
 
-no_text : shaped_by shapes (codes "echo") (x ∷ []) ≡ None
+no_text : shaped_by commands (codes "echo") (x ∷ []) ≡ None
 no_text = refl
 
-resets : shaped_by shapes (codes "reset") [] ≡ Some reset
+resets : shaped_by commands (codes "reset") [] ≡ Some reset
 resets = refl
 
-resets_assertions : shaped_by shapes (codes "reset-assertions") [] ≡ Some reset_assertions
+resets_assertions : shaped_by commands (codes "reset-assertions") [] ≡ Some reset_assertions
 resets_assertions = refl
 
-unsat_assumptions : shaped_by shapes (codes "get-unsat-assumptions") [] ≡ Some get_unsat_assumptions
+unsat_assumptions : shaped_by commands (codes "get-unsat-assumptions") [] ≡ Some get_unsat_assumptions
 unsat_assumptions = refl
 
 -- these are answered
@@ -139,7 +141,7 @@ asks_for_information = refl
 too_many_keys : shaped (codes "get-info") (Keyword (codes ":name") ∷ Keyword (codes ":version") ∷ []) ≡ None
 too_many_keys = refl
 
-sets_information : shaped (codes "set-info") (Keyword (codes ":source") ∷ group [] ∷ []) ≡ Some set_info
+sets_information : shaped (codes "set-info") (Keyword (codes ":source") ∷ group [] ∷ []) ≡ Some succeeds
 sets_information = refl
 
 no_information : shaped (codes "set-info") [] ≡ None

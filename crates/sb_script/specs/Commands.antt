@@ -1,44 +1,13 @@
--- Commands: what a form asks for, by its shape alone (SMT-LIB 2.6, section 3.9). A form of another shape is malformed.
-use Rattle.std.specs.Prelude.{ℕ, Bool, true, false, not, ◌&&◌, ◌||◌, if◌then◌else◌, List, [], ◌∷◌, map, codes, Option, Some, None, option_map}
+-- The shapes of commands, by their forms alone (SMT-LIB 2.6, section 3.9). A form of another shape is malformed.
+use Rattle.std.specs.Prelude.{ℕ, Bool, true, false, not, ◌&&◌, ◌||◌, if◌then◌else◌, List, [], ◌∷◌, codes, Option, Some, None, option_map}
 use Rattle.std.specs.List.{list_all}
 use Rattle.sb_reader.specs.Forms.{Form, Forms, Symbol, QuotedSymbol, Keyword, Numeral, Words, Group, none, more}
 use Rattle.sb_script.specs.Names.{Name, is_name, is_reserved, begins_term}
-use Rattle.sb_script.specs.Brought.{a_command, functions, definitions, is_brought}
-use Rattle.sb_script.specs.Symbols.{found_in}
 use Rattle.sb_script.specs.Texts.{number_of}
 
 -- a parameter of a definition, with its sort
 abbrev pub Parameter : Type 0
 Parameter = Name × Form
-
-pub data Command : Type 0 where
-  set_logic : Name → Command
-  -- the option's keyword, and its value
-  set_option : Name → Form → Command
-  get_option : Name → Command
-  set_info : Command
-  get_info : Name → Command
-  -- the constant's name and sort
-  declare_constant : Name → Form → Command
-  -- a declaration or definition of a function, which is left out
-  declare_function : Name → Command
-  -- the name, the parameters, the sort and the body
-  define_function : Name → List Parameter → Form → Form → Command
-  assert : Form → Command
-  push : ℕ → Command
-  pop : ℕ → Command
-  check_sat : Command
-  check_sat_assuming : List Form → Command
-  get_model : Command
-  get_value : List Form → Command
-  get_unsat_assumptions : Command
-  -- the bytes between the quotes
-  echo : List ℕ → Command
-  reset_assertions : Command
-  reset : Command
-  exit : Command
-  -- a command that is left out
-  another : Command
 
 abbrev pub list_of : Forms → List Form
 list_of none = []
@@ -81,61 +50,58 @@ abbrev pub is_item : Form → Bool
 is_item (Keyword name) = false
 is_item _ = true
 
-abbrev pub logic_shape : List Form → Option Command
-logic_shape (logic ∷ []) = option_map set_logic (symbol_in logic)
-logic_shape _ = None
+-- The shapes of what follows a command's name. Each takes what is made of the parts.
 
-abbrev pub option_shape : List Form → Option Command
-option_shape (Keyword key ∷ value ∷ []) = Some (set_option key value)
-option_shape _ = None
+abbrev pub logic_shape : {A : Type 0} → (Name → A) → List Form → Option A
+logic_shape make (logic ∷ []) = option_map make (symbol_in logic)
+logic_shape make _ = None
 
-abbrev pub constant_shape : List Form → Option Command
-constant_shape (name ∷ sort ∷ []) =
-    if is_sort_form sort then option_map (λ n. declare_constant n sort) (declarable name) else None
-constant_shape _ = None
+-- an option's keyword, and its value
+abbrev pub option_shape : {A : Type 0} → (Name → Form → A) → List Form → Option A
+option_shape make (Keyword key ∷ value ∷ []) = Some (make key value)
+option_shape make _ = None
 
--- a function without arguments is a constant
-abbrev pub function_of : Name → List Form → Form → Command
-function_of name [] sort = if is_brought functions then declare_constant name sort else declare_function name
-function_of name (s ∷ ss) sort = declare_function name
+-- a constant's name and sort
+abbrev pub constant_shape : {A : Type 0} → (Name → Form → A) → List Form → Option A
+constant_shape make (name ∷ sort ∷ []) =
+    if is_sort_form sort then option_map (λ n. make n sort) (declarable name) else None
+constant_shape make _ = None
 
-abbrev pub function_shape : List Form → Option Command
-function_shape (name ∷ Group sorts ∷ sort ∷ []) =
+-- a function's name, the sorts of its arguments and its own
+abbrev pub function_shape : {A : Type 0} → (Name → List Form → Form → A) → List Form → Option A
+function_shape make (name ∷ Group sorts ∷ sort ∷ []) =
     if list_all is_sort_form (list_of sorts) && is_sort_form sort
-    then option_map (λ n. function_of n (list_of sorts) sort) (declarable name) else None
-function_shape _ = None
+    then option_map (λ n. make n (list_of sorts) sort) (declarable name) else None
+function_shape make _ = None
 
-abbrev pub definition_of : Name → List Parameter → Form → Form → Command
-definition_of name parameters sort body =
-    if is_brought definitions then define_function name parameters sort body else declare_function name
-
-abbrev pub definition_shape : List Form → Option Command
-definition_shape (name ∷ Group parameters ∷ sort ∷ body ∷ []) =
+-- a function's name, its parameters, its sort and its body
+abbrev pub definition_shape : {A : Type 0} → (Name → List Parameter → Form → Form → A) → List Form → Option A
+definition_shape make (name ∷ Group parameters ∷ sort ∷ body ∷ []) =
     if list_all is_parameter (list_of parameters) && is_sort_form sort
-    then option_map (λ n. definition_of n (parameters_of (list_of parameters)) sort body) (declarable name) else None
-definition_shape _ = None
+    then option_map (λ n. make n (parameters_of (list_of parameters)) sort body) (declarable name) else None
+definition_shape make _ = None
 
-abbrev pub assert_shape : List Form → Option Command
-assert_shape (term ∷ []) = Some (assert term)
-assert_shape _ = None
+abbrev pub assert_shape : {A : Type 0} → (Form → A) → List Form → Option A
+assert_shape make (term ∷ []) = Some (make term)
+assert_shape make _ = None
 
-abbrev pub value_shape : List Form → Option Command
-value_shape (Group (more item items) ∷ []) = if list_all is_item (item ∷ list_of items)
-    then Some (get_value (item ∷ list_of items)) else None
-value_shape _ = None
+abbrev pub value_shape : {A : Type 0} → (List Form → A) → List Form → Option A
+value_shape make (Group (more item items) ∷ []) =
+    if list_all is_item (item ∷ list_of items) then Some (make (item ∷ list_of items)) else None
+value_shape make _ = None
 
 -- an option or an information that is asked for
-abbrev pub keyword_shape : (Name → Command) → List Form → Option Command
+abbrev pub keyword_shape : {A : Type 0} → (Name → A) → List Form → Option A
 keyword_shape make (Keyword key ∷ []) = Some (make key)
 keyword_shape make _ = None
 
 -- a keyword, and anything behind it
-abbrev pub info_shape : List Form → Option Command
-info_shape (Keyword key ∷ forms) = Some set_info
-info_shape _ = None
+abbrev pub info_shape : {A : Type 0} → A → List Form → Option A
+info_shape made (Keyword key ∷ forms) = Some made
+info_shape made _ = None
 
 -- how many levels: one where no number stands
-abbrev pub levels_shape : (ℕ → Command) → List Form → Option Command
+abbrev pub levels_shape : {A : Type 0} → (ℕ → A) → List Form → Option A
 levels_shape make [] = Some (make 1)
 levels_shape make (Numeral digits ∷ []) = Some (make (number_of digits))
 levels_shape make _ = None
@@ -148,63 +114,17 @@ is_assumption_form (Group (more (Symbol head) (more (Symbol name) none))) =
     not (is_name head (codes "not")) || (begins_term name || not (is_reserved name))
 is_assumption_form _ = true
 
-abbrev pub assuming_shape : List Form → Option Command
-assuming_shape (Group forms ∷ []) = if list_all is_assumption_form (list_of forms)
-    then Some (check_sat_assuming (list_of forms)) else None
-assuming_shape _ = None
+abbrev pub assuming_shape : {A : Type 0} → (List Form → A) → List Form → Option A
+assuming_shape make (Group forms ∷ []) =
+    if list_all is_assumption_form (list_of forms) then Some (make (list_of forms)) else None
+assuming_shape make _ = None
 
-abbrev pub echo_shape : List Form → Option Command
-echo_shape (Words bytes ∷ []) = Some (echo bytes)
-echo_shape _ = None
+-- the bytes between the quotes
+abbrev pub echo_shape : {A : Type 0} → (List ℕ → A) → List Form → Option A
+echo_shape make (Words bytes ∷ []) = Some (make bytes)
+echo_shape make _ = None
 
 -- a command without arguments
-abbrev pub bare : Command → List Form → Option Command
-bare command [] = Some command
-bare command (argument ∷ arguments) = None
-
--- the commands by name, with the shapes of what follows the name
-abbrev pub shapes : List (Name × (List Form → Option Command))
-shapes =
-    (codes "assert", assert_shape)
-    ∷ (codes "declare-const", constant_shape)
-    ∷ (codes "declare-fun", function_shape)
-    ∷ (codes "define-fun", definition_shape)
-    ∷ (codes "push", levels_shape push)
-    ∷ (codes "pop", levels_shape pop)
-    ∷ (codes "check-sat", bare check_sat)
-    ∷ (codes "check-sat-assuming", assuming_shape)
-    ∷ (codes "get-model", bare get_model)
-    ∷ (codes "get-value", value_shape)
-    ∷ (codes "get-unsat-assumptions", bare get_unsat_assumptions)
-    ∷ (codes "get-unsat-core", bare another)
-    ∷ (codes "set-logic", logic_shape)
-    ∷ (codes "set-option", option_shape)
-    ∷ (codes "get-option", keyword_shape get_option)
-    ∷ (codes "set-info", info_shape)
-    ∷ (codes "get-info", keyword_shape get_info)
-    ∷ (codes "echo", echo_shape)
-    ∷ (codes "reset-assertions", bare reset_assertions)
-    ∷ (codes "reset", bare reset)
-    ∷ (codes "exit", bare exit) ∷ []
-
--- a command that is to come is left out, where it has its shape
-abbrev pub answered_by : Bool → (List Form → Option Command) → List Form → Option Command
-answered_by true shape = shape
-answered_by false shape = λ forms. option_map (λ command. another) (shape forms)
-
-abbrev pub answered : Name × (List Form → Option Command) → Name × (List Form → Option Command)
-answered row = (row.0, answered_by (is_brought (a_command row.0)) row.1)
-
--- A command by its name, by a table of shapes, with what follows the name. A name that is not in the table is of a
--- command that is left out.
-abbrev pub shaped_by : List (Name × (List Form → Option Command)) → Name → List Form → Option Command
-shaped_by table name arguments = elim (found_in table name) [ Some shape ↦ shape arguments | None ↦ Some another ]
-
--- a command by its name, with what follows the name
-abbrev pub shaped : Name → List Form → Option Command
-shaped name arguments = shaped_by (map answered shapes) name arguments
-
--- the command of a form: a list that begins with a symbol without bars
-abbrev pub command_of : Form → Option Command
-command_of (Group (more (Symbol name) arguments)) = shaped name (list_of arguments)
-command_of _ = None
+abbrev pub bare : {A : Type 0} → A → List Form → Option A
+bare made [] = Some made
+bare made (argument ∷ arguments) = None

@@ -6,9 +6,10 @@ use Rattle.sb_meaning.specs.Terms as symbol
 use Rattle.sb_script.specs.Scopes.{Naming, a_constant}
 use Rattle.sb_script.specs.Faults.{unknown_symbol, wrong_count, already_bound}
 use Rattle.sb_script.specs.Reading.{read_let}
-use Rattle.sb_script.specs.Commands as command
-use Rattle.sb_script.specs.Commands.{Command}
+use Rattle.sb_script.specs.Commands.{Parameter}
 use Rattle.sb_script.specs.State.{live, asserted, a_mark}
+use Rattle.sb_script.specs.Replies as command
+use Rattle.sb_script.specs.Replies.{Effect}
 use Rattle.sb_script.specs.ReadingExamples.{forms, group, range}
 use Rattle.sb_script.specs.StepExamples.{said_of, after, some_constants}
 
@@ -79,14 +80,14 @@ first_name_again = refl
 -- Definitions.
 
 -- ((w String))
-abbrev w_string : List command.Parameter
+abbrev w_string : List Parameter
 w_string = (codes "w", named (codes "String")) ∷ []
 
 abbrev bool : Form
 bool = named (codes "Bool")
 
 -- (define-fun ok ((w String)) Bool (str.in_re w R))
-abbrev defines_ok : Command
+abbrev defines_ok : Effect
 defines_ok = command.define_function (codes "ok") w_string bool (member (named (codes "w")))
 
 -- the body has the parameter's place, and an application has the argument there
@@ -119,7 +120,7 @@ without_parameters :
 without_parameters = refl
 
 -- errors: a name that is taken, a parameter twice, a body of another sort, unknown names in it; f is none of its own
-abbrev define : List ℕ → List command.Parameter → Form → Form → List Command
+abbrev define : List ℕ → List Parameter → Form → Form → List Effect
 define name parameters sort body = command.define_function name parameters sort body ∷ []
 
 taken : said_of (define (codes "x") w_string bool (named (codes "z"))) some_constants

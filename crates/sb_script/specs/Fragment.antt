@@ -133,8 +133,7 @@ is_inside (asserted term) = is_brought (a_check_of term)
 is_inside a_mark = false
 
 abbrev pub are_inside : List Assertion → Bool
-are_inside [] = true
-are_inside (a ∷ rest) = is_inside a && are_inside rest
+are_inside assertions = list_all is_inside assertions
 
 -- The check is decided. The limits on sizes count once proofs are written; what is brought keeps all other rules.
 abbrev pub in_fragment : State → Bool

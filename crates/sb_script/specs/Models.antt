@@ -1,5 +1,5 @@
 -- The values that a check may give.
-use Rattle.std.specs.Prelude.{◌≡◌, ℕ, pos, Bool, true, false, not, ◌||◌, ◌==◌, if◌then◌else◌, List, [], ◌∷◌, ◌++◌, map}
+use Rattle.std.specs.Prelude.{◌≡◌, ℕ, pos, Bool, true, false, not, ◌||◌, ◌==◌, List, [], ◌∷◌, ◌++◌, map, filter}
 use Rattle.std.specs.List.{list_all, list_any}
 use Rattle.std.specs.Ordering.{int_eq}
 use Rattle.sb_lang.specs.Languages.{Language}
@@ -64,8 +64,7 @@ is_about serial t = is_of serial t
 
 -- the terms that are memberships of the constant
 abbrev pub about : ℕ → List Term → List Term
-about serial [] = []
-about serial (t ∷ ts) = if is_about serial t then t ∷ about serial ts else about serial ts
+about serial ts = filter (is_about serial) ts
 
 -- the words that make all memberships of the constant true
 abbrev pub words_for : ℕ → List Term → Language

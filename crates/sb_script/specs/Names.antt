@@ -1,5 +1,5 @@
 -- Names: the bytes of a symbol, whether it is written between bars or not (SMT-LIB 2.6, sections 3.1 and 3.9).
-use Rattle.std.specs.Prelude.{ℕ, Bool, not, ◌&&◌, ◌||◌, nat_eq, if◌then◌else◌, List, [], ◌∷◌, ◌++◌, codes}
+use Rattle.std.specs.Prelude.{ℕ, Bool, not, ◌&&◌, ◌||◌, nat_eq, if◌then◌else◌, List, [], ◌∷◌, ◌++◌, codes, Option, Some, None}
 use Rattle.std.specs.Cmp.Lexicographic.{pointwise}
 use Rattle.std.specs.List.{list_any, flat_map}
 use Rattle.sb_reader.specs.Tokens.{is_simple_symbol}
@@ -13,6 +13,11 @@ is_name a b = pointwise nat_eq a b
 
 abbrev pub is_among : List Name → Name → Bool
 is_among names name = list_any (λ other. is_name name other) names
+
+-- what stands in a table by this name; the first row counts
+abbrev pub found_in : {A : Type 0} → List (Name × A) → Name → Option A
+found_in [] name = None
+found_in (row ∷ rows) name = if is_name name row.0 then Some row.1 else found_in rows name
 
 -- what stands for a term of its own shape, and is no name unless it is written between bars
 abbrev pub words_of_terms : List Name

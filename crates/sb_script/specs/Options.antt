@@ -1,9 +1,8 @@
 -- Options, the logic, and what may be asked of the solver itself (SMT-LIB 2.6, sections 4.1.6, 4.1.7 and 4.1.8).
 use Rattle.std.specs.Prelude.{ℕ, ◌^◌, Bool, true, false, ◌||◌, nat_lt, if◌then◌else◌, List, [], ◌∷◌, ◌++◌, map, filter, codes, decimal, Option, Some, None}
 use Rattle.sb_reader.specs.Forms.{Form, Numeral}
-use Rattle.sb_script.specs.Names.{Name, is_name}
+use Rattle.sb_script.specs.Names.{Name, is_name, found_in}
 use Rattle.sb_script.specs.Brought.{an_option, is_brought}
-use Rattle.sb_script.specs.Symbols.{found_in}
 use Rattle.sb_script.specs.Texts.{number_of}
 use Rattle.sb_script.specs.Errors as error
 use Rattle.sb_script.specs.Commands.{symbol_in}

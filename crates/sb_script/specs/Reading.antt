@@ -1,7 +1,7 @@
 -- How a term is read: the tree of a form, or the first fault in reading order (SMT-LIB 2.6, sections 3.6 and 3.7). The
 -- head is read first (its name, then its indices), then the arguments from left to right, then their number and
 -- their sorts are judged. A list of wrong shape is malformed whatever stands in it.
-use Rattle.std.specs.Prelude.{Bool, true, false, not, ◌&&◌, ◌||◌, if◌then◌else◌, List, [], ◌∷◌, ◌++◌, codes, Option, Some, None, is_some, Result, Ok, Err}
+use Rattle.std.specs.Prelude.{Bool, true, false, not, ◌&&◌, ◌||◌, if◌then◌else◌, List, [], ◌∷◌, ◌++◌, map, codes, Option, Some, None, is_some, Result, Ok, Err}
 use Rattle.sb_reader.specs.Forms.{Form, Forms, Symbol, QuotedSymbol, Keyword, Numeral, OtherNumber, Words, Group, none, more}
 use Rattle.sb_script.specs.Names.{Name, is_name, is_among, is_reserved, begins_term}
 use Rattle.sb_meaning.specs.Terms.{Term}
@@ -51,8 +51,7 @@ first_again before [] = None
 first_again before (name ∷ names) = if is_among before name then Some name else first_again (name ∷ before) names
 
 abbrev pub names_in : List Naming → List Name
-names_in [] = []
-names_in (n ∷ ns) = n.0 ∷ names_in ns
+names_in ns = map (λ n. n.0) ns
 
 -- bindings that are read, unless they bind a name twice
 abbrev pub once : List Naming → Result (List Naming) Fault

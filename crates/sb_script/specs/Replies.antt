@@ -1,9 +1,10 @@
--- The reply to each entry of a script, and the state after it (SMT-LIB 2.6, section 4.2). For each command the errors
--- stand in the order in which they are looked for; after an error the state is as before.
+-- The reply to each entry of a script, and the state after it (SMT-LIB 2.6, section 4.2): the commands, each by its
+-- name, the shape of what follows it, and what it does. For each the errors stand in the order in which they are looked
+-- for; after an error the state is as before.
 use Rattle.std.specs.Prelude.{ℕ, ◌+◌, Bool, true, false, not, ◌==◌, nat_le, if◌then◌else◌, List, [], ◌∷◌, ◌++◌, map, length, codes, Option, Some, None, option_map, Result, Ok, Err}
 use Rattle.sb_reader.specs.Forms.{Form, Symbol, QuotedSymbol, Group, none, more}
 use Rattle.sb_reader.specs.Entries.{Entry, Command, Refused}
-use Rattle.sb_script.specs.Names.{Name, is_name, is_reserved, begins_term, name_text}
+use Rattle.sb_script.specs.Names.{Name, is_name, is_reserved, begins_term, name_text, found_in}
 use Rattle.sb_meaning.specs.Terms.{Sort, Term, boolean, integer, text, reglan, parameter}
 use Rattle.sb_meaning.specs.Values.{Valuation, value_in}
 use Rattle.sb_meaning.specs.Printed.{printed}
@@ -14,11 +15,15 @@ use Rattle.sb_script.specs.Faults.{Fault}
 use Rattle.sb_script.specs.Reading.{read, first_again}
 use Rattle.sb_script.specs.Errors as error
 use Rattle.sb_script.specs.Errors.{Error, first_of}
-use Rattle.sb_script.specs.Commands as command
-use Rattle.sb_script.specs.Commands.{Parameter, command_of, symbol_in}
+use Rattle.sb_script.specs.Brought.{a_command, functions, definitions, is_brought}
+use Rattle.sb_script.specs.Commands.{Parameter, list_of, symbol_in, logic_shape, option_shape, constant_shape, function_shape, definition_shape, assert_shape, value_shape, keyword_shape, info_shape, levels_shape, assuming_shape, echo_shape, bare}
 use Rattle.sb_script.specs.State.{State, Mode, plain, satisfied, refuted, undecided, asserted, Assumption, names_of, constants_of, declared, defined, marked, with_assertion, pushed, popped, without_assertions, start_behind}
 use Rattle.sb_script.specs.Steps.{Step, answers, leaves, checks, exits, above, all, line, quoted, success, fails_by, succeeds, is_unsupported, refusal_error, fault_error, refused_term, list_text}
 use Rattle.sb_script.specs.Options.{set_logic, set_option, get_option, get_info}
+
+-- what a command does
+abbrev pub Effect : Type 0
+Effect = State → Step
 
 -- Declarations.
 
@@ -26,15 +31,21 @@ abbrev pub sort_of_form : Form → Option Sort
 sort_of_form sort = elim (symbol_in sort) [ Some name ↦ sort_named name | None ↦ None ]
 
 -- a constant of a sort that is left out has a marked name
-abbrev pub declare_constant : Name → Form → State → Step
+abbrev pub declare_constant : Name → Form → Effect
 declare_constant name sort s =
     if is_taken (names_of s) name then fails_by (error.already_declared name) s
     else elim (sort_of_form sort)
     [ Some sort ↦ succeeds (declared name sort s) | None ↦ is_unsupported (marked name s) ]
 
-abbrev pub declare_function : Name → State → Step
+-- a function, which is left out
+abbrev pub declare_function : Name → Effect
 declare_function name s = if is_taken (names_of s) name then fails_by (error.already_declared name) s
     else is_unsupported (marked name s)
+
+-- a function without arguments is a constant
+abbrev pub function_of : Name → List Form → Form → Effect
+function_of name [] sort = if is_brought functions then declare_constant name sort else declare_function name
+function_of name (s ∷ ss) sort = declare_function name
 
 -- Definitions.
 
@@ -53,8 +64,7 @@ sorts_in_definition (p ∷ ps) = elim (sort_in_definition p.1) [
 ]
 
 abbrev pub names_of_parameters : List Parameter → List Name
-names_of_parameters [] = []
-names_of_parameters (p ∷ ps) = p.0 ∷ names_of_parameters ps
+names_of_parameters ps = map (λ p. p.0) ps
 
 -- the parameters as they stand for their places in the body, from this one on
 abbrev pub bound_from : ℕ → List Parameter → List Sort → List Naming
@@ -88,7 +98,7 @@ define_by name parameters sorts sort body s =
     unless_error (name_errors name parameters s ++ body_errors sort reading) (defines name sorts reading s) s
 
 -- where a sort is left out the body is not read
-abbrev pub define_function : Name → List Parameter → Form → Form → State → Step
+abbrev pub define_function : Name → List Parameter → Form → Form → Effect
 define_function name parameters sort body s = elim (sorts_in_definition parameters) [
   | Some sorts ↦ elim (sort_in_definition sort) [
     | Some made ↦ define_by name parameters sorts made body s
@@ -97,9 +107,13 @@ define_function name parameters sort body s = elim (sorts_in_definition paramete
   | None ↦ unless_error (name_errors name parameters s) (is_unsupported (marked name s)) s
 ]
 
+abbrev pub definition_of : Name → List Parameter → Form → Form → Effect
+definition_of name parameters sort body =
+    if is_brought definitions then define_function name parameters sort body else declare_function name
+
 -- Assertions and levels.
 
-abbrev pub assert : Form → State → Step
+abbrev pub assert : Form → Effect
 assert form s = elim (read (names_of s) form) [
   | Ok term ↦ if is_same_sort boolean (sort_of term) then succeeds (with_assertion (asserted term) s)
       else fails_by error.wrong_sort s
@@ -109,19 +123,19 @@ assert form s = elim (read (names_of s) form) [
 abbrev pub level_limit : ℕ
 level_limit = 65535
 
-abbrev pub push : ℕ → State → Step
+abbrev pub push : ℕ → Effect
 push n s = if nat_le (n + length s.above) level_limit then succeeds (pushed n s) else fails_by error.numeral_too_large s
 
-abbrev pub pop : ℕ → State → Step
+abbrev pub pop : ℕ → Effect
 pop n s =
     if nat_le n (length s.above) then (let new = popped n s in leaves (above (length new.above)) (success new) new)
     else fails_by error.no_such_level s
 
-abbrev pub reset_assertions : State → Step
+abbrev pub reset_assertions : Effect
 reset_assertions s = let new = without_assertions s in leaves all (success new) new
 
 -- serials go on
-abbrev pub reset : State → Step
+abbrev pub reset : Effect
 reset s = let new = start_behind s.sorts in leaves all (success new) new
 
 -- Assumptions.
@@ -167,7 +181,7 @@ assumptions_in [] = []
 assumptions_in (an_assumption a ∷ items) = a ∷ assumptions_in items
 assumptions_in (an_error e ∷ items) = assumptions_in items
 
-abbrev pub check_sat_assuming : List Form → State → Step
+abbrev pub check_sat_assuming : List Form → Effect
 check_sat_assuming forms s =
     let items = map (assumed_form s) forms in unless_error (errors_in items) (checks (assumptions_in items)) s
 
@@ -187,7 +201,7 @@ contradicted plain s = fails_by error.no_unsat_answer s
 contradicted (satisfied v) s = fails_by error.no_unsat_answer s
 contradicted undecided s = fails_by error.no_unsat_answer s
 
-abbrev pub get_unsat_assumptions : State → Step
+abbrev pub get_unsat_assumptions : Effect
 get_unsat_assumptions s = if s.options.produce_unsat_assumptions then contradicted s.mode s
     else fails_by error.assumptions_not_enabled s
 
@@ -222,7 +236,7 @@ with_values s answer =
       | undecided ↦ fails_by error.no_model s
     ]
 
-abbrev pub get_model : State → Step
+abbrev pub get_model : Effect
 get_model s = with_values s (λ v. answers (line (list_text (map (definition_text v) (constants_of s)))) s)
 
 -- what an item of a list of asked values is
@@ -269,45 +283,77 @@ values_of items s = with_values s (λ v. elim (all_constants items) [
   | None ↦ is_unsupported s
 ])
 
-abbrev pub get_value : List Form → State → Step
+abbrev pub get_value : List Form → Effect
 get_value forms s =
     let items = map (item_of s) forms in
     if some_malformed items then fails_by error.malformed_command s
     else elim (first_unknown items) [ Some name ↦ fails_by (error.unknown_symbol name) s | None ↦ values_of items s ]
 
-abbrev pub step : command.Command → State → Step
-step (command.set_logic name) s = set_logic name s
-step (command.set_option key value) s = set_option key value s
-step (command.get_option key) s = get_option key s
-step command.set_info s = succeeds s
-step (command.get_info key) s = get_info key s
-step (command.declare_constant name sort) s = declare_constant name sort s
-step (command.declare_function name) s = declare_function name s
-step (command.define_function name parameters sort body) s = define_function name parameters sort body s
-step (command.assert form) s = assert form s
-step (command.push n) s = push n s
-step (command.pop n) s = pop n s
-step command.check_sat s = checks []
-step (command.check_sat_assuming forms) s = check_sat_assuming forms s
-step command.get_model s = get_model s
-step (command.get_value forms) s = get_value forms s
-step command.get_unsat_assumptions s = get_unsat_assumptions s
-step (command.echo bytes) s = answers (line (quoted bytes)) s
-step command.reset_assertions s = reset_assertions s
-step command.reset s = reset s
-step command.exit s = exits (success s)
-step command.another s = is_unsupported s
+-- What else there is.
+
+abbrev pub check_sat : Effect
+check_sat s = checks []
+
+abbrev pub echo : List ℕ → Effect
+echo bytes s = answers (line (quoted bytes)) s
+
+abbrev pub exit : Effect
+exit s = exits (success s)
+
+-- The commands: each by its name, the shape of what follows it, and what it does.
+abbrev pub commands : List (Name × (List Form → Option Effect))
+commands =
+    (codes "assert", assert_shape assert)
+    ∷ (codes "declare-const", constant_shape declare_constant)
+    ∷ (codes "declare-fun", function_shape function_of)
+    ∷ (codes "define-fun", definition_shape definition_of)
+    ∷ (codes "push", levels_shape push)
+    ∷ (codes "pop", levels_shape pop)
+    ∷ (codes "check-sat", bare check_sat)
+    ∷ (codes "check-sat-assuming", assuming_shape check_sat_assuming)
+    ∷ (codes "get-model", bare get_model)
+    ∷ (codes "get-value", value_shape get_value)
+    ∷ (codes "get-unsat-assumptions", bare get_unsat_assumptions)
+    ∷ (codes "get-unsat-core", bare is_unsupported)
+    ∷ (codes "set-logic", logic_shape set_logic)
+    ∷ (codes "set-option", option_shape set_option)
+    ∷ (codes "get-option", keyword_shape get_option)
+    ∷ (codes "set-info", info_shape succeeds)
+    ∷ (codes "get-info", keyword_shape get_info)
+    ∷ (codes "echo", echo_shape echo)
+    ∷ (codes "reset-assertions", bare reset_assertions)
+    ∷ (codes "reset", bare reset)
+    ∷ (codes "exit", bare exit) ∷ []
+
+-- a command that is to come is left out, where it has its shape
+abbrev pub answered_by : Bool → (List Form → Option Effect) → List Form → Option Effect
+answered_by true shape = shape
+answered_by false shape = λ forms. option_map (λ effect. is_unsupported) (shape forms)
+
+abbrev pub answered : Name × (List Form → Option Effect) → Name × (List Form → Option Effect)
+answered row = (row.0, answered_by (is_brought (a_command row.0)) row.1)
+
+-- What a command does, by its name, by a table, with what follows the name. A name that is not in the table is of a
+-- command that is left out.
+abbrev pub shaped_by : List (Name × (List Form → Option Effect)) → Name → List Form → Option Effect
+shaped_by table name arguments =
+    elim (found_in table name) [ Some shape ↦ shape arguments | None ↦ Some is_unsupported ]
+
+abbrev pub shaped : Name → List Form → Option Effect
+shaped name arguments = shaped_by (map answered commands) name arguments
+
+-- what the command of a form does: a list that begins with a symbol without bars
+abbrev pub command_of : Form → Option Effect
+command_of (Group (more (Symbol name) arguments)) = shaped name (list_of arguments)
+command_of _ = None
 
 -- what becomes of an entry
 abbrev pub step_of : Entry → State → Step
-step_of (Command form) s = elim (command_of form) [ Some c ↦ step c s | None ↦ fails_by error.malformed_command s ]
+step_of (Command form) s =
+    elim (command_of form) [ Some effect ↦ effect s | None ↦ fails_by error.malformed_command s ]
 step_of (Refused refusal) s = fails_by (refusal_error refusal) s
-
-abbrev pub is_exit_command : Option command.Command → Bool
-is_exit_command (Some command.exit) = true
-is_exit_command _ = false
 
 -- the entry ends the run
 abbrev pub is_exit : Entry → Bool
-is_exit (Command form) = is_exit_command (command_of form)
-is_exit (Refused refusal) = false
+is_exit (Command (Group (more (Symbol name) none))) = is_name name (codes "exit")
+is_exit _ = false

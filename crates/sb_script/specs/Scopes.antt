@@ -1,6 +1,6 @@
 -- What a name stands for in a state.
-use Rattle.std.specs.Prelude.{ℕ, if◌then◌else◌, List, [], ◌∷◌, Option, Some, None}
-use Rattle.sb_script.specs.Names.{Name, is_name}
+use Rattle.std.specs.Prelude.{ℕ, List, [], ◌∷◌, Option}
+use Rattle.sb_script.specs.Names.{Name, found_in}
 use Rattle.sb_meaning.specs.Terms.{Sort, Term}
 
 pub data Named : Type 0 where
@@ -16,10 +16,9 @@ pub data Named : Type 0 where
 abbrev pub Naming : Type 0
 Naming = Name × Named
 
--- what the name stands for; the first naming counts
+-- what the name stands for
 abbrev pub named : List Naming → Name → Option Named
-named [] name = None
-named (n ∷ ns) name = if is_name name n.0 then Some n.1 else named ns name
+named names name = found_in names name
 
 -- a declared constant, as it is printed
 pub record Constant : Type 0 where

@@ -7,28 +7,28 @@ use Rattle.sb_meaning.specs.Terms.{Sort, text, boolean, integer}
 use Rattle.sb_meaning.specs.Values.{Text, Int, Truth}
 use Rattle.sb_script.specs.Names.{Name}
 use Rattle.sb_script.specs.Faults.{Fault, unknown_symbol, wrong_sort as of_wrong_sort, wrong_count, bad_index, unsupported, numeral_too_large, bad_literal, malformed, already_bound}
-use Rattle.sb_script.specs.Commands as command
-use Rattle.sb_script.specs.Commands.{Command}
 use Rattle.sb_script.specs.State.{State, start, declared, marked, live, constants_of, satisfied, refuted, undecided}
-use Rattle.sb_script.specs.Steps.{Step, answers, leaves, checks, exits, above, all, line, refusal_text, refused_term}
+use Rattle.sb_script.specs.Steps.{Step, answers, leaves, checks, exits, above, all, line, succeeds, is_unsupported, refusal_text, refused_term}
+use Rattle.sb_script.specs.Options as option
 use Rattle.sb_script.specs.Options.{settings, set_by, option_texts, get_by}
-use Rattle.sb_script.specs.Replies.{step}
+use Rattle.sb_script.specs.Replies as command
+use Rattle.sb_script.specs.Replies.{Effect}
 use Rattle.sb_script.specs.ReadingExamples.{group, range}
 
 -- the text and the state after commands without a check
-abbrev pub done : List Command → State → List ℕ × State
+abbrev pub done : List Effect → State → List ℕ × State
 done [] s = ([], s)
-done (c ∷ cs) s = elim (step c s) [
+done (c ∷ cs) s = elim (c s) [
   | answers bytes new ↦ let rest = done cs new in (bytes ++ rest.0, rest.1)
   | leaves what bytes new ↦ let rest = done cs new in (bytes ++ rest.0, rest.1)
   | checks given ↦ ([], s)
   | exits bytes ↦ (bytes, s)
 ]
 
-abbrev pub said_of : List Command → State → List ℕ
+abbrev pub said_of : List Effect → State → List ℕ
 said_of cs s = (done cs s).0
 
-abbrev pub after : List Command → State → State
+abbrev pub after : List Effect → State → State
 after cs s = (done cs s).1
 
 abbrev pub success : List ℕ
@@ -96,10 +96,10 @@ values_of_options = refl
 
 -- what is asked for is the value in force; an option that can't be set has none
 values_in_force :
-    said_of (command.get_option (codes ":produce-unsat-assumptions") ∷ command.set_option
-    (codes ":produce-unsat-assumptions") (Symbol (codes "true")) ∷ command.get_option
-    (codes ":produce-unsat-assumptions") ∷ command.get_option (codes ":global-declarations") ∷ command.set_option
-    (codes ":print-success") (Symbol (codes "false")) ∷ command.get_option (codes ":print-success") ∷ command.get_option
+    said_of (option.get_option (codes ":produce-unsat-assumptions") ∷ option.set_option
+    (codes ":produce-unsat-assumptions") (Symbol (codes "true")) ∷ option.get_option
+    (codes ":produce-unsat-assumptions") ∷ option.get_option (codes ":global-declarations") ∷ option.set_option
+    (codes ":print-success") (Symbol (codes "false")) ∷ option.get_option (codes ":print-success") ∷ option.get_option
     (codes ":reproducible-resource-limit") ∷ []) start ≡ codes "false\nsuccess\ntrue\nfalse\nfalse\nunsupported\n"
 values_in_force = refl
 
@@ -134,7 +134,7 @@ too_late : told (set (codes ":global-declarations") (Symbol (codes "no")) some_c
 too_late = refl
 
 too_late_behind_a_logic :
-    told (set (codes ":global-declarations") (Symbol (codes "false")) (after (command.set_logic (codes "QF_S") ∷
+    told (set (codes ":global-declarations") (Symbol (codes "false")) (after (option.set_logic (codes "QF_S") ∷
     []) start))
     ≡ codes "(error \"option set too late\")\n"
 too_late_behind_a_logic = refl
@@ -148,7 +148,7 @@ too_late_behind_a_mark = refl
 -- an error is no beginning, and another logic is none
 not_too_late :
     told (set (codes ":global-declarations") (Symbol (codes "false"))
-    (after (command.assert (Symbol (codes "y")) ∷ command.set_logic (codes "QF_BV") ∷ []) start)) ≡ success
+    (after (command.assert (Symbol (codes "y")) ∷ option.set_logic (codes "QF_BV") ∷ []) start)) ≡ success
 not_too_late = refl
 
 -- reset begins again
@@ -159,14 +159,14 @@ in_time_again = refl
 
 -- Information.
 information :
-    said_of (command.get_info (codes ":name") ∷ command.get_info (codes ":version") ∷ command.get_info
-    (codes ":authors") ∷ command.get_info (codes ":error-behavior") ∷ command.get_info (codes ":reason-unknown") ∷
-    command.get_info (codes ":all-statistics") ∷ command.set_info ∷ []) start
+    said_of (option.get_info (codes ":name") ∷ option.get_info (codes ":version") ∷ option.get_info
+    (codes ":authors") ∷ option.get_info (codes ":error-behavior") ∷ option.get_info (codes ":reason-unknown") ∷
+    option.get_info (codes ":all-statistics") ∷ succeeds ∷ []) start
     ≡ codes "(:name \"strsolve\")\n(:version \"1\")\n(:authors \"the strsolve authors\")\n"
     ++ (codes "(:error-behavior continued-execution)\n(error \"no unknown answer\")\nunsupported\nsuccess\n")
 information = refl
 
-reason_unknown : said_of (command.get_info (codes ":reason-unknown") ∷ []) (record start { mode = undecided })
+reason_unknown : said_of (option.get_info (codes ":reason-unknown") ∷ []) (record start { mode = undecided })
     ≡ codes "(:reason-unknown resource-limit)\n"
 reason_unknown = refl
 
@@ -195,7 +195,7 @@ assertions_below_stay :
     []) some_constants)) ≡ 1
 assertions_below_stay = refl
 
-what_a_pop_leaves : (step (command.pop 2) (after (command.push 5 ∷ []) start))
+what_a_pop_leaves : command.pop 2 (after (command.push 5 ∷ []) start)
     ≡ leaves (above 3) success (after (command.push 3 ∷ []) start)
 what_a_pop_leaves = refl
 
@@ -214,12 +214,12 @@ a_wide_push = refl
 
 -- Going back to the start.
 
-resets_assertions : step command.reset_assertions (after (command.push 3 ∷ []) some_constants)
+resets_assertions : command.reset_assertions (after (command.push 3 ∷ []) some_constants)
     ≡ leaves all success (record start { begun = true; sorts = boolean ∷ text ∷ integer ∷ [] })
 resets_assertions = refl
 
 -- options too, so that success is told again
-resets : step command.reset
+resets : command.reset
     (record (after (command.push 3 ∷ []) some_constants) {
       options = record start.options { print_success = false; produce_models = true };
     }) ≡ leaves all success (record start { sorts = boolean ∷ text ∷ integer ∷ [] })
@@ -233,11 +233,11 @@ not_ form = group (Symbol (codes "not") ∷ form ∷ [])
 abbrev p : Form
 p = Symbol (codes "p")
 
-assumptions : step (command.check_sat_assuming (p ∷ not_ (QuotedSymbol (codes "p")) ∷ p ∷ [])) some_constants
+assumptions : command.check_sat_assuming (p ∷ not_ (QuotedSymbol (codes "p")) ∷ p ∷ []) some_constants
     ≡ checks ((0, true) ∷ (0, false) ∷ (0, true) ∷ [])
 assumptions = refl
 
-no_assumptions : step (command.check_sat_assuming []) some_constants ≡ checks []
+no_assumptions : command.check_sat_assuming [] some_constants ≡ checks []
 no_assumptions = refl
 
 not_a_literal :
@@ -303,9 +303,9 @@ no_model = refl
 
 -- Logics and other commands.
 logics :
-    said_of (command.set_logic (codes "QF_BV") ∷ command.set_logic (codes "QF_SLIA") ∷ command.set_logic
+    said_of (option.set_logic (codes "QF_BV") ∷ option.set_logic (codes "QF_SLIA") ∷ option.set_logic
     (codes "QF_SLIA") ∷
-    command.another ∷ command.exit ∷ []) start
+    is_unsupported ∷ command.exit ∷ []) start
     ≡ codes "unsupported\nsuccess\n(error \"logic already set\")\nunsupported\nsuccess\n"
 logics = refl
 

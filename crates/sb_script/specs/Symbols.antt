@@ -1,15 +1,10 @@
 -- The names of the theories Core, Ints and Unicode Strings: symbols that are read, and what is left out.
-use Rattle.std.specs.Prelude.{Bool, true, not, ◌||◌, ◌==◌, if◌then◌else◌, List, [], ◌∷◌, ◌++◌, map, filter, codes, Option, Some, None, is_some}
-use Rattle.sb_script.specs.Names.{Name, is_name, is_among}
+use Rattle.std.specs.Prelude.{Bool, true, not, ◌||◌, ◌==◌, List, [], ◌∷◌, ◌++◌, map, filter, codes, Option, Some, None, is_some}
+use Rattle.sb_script.specs.Names.{Name, is_among, found_in}
 use Rattle.sb_script.specs.Brought.{a_symbol, a_sort, is_brought}
 use Rattle.sb_meaning.specs.Terms.{Sort, Symbol, boolean, integer, text}
 use Rattle.sb_meaning.specs.Sorts.{signature_of, symbols}
 use Rattle.sb_script.specs.Scopes.{Naming, named}
-
--- what stands in a table by this name; the first row counts
-abbrev pub found_in : {A : Type 0} → List (Name × A) → Name → Option A
-found_in [] name = None
-found_in (row ∷ rows) name = if is_name name row.0 then Some row.1 else found_in rows name
 
 -- symbols, by name
 abbrev pub by_name : List Symbol → List (Name × Symbol)
