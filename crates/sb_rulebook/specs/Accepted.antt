@@ -1,6 +1,6 @@
 -- Accepted proofs. A proof goes along with a script: it has a first line, then for each check lines that follow and
 -- one verdict, then a last line.
-use Rattle.std.specs.Prelude.{◌≡◌, ℕ, ◌+◌, List, [], ◌∷◌, ◌++◌, length, codes, decimal, Option, Some, None}
+use Rattle.std.specs.Prelude.{◌≡◌, ℕ, ◌+◌, List, [], ◌∷◌, ◌++◌, map, length, codes, decimal, Option, Some, None}
 use Rattle.sb_reader.specs.Entries.{Entry}
 use Rattle.sb_meaning.specs.Terms.{Term}
 use Rattle.sb_script.specs.State.{State, Level, Assertion, asserted, a_mark, Assumption, constants_of}
@@ -21,8 +21,7 @@ term_of (asserted t) = Some t
 term_of a_mark = None
 
 abbrev pub at_level : ℕ → List Assertion → List (Option Term × ℕ)
-at_level level [] = []
-at_level level (a ∷ rest) = (term_of a, level) ∷ at_level level rest
+at_level level assertions = map (λ a. (term_of a, level)) assertions
 
 -- the live assertions with their levels: the first level is 0, and the innermost stands in front of those above it
 abbrev pub live_by_level : Level → List Level → List (Option Term × ℕ)

@@ -1,37 +1,36 @@
 -- Computed examples of scripts with their proofs, by commands, of those too that are not read yet.
 use Rattle.std.specs.Prelude.{◌≡◌, ℕ, List, [], ◌∷◌, ◌++◌, take, codes, Some, None, refl}
 use Rattle.sb_reader.specs.Forms.{Form, Symbol, Words}
-use Rattle.sb_script.specs.Commands as command
-use Rattle.sb_script.specs.Commands.{Command}
 use Rattle.sb_script.specs.State as state
 use Rattle.sb_script.specs.State.{State}
-use Rattle.sb_script.specs.Replies.{step}
+use Rattle.sb_script.specs.Replies as command
+use Rattle.sb_script.specs.Replies.{Effect}
 use Rattle.sb_script.specs.ReadingExamples.{group}
 use Rattle.sb_rulebook.specs.Judging.{Event, judged}
 use Rattle.sb_rulebook.specs.Accepted.{events_of, state_behind, answer}
 use Rattle.sb_rulebook.specs.LineLaws.{bytes_of}
 use Rattle.sb_rulebook.specs.ProofExamples.{computing, proof}
 
-abbrev events_of_commands : State → List Command → List Event
+abbrev events_of_commands : State → List Effect → List Event
 events_of_commands s [] = []
 events_of_commands s (c ∷ cs) =
-    let next = step c s in
+    let next = c s in
     events_of next s ++ elim (state_behind next s) [ Some new ↦ events_of_commands new cs | None ↦ [] ]
 
-abbrev assert_in : Form → Command
+abbrev assert_in : Form → Effect
 assert_in R = command.assert (group (Symbol (codes "str.in_re") ∷ Symbol (codes "x") ∷ R ∷ []))
 
 abbrev word_form : List ℕ → Form
 word_form w = group (Symbol (codes "str.to_re") ∷ Words w ∷ [])
 
-abbrev two_assertions : List Command
+abbrev two_assertions : List Effect
 two_assertions =
     command.declare_constant (codes "x") (Symbol (codes "String"))
     ∷ assert_in (group (Symbol (codes "re.*") ∷ word_form (codes "a") ∷ []))
     ∷ assert_in (group (Symbol (codes "re.+") ∷ word_form (codes "b") ∷ [])) ∷ []
 
 -- the worked proof up to its verdict, and then this verdict of the next check
-abbrev answer_twice : List Command → List ℕ → List ℕ
+abbrev answer_twice : List Effect → List ℕ → List ℕ
 answer_twice commands verdict =
     answer (judged (events_of_commands state.start commands) (bytes_of (take 18 proof ++ verdict ∷ codes "end" ∷ [])))
 

@@ -8,10 +8,11 @@ use Rattle.sb_meaning.specs.Values.{Valuation, Text, Int, Truth}
 use Rattle.sb_meaning.specs.Examples.{one, two}
 use Rattle.sb_script.specs.Fragment.{are_in_fragment}
 use Rattle.sb_script.specs.Models.{are_defaults}
-use Rattle.sb_script.specs.Commands as command
 use Rattle.sb_script.specs.State.{State, start, asserted, assumed, live, live_terms, constants_of, with_assertion, is_model}
 use Rattle.sb_script.specs.Steps.{checks}
-use Rattle.sb_script.specs.Replies.{step}
+use Rattle.sb_script.specs.Options as option
+use Rattle.sb_script.specs.Replies as command
+use Rattle.sb_script.specs.Replies.{Effect}
 use Rattle.sb_script.specs.Verdicts.{is_sat, is_unsat, is_unknown, is_outside, settled, are_some_of}
 use Rattle.sb_script.specs.ReadingExamples.{group}
 use Rattle.sb_script.specs.StepExamples.{said_of, after, with_constants}
@@ -124,7 +125,7 @@ unfolding computing
 one_is_too_short = refl
 
 -- A limit that is reached.
-why_unknown : said_of (command.get_info (codes ":reason-unknown") ∷ command.push 1 ∷ command.get_info
+why_unknown : said_of (option.get_info (codes ":reason-unknown") ∷ command.push 1 ∷ option.get_info
     (codes ":reason-unknown") ∷ []) (settled is_unknown quiet)
     ≡ codes "(:reason-unknown resource-limit)\n(error \"no unknown answer\")\n"
 why_unknown = refl
@@ -139,7 +140,7 @@ twice : are_in_fragment (live (with_assertions (in_ (two symbol.str_concat x x) 
     ≡ false
 twice = refl
 
-abbrev replaced : command.Command
+abbrev replaced : Effect
 replaced = command.assert (group (Symbol (codes "str.replace") ∷ Symbol (codes "x") ∷ []))
 
 with_a_mark : are_in_fragment (live (after (command.push 1 ∷ replaced ∷ []) one_constant)) ≡ false
@@ -173,8 +174,8 @@ guarded =
 abbrev named : List ℕ → Form
 named name = Symbol name
 
-asked_under_three : step (command.check_sat_assuming (named (codes "p") ∷ named (codes "q") ∷ named (codes "r") ∷
-    [])) guarded
+asked_under_three : command.check_sat_assuming (named (codes "p") ∷ named (codes "q") ∷ named (codes "r") ∷
+    []) guarded
     ≡ checks ((0, true) ∷ (1, true) ∷ (2, true) ∷ [])
 asked_under_three = refl
 
