@@ -5,9 +5,8 @@ use Rattle.std.proofs.lemmas.List.{take-append-drop}
 use Rattle.std.proofs.lemmas.List.Folds.{list_all-append}
 use Rattle.std.specs.List.{list_all}
 use Rattle.sb_meaning.specs.Terms.{Term}
-use Rattle.sb_script.specs.Names.{Name, is_name}
+use Rattle.sb_script.specs.Names.{Name, is_name, found_in}
 use Rattle.sb_script.specs.Scopes as meaning
-use Rattle.sb_script.specs.Symbols.{found_in}
 use Rattle.sb_term.specs.Numbered.{Extends}
 use Rattle.sb_term.specs.Symbols.{sort_in}
 use Rattle.sb_term.proofs.CallerLemmas.{at_kept, number_kept}
