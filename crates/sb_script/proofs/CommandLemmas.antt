@@ -9,11 +9,8 @@ use Rattle.sb_script.specs.Brought.{a_command, is_brought}
 use Rattle.sb_script.specs.Texts.{number_of}
 use Rattle.sb_script.specs.Commands.{Parameter, list_of, symbol_in, declarable, is_sort_form, is_parameter, parameters_of, is_item, is_assumption_form, constant_shape, function_shape, definition_shape, logic_shape, option_shape, assert_shape, assuming_shape, value_shape, keyword_shape, info_shape, levels_shape, echo_shape, bare}
 use Rattle.sb_script.specs.Steps.{is_unsupported}
-use Rattle.sb_script.specs.Replies.{Effect, commands, answered_by, answered, shaped_by, shaped}
+use Rattle.sb_script.specs.Replies.{Effect, Shape, commands, answered_by, answered, shaped_by, shaped}
 use Rattle.sb_script.proofs.FoundLemmas.{Each}
-
-abbrev Shape : Type 0
-Shape = List Form → Option Effect
 
 module _ (P : Effect → Type 0) where
   -- what the shape makes has the property

@@ -21,9 +21,12 @@ use Rattle.sb_script.specs.State.{State, Mode, plain, satisfied, refuted, undeci
 use Rattle.sb_script.specs.Steps.{Step, answers, leaves, checks, exits, above, all, line, quoted, success, fails_by, succeeds, is_unsupported, refusal_error, fault_error, refused_term, list_text}
 use Rattle.sb_script.specs.Options.{set_logic, set_option, get_option, get_info}
 
--- what a command does
+-- what a command does, and what is made of the forms behind its name
 abbrev pub Effect : Type 0
 Effect = State → Step
+
+abbrev pub Shape : Type 0
+Shape = List Form → Option Effect
 
 -- Declarations.
 
@@ -289,7 +292,7 @@ get_value forms s =
     if some_malformed items then fails_by error.malformed_command s
     else elim (first_unknown items) [ Some name ↦ fails_by (error.unknown_symbol name) s | None ↦ values_of items s ]
 
--- What else there is.
+-- Checks, texts, and the end of the run.
 
 abbrev pub check_sat : Effect
 check_sat s = checks []
@@ -301,7 +304,7 @@ abbrev pub exit : Effect
 exit s = exits (success s)
 
 -- The commands: each by its name, the shape of what follows it, and what it does.
-abbrev pub commands : List (Name × (List Form → Option Effect))
+abbrev pub commands : List (Name × Shape)
 commands =
     (codes "assert", assert_shape assert)
     ∷ (codes "declare-const", constant_shape declare_constant)
@@ -326,20 +329,20 @@ commands =
     ∷ (codes "exit", bare exit) ∷ []
 
 -- a command that is to come is left out, where it has its shape
-abbrev pub answered_by : Bool → (List Form → Option Effect) → List Form → Option Effect
+abbrev pub answered_by : Bool → Shape → Shape
 answered_by true shape = shape
 answered_by false shape = λ forms. option_map (λ effect. is_unsupported) (shape forms)
 
-abbrev pub answered : Name × (List Form → Option Effect) → Name × (List Form → Option Effect)
+abbrev pub answered : Name × Shape → Name × Shape
 answered row = (row.0, answered_by (is_brought (a_command row.0)) row.1)
 
 -- What a command does, by its name, by a table, with what follows the name. A name that is not in the table is of a
 -- command that is left out.
-abbrev pub shaped_by : List (Name × (List Form → Option Effect)) → Name → List Form → Option Effect
+abbrev pub shaped_by : List (Name × Shape) → Name → Shape
 shaped_by table name arguments =
     elim (found_in table name) [ Some shape ↦ shape arguments | None ↦ Some is_unsupported ]
 
-abbrev pub shaped : Name → List Form → Option Effect
+abbrev pub shaped : Name → Shape
 shaped name arguments = shaped_by (map answered commands) name arguments
 
 -- what the command of a form does: a list that begins with a symbol without bars
