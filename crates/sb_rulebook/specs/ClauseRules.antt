@@ -3,6 +3,8 @@ use Rattle.std.specs.Prelude.{ℕ, Bool, true, false, not, ◌&&◌, if◌then�
 use Rattle.sb_lit.specs.declared.clause.Lit.{Lit}
 use Rattle.sb_lit.specs.Clauses.{is_same_literal, are_ascending}
 use Rattle.sb_meaning.specs.Terms.{Term}
+use Rattle.sb_script.specs.Fragment.{is_inside, fits}
+use Rattle.sb_script.specs.State as state
 pub use Rattle.sb_rulebook.specs.Refusals.{Refusal, unknown_id, repeated, hint_idle, rule_broken}
 use Rattle.sb_rulebook.specs.Atoms.{Atom}
 use Rattle.sb_rulebook.specs.Translation.{translation}
@@ -39,10 +41,20 @@ follows_rule asked kept rule clause =
     else if is_counted rule then counting asked (with_clause kept clause 0 [])
     else Ok (with_clause kept clause 0 [])
 
--- The literal of a live assertion is a clause of the assertion's level, and rests on it.
+-- The assertion is decided, as far as it alone says: it is of what is brought, and within the limits on sizes.
+abbrev pub is_decided : state.Assertion → Bool
+is_decided (state.asserted t) = is_inside (state.asserted t) && fits t
+is_decided state.a_mark = false
+
+abbrev pub is_this : Lit → Option Lit → Bool
+is_this l None = false
+is_this l (Some m) = is_same_literal l m
+
+-- The literal of a live assertion is a clause of the assertion's level, and rests on it. An assertion that is not decided
+-- has none.
 abbrev pub is_translation : List Atom → Option Term → Lit → Bool
 is_translation atoms None l = false
-is_translation atoms (Some t) l = elim (translation atoms t) [ None ↦ false | Some m ↦ is_same_literal l m ]
+is_translation atoms (Some t) l = is_decided (state.asserted t) && is_this l (translation atoms t)
 
 abbrev pub asserted : AllKept → ℕ → Option Term × ℕ → Lit → Result AllKept Refusal
 asserted kept place assertion l =

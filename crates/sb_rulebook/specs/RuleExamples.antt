@@ -1,10 +1,11 @@
 -- Computed examples of what follows, rule by rule, and of verdicts, levels and limits.
-use Rattle.std.specs.Prelude.{◌≡◌, ℕ, pos, negsuc, true, false, List, [], ◌∷◌, ◌++◌, map, codes, Option, Some, None, option_map, Ok, Err, refl}
+use Rattle.std.specs.Prelude.{◌≡◌, ℕ, pos, negsuc, true, false, ◌&&◌, List, [], ◌∷◌, ◌++◌, map, codes, Option, Some, None, option_map, Ok, Err, refl}
+use Rattle.std.proofs.Common.{ap₂}
 use Rattle.sb_lit.specs.declared.clause.Lit.{Lit}
 use Rattle.sb_lang.specs.Regex.{Regex, none, set, cat, star, rep, path}
 use Rattle.sb_lang.specs.Order.{regex_eq}
 use Rattle.sb_lang.specs.Constructors.{any_character}
-use Rattle.sb_meaning.specs.Terms.{boolean, integer, text, constant, numeral}
+use Rattle.sb_meaning.specs.Terms.{Term, boolean, integer, text, constant, numeral}
 use Rattle.sb_meaning.specs.Terms as symbol
 use Rattle.sb_meaning.specs.Values.{Text, Int, Truth}
 use Rattle.sb_rulebook.specs.Refusals.{Refusal, unknown_id, repeated, not_normal, wrong_target, not_closed, rule_broken, wrong_verdict}
@@ -16,6 +17,8 @@ use Rattle.sb_rulebook.specs.Gates.{is_gate}
 use Rattle.sb_rulebook.specs.BoundClauses.{is_order, is_linear}
 use Rattle.sb_rulebook.specs.Splits.{is_step, is_empty}
 use Rattle.sb_rulebook.specs.Brought.{newest_format}
+use Rattle.sb_rulebook.specs.Translation.{translation}
+use Rattle.sb_rulebook.specs.ClauseRules.{is_this, is_translation}
 use Rattle.sb_rulebook.specs.Follows.{by_rule}
 use Rattle.sb_rulebook.specs.Verdicts.{Question, refusal_of, denies, denied_by}
 use Rattle.sb_rulebook.specs.Relevant.{lies_between}
@@ -23,6 +26,8 @@ use Rattle.sb_rulebook.specs.Tables.{is_table}
 use Rattle.sb_rulebook.specs.KeptLaws.{are_distinct, has_targets_below, names_regex_of, is_orderly_clause, is_rising}
 use Rattle.sb_rulebook.specs.ProofExamples.{computing}
 use Rattle.sb_rulebook.specs.TranslationExamples.{plus, minus}
+use Rattle.sb_script.specs.Brought.{is_structure}
+use Rattle.sb_script.specs.Fragment.{fits}
 use Rattle.sb_script.specs.Pieces.{constant_piece, word_piece}
 use Rattle.sb_script.specs.Sums.{int_constant, length_of}
 
@@ -266,8 +271,8 @@ no_classes : is_expansion none [] ≡ false
 unfolding computing
 no_classes = refl
 
--- Lines in a script with p Bool, x String and n Int, where p is asserted at level 0 and n <= 5 at level 2, and one line
--- counts.
+-- Lines in a script with p Bool, x String and n Int, where p is asserted at level 0, and n <= 5 and (not p) at level 2,
+-- and one line counts.
 
 abbrev asked : Asked
 asked = record {
@@ -275,7 +280,7 @@ asked = record {
     Some (symbol.apply symbol.at_most
         (symbol.with_term (constant 2 integer) (symbol.with_term (numeral 5) symbol.no_terms))),
     2,
-  ) ∷ [];
+  ) ∷ (Some (symbol.apply symbol.core_not (symbol.with_term (constant 0 boolean) symbol.no_terms)), 2) ∷ [];
   sorts = boolean ∷ text ∷ integer ∷ [];
   limit = 1;
 }
@@ -298,8 +303,8 @@ with_clauses cs rests k =
     record k { clauses = map (option_map (λ c. record { literals = c.0; level = c.1 })) cs; rests = rests }
 
 -- the clause of an assertion has its level and rests on it, and one by a rule has level 0 and rests on none
-an_assertion : by_rule asked kept (assertion_line 2 (plus 1))
-    ≡ Ok (with_clauses (Some (plus 1 ∷ [], 2) ∷ []) ((2 ∷ []) ∷ []) kept)
+an_assertion : by_rule asked kept (assertion_line 3 (minus 0))
+    ≡ Ok (with_clauses (Some (minus 0 ∷ [], 2) ∷ []) ((3 ∷ []) ∷ []) kept)
 unfolding computing
 an_assertion = refl
 
@@ -312,7 +317,17 @@ a_mark : refusal_in kept (assertion_line 1 (plus 0)) ≡ Some rule_broken
 unfolding computing
 a_mark = refl
 
-past_the_last_assertion : refusal_in kept (assertion_line 3 (plus 0)) ≡ Some unknown_id
+-- its form is to come, though it has a literal
+an_assertion_to_come : refusal_in kept (assertion_line 2 (plus 1)) ≡ Some rule_broken
+unfolding computing
+an_assertion_to_come = refl
+
+-- an assertion past the limits on sizes has no literal, whatever atoms there are
+past_the_limits : (atoms : List Atom) (t : Term) (l : Lit) → is_structure t ≡ true → fits t ≡ false
+    → is_translation atoms (Some t) l ≡ false
+past_the_limits atoms t l brought large = ap₂ (λ b c. (b && c) && is_this l (translation atoms t)) brought large
+
+past_the_last_assertion : refusal_in kept (assertion_line 4 (plus 0)) ≡ Some unknown_id
 unfolding computing
 past_the_last_assertion = refl
 

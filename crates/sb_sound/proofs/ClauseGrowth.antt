@@ -3,19 +3,20 @@
 use Rattle.std.proofs.Common.{◌≡◌, ℕ, Bool, true, false, not, ◌&&◌, if◌then◌else◌, List, [], ◌∷◌, ◌++◌, length, length-append, slice_get, Option, Some, None, Result, Ok, Err, refl, sym, ap, subst, ◌∙◌, ◌⊎◌, inl, inr, arith}
 use Rattle.std.proofs.lemmas.Bool.{and_parts, and_from, or_left, not-false, false≢true}
 use Rattle.sb_lit.specs.declared.clause.Lit.{Lit}
-use Rattle.sb_lit.specs.Clauses.{is_same_literal, are_ascending}
+use Rattle.sb_lit.specs.Clauses.{are_ascending}
 use Rattle.sb_lit.specs.Kept.{Kept, KeptClause, kept_at}
 use Rattle.sb_lit.specs.Hints.{Unlearned, is_repeated, learned}
 use Rattle.sb_lit.proofs.CallerLemmas.{is_same_literal-true}
 use Rattle.sb_meaning.specs.Terms.{Term}
 use Rattle.sb_meaning.specs.Values.{Valuation}
+use Rattle.sb_script.specs.State as state
 use Rattle.sb_rulebook.specs.Refusals.{Refusal, unknown_id, repeated, rule_broken}
 use Rattle.sb_rulebook.specs.Atoms.{Atom, literal_holds, truths_of, clause_holds}
 use Rattle.sb_rulebook.specs.AtomRules.{is_known, are_known}
 use Rattle.sb_rulebook.specs.Translation.{translation}
 use Rattle.sb_rulebook.specs.Lines.{Rule, gate, order, linear, step, empty}
 use Rattle.sb_rulebook.specs.Kept.{AllKept, Asked, counting, with_clause, rests_of_any}
-use Rattle.sb_rulebook.specs.ClauseRules.{holds_by, is_counted, follows_rule, is_translation, asserted, follows_assertion, refusal_of, follows_learned}
+use Rattle.sb_rulebook.specs.ClauseRules.{holds_by, is_counted, follows_rule, is_this, is_decided, is_translation, asserted, follows_assertion, refusal_of, follows_learned}
 use Rattle.sb_sound.specs.Tables.{HasWords}
 use Rattle.sb_sound.specs.TermLaws.{HasSorts}
 use Rattle.sb_sound.specs.GateLaws.{GatesHold}
@@ -100,18 +101,19 @@ with_clause_sound asked kept clause level rests known stand true_so sound =
 pub record IsOfTerm (atoms : List Atom) (o : Option Term) (l : Lit) : Type 0 where
   pub term : Term
   pub is : o ≡ Some term
+  pub decided : is_decided (state.asserted term) ≡ true
   pub there : translation atoms term ≡ Some l
 
 pub translation-parts : (atoms : List Atom) (o : Option Term) (l : Lit) → is_translation atoms o l ≡ true
     → IsOfTerm atoms o l
 translation-parts atoms None l h = absurd (false≢true h)
-translation-parts atoms (Some t) l h = step (translation atoms t) refl h
+translation-parts atoms (Some t) l h =
+    let parts = and_parts (is_decided (state.asserted t)) (is_this l (translation atoms t)) h in
+    record { term = t; is = refl; decided = parts.0; there = step (translation atoms t) parts.1 }
   where
-    step : (o : Option Lit) → translation atoms t ≡ o
-        → (elim o as (λ _. Bool) [ None ↦ false | Some m ↦ is_same_literal l m ]) ≡ true → IsOfTerm atoms (Some t) l
-    step None there h = absurd (false≢true h)
-    step (Some m) there h =
-        record { term = t; is = refl; there = there ∙ ap Some (sym (is_same_literal-true l m h)) }
+    step : (o : Option Lit) → is_this l o ≡ true → o ≡ Some l
+    step None this = absurd (false≢true this)
+    step (Some m) this = ap Some (sym (is_same_literal-true l m this))
 
 pub assertion_sound : TranslationHolds → (asked : Asked) (kept after : AllKept) (place : ℕ) (l : Lit) → AreTerms asked
     → IsSound asked kept → follows_assertion asked kept place l ≡ Ok after → IsSound asked after

@@ -59,6 +59,3 @@ mod AlongFacts
 mod Fronts
 mod Exits
 mod OutcomeFacts
-mod BroughtTerms
-mod SimpleTerms
-mod SimpleSteps

@@ -18,8 +18,6 @@ pub mod RelevantLaws
 pub mod ClauseLaws
 pub mod RegexLaws
 pub mod TruthLaws
-pub mod SimpleStates
-pub mod SimpleExamples
 pub mod Certified
 pub mod CertifiedLaws
 pub mod CertifiedExamples

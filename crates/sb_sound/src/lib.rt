@@ -5,8 +5,8 @@
 //! every valuation, or of every one whose words are words of characters, and a rule that is too wide has no law.
 //! Beside it stands a law that says in words exactly which clauses, or lines, the test accepts. The laws of `steps`
 //! carry those of the rules over to the lines of a proof, and the laws of `proofs` to whole proofs. Beside them stand
-//! the laws of what a script reaches (`reached`), of a script that is answered with its proof (`certified`), and of
-//! what comes of a proof along with a script (`outcome`).
+//! the laws of a script that is answered with its proof (`certified`), and of what comes of a proof along with a script
+//! (`outcome`).
 //!
 //! There is no program code here. Each function is a law: its body is empty, or calls the laws that it rests on. A
 //! caller calls it to have the law.
@@ -24,7 +24,6 @@ pub mod linear;
 pub mod memberships;
 pub mod outcome;
 pub mod proofs;
-pub mod reached;
 pub mod regexes;
 pub mod relevant;
 pub mod scripts;
