@@ -18,20 +18,25 @@ use Rattle.sb_rulebook.specs.Splits.{is_step, is_empty}
 
 -- Clauses by a rule. The literals of each ascend.
 
-abbrev pub holds_by : AllKept → Rule → List Lit → Bool
-holds_by kept gate clause = is_gate kept.atoms clause
-holds_by kept order clause = is_order kept.atoms clause
-holds_by kept linear clause = is_linear kept.atoms clause
-holds_by kept step clause = is_step kept.atoms clause
-holds_by kept empty clause = is_empty kept clause
+-- A rule: whether its clauses are counted, and which clauses are its own. Counted ones are new: no kept clause is a
+-- subset.
+pub record ClauseRule : Type 0 where
+  pub counts : Bool
+  pub has : AllKept → List Lit → Bool
 
--- Clauses by these rules are counted, and new: no kept clause is a subset.
+-- each rule has its row
+abbrev pub row_of : Rule → ClauseRule
+row_of gate = record { counts = false; has = λ kept. is_gate kept.atoms }
+row_of order = record { counts = false; has = λ kept. is_order kept.atoms }
+row_of linear = record { counts = true; has = λ kept. is_linear kept.atoms }
+row_of step = record { counts = true; has = λ kept. is_step kept.atoms }
+row_of empty = record { counts = true; has = is_empty }
+
+abbrev pub holds_by : AllKept → Rule → List Lit → Bool
+holds_by kept rule = (row_of rule).has kept
+
 abbrev pub is_counted : Rule → Bool
-is_counted gate = false
-is_counted order = false
-is_counted linear = true
-is_counted step = true
-is_counted empty = true
+is_counted rule = (row_of rule).counts
 
 abbrev pub follows_rule : Asked → AllKept → Rule → List Lit → Result AllKept Refusal
 follows_rule asked kept rule clause =

@@ -1,11 +1,10 @@
 -- Gates are true.
-use Rattle.std.proofs.Common.{◌≡◌, ℕ, ◌<◌, ◌≤◌, ℤ, pos, negsuc, Bool, true, false, not, ◌||◌, nat_lt, int_le, if◌then◌else◌, List, [], ◌∷◌, map, length, take, Option, Some, None, refl, sym, ap, ap₂, subst, ◌∙◌, arith, inl, inr}
+use Rattle.std.proofs.Common.{◌≡◌, ℕ, ◌<◌, ◌≤◌, ℤ, pos, negsuc, Bool, true, false, not, ◌||◌, nat_lt, int_le, if◌then◌else◌, List, [], ◌∷◌, length, slice_get, take, Option, Some, None, refl, sym, ap, ap₂, subst, ◌∙◌, arith, inl, inr}
 use Rattle.std.specs.List.{list_all, list_any}
 use Rattle.std.proofs.lemmas.List.{append-nil}
 use Rattle.std.proofs.lemmas.Bool.{and_parts, or_cases, or_left, or_right, false≢true, ltb-true}
 use Rattle.sb_lit.specs.declared.clause.Lit.{Lit}
 use Rattle.sb_lit.specs.Clauses.{negation, is_among}
-use Rattle.sb_lit.proofs.CallerLemmas.{all_among}
 use Rattle.sb_lang.specs.Regex.{Regex}
 use Rattle.sb_lang.specs.OrderLaws.{OrderTellsApart}
 use Rattle.sb_lang.specs.LanguageLaws.{RepetitionIsSomePower}
@@ -13,14 +12,15 @@ use Rattle.sb_lang.specs.Constructors.{any_character, mkrep}
 use Rattle.sb_lang.specs.ConstructorLaws.{MkrepKeepsLanguage}
 use Rattle.sb_lang.specs.Language.{language}
 use Rattle.sb_meaning.specs.Values.{Valuation}
-use Rattle.sb_rulebook.specs.Atoms.{Atom, in_atom, le_atom, and_atom, iff_atom, is_same_atom, word_at, literal_holds, atom_holds, truths_of, clause_holds}
-use Rattle.sb_rulebook.specs.Gates.{is_set_of, atom_of, differ_in_sign, has_both_signs, is_short_membership, is_length_link, is_gate_of}
+use Rattle.sb_rulebook.specs.Atoms.{Atom, bool_atom, in_atom, le_atom, sum_atom, and_atom, iff_atom, is_same_atom, word_at, literal_holds, atom_holds, truths_of, clause_holds}
+use Rattle.sb_rulebook.specs.Gates.{gate, clauses_of, is_set_of, atom_of, differ_in_sign, is_short_membership, is_length_link, is_link_of, is_gate_of, has_both_signs}
 use Rattle.sb_sound.specs.Tables.{names_below, is_table, HasWords}
-use Rattle.sb_sound.specs.GateLaws.{GatesHold}
-use Rattle.sb_sound.proofs.PassFacts.{find_any}
+use Rattle.sb_sound.specs.GateLaws.{GatesHold, are_alike, is_as_it_says}
+use Rattle.sb_sound.proofs.GateSayings.{clauses_say}
+use Rattle.sb_sound.proofs.PassFacts.{find_any, all_contained}
 use Rattle.sb_sound.proofs.SameParts.{same_atom}
 use Rattle.sb_sound.proofs.TableFacts.{truth_at_place, literal_holds-atom, literal_holds-take, names_from, all_in_front}
-use Rattle.sb_sound.proofs.ClauseSets.{any_among, any_of_set, any_of_both, any_negated, literal_holds-negation, if_positive, if_negative}
+use Rattle.sb_sound.proofs.ClauseSets.{any_among, any_of_set, any_of_both}
 use Rattle.sb_sound.proofs.ShortWords.{short_language}
 use Rattle.sb_script.specs.Pieces.{constant_piece}
 use Rattle.sb_script.specs.Sums.{length_of}
@@ -54,73 +54,13 @@ literal_holds-and v atoms l ls table there =
     (all_in_front (truths_of v atoms) l.atom ls (names_at atoms l (and_atom ls) table there)
     (within_table v atoms l (and_atom ls) there))
 
-or_not_itself : (x b c : Bool) → x ≡ b → c ≡ not b → (x || c) ≡ true
-or_not_itself true b c e f = refl
-or_not_itself false b c e f = f ∙ ap not (sym e)
-
-or_denied : (x b y : Bool) → x ≡ not b → (b ≡ true → y ≡ true) → (x || (y || false)) ≡ true
-or_denied x true y e f = or_right x (y || false) (or_left y false (f refl))
-or_denied x false y e f = or_left x (y || false) e
-
-and_holds : (v : Valuation) (atoms : List Atom) (clause : List Lit) (l : Lit) (ls : List Lit) → is_table atoms ≡ true
-    → atom_of atoms l ≡ Some (and_atom ls) → is_gate_of atoms clause l (Some (and_atom ls)) ≡ true
-    → clause_holds v atoms clause ≡ true
-and_holds v atoms clause l ls table there h = step l.positive refl h
-  where
-    step : (s : Bool) → l.positive ≡ s
-        → (if s then is_set_of clause (l ∷ map negation ls)
-        else list_any (λ m. is_set_of clause (l ∷ m ∷ [])) ls) ≡ true
-        → clause_holds v atoms clause ≡ true
-    step true sign set =
-        let ts = truths_of v atoms in
-        let b = list_all (literal_holds ts) ls in
-        any_of_set (literal_holds ts) clause (l ∷ map negation ls) set
-        (or_not_itself (literal_holds ts l) b (list_any (literal_holds ts) (map negation ls))
-        (literal_holds-and v atoms l ls table there ∙ if_positive l.positive b sign) (any_negated ts ls))
-    step false sign some =
-        let ts = truths_of v atoms in
-        let b = list_all (literal_holds ts) ls in
-        let m = any_among (λ m. is_set_of clause (l ∷ m ∷ [])) ls some in
-        any_of_set (literal_holds ts) clause (l ∷ m.literal ∷ []) m.passes
-        (or_denied (literal_holds ts l) b (literal_holds ts m.literal)
-        (literal_holds-and v atoms l ls table there ∙ if_negative l.positive b (ap not sign))
-        (λ all. all_among (literal_holds ts) ls m.literal all m.among))
-
 -- Equivalences.
-
-iff : Bool → Bool → Bool
-iff a b = if a then b else not b
-
-both_or : (x a b : Bool) → x ≡ iff a b → (x || (a || (b || false))) ≡ true
-unfolding iff
-both_or x true b e = or_right x true refl
-both_or x false true e = or_right x true refl
-both_or x false false e = or_left x false e
-
-neither_or : (x a b c d : Bool) → x ≡ iff a b → c ≡ not a → d ≡ not b → (x || (c || (d || false))) ≡ true
-unfolding iff
-neither_or x true true c d e f g = or_left x (c || (d || false)) e
-neither_or x true false c d e f g = or_right x (c || (d || false)) (or_right c (d || false) (or_left d false g))
-neither_or x false b c d e f g = or_right x (c || (d || false)) (or_left c (d || false) f)
-
-second_or : (x a b c : Bool) → x ≡ not (iff a b) → c ≡ not a → (x || (c || (b || false))) ≡ true
-unfolding iff
-second_or x true true c e f = or_right x (c || true) (or_right c true refl)
-second_or x true false c e f = or_left x (c || false) e
-second_or x false b c e f = or_right x (c || (b || false)) (or_left c (b || false) f)
-
-first_or : (x a b d : Bool) → x ≡ not (iff a b) → d ≡ not b → (x || (a || (d || false))) ≡ true
-unfolding iff
-first_or x true b d e g = or_right x true refl
-first_or x false true d e g = or_left x (d || false) e
-first_or x false false d e g = or_right x (d || false) (or_left d false g)
 
 literal_holds-iff : (v : Valuation) (atoms : List Atom) (l a b : Lit) → is_table atoms ≡ true
     → atom_of atoms l ≡ Some (iff_atom a b)
-    → literal_holds (truths_of v atoms) l ≡ (let t = iff (literal_holds (truths_of v atoms) a)
+    → literal_holds (truths_of v atoms) l ≡ (let t = are_alike (literal_holds (truths_of v atoms) a)
     (literal_holds (truths_of v atoms) b) in
     if l.positive then t else not t)
-unfolding iff
 literal_holds-iff v atoms l a b table there =
     let ts = truths_of v atoms in
     let parts = and_parts (nat_lt a.atom l.atom) (nat_lt b.atom l.atom) (names_at atoms l (iff_atom a b) table there) in
@@ -130,37 +70,36 @@ literal_holds-iff v atoms l a b table there =
     (literal_holds-take ts l.atom a (ltb-true a.atom l.atom parts.0) within)
     (literal_holds-take ts l.atom b (ltb-true b.atom l.atom parts.1) within)
 
-iff_holds : (v : Valuation) (atoms : List Atom) (clause : List Lit) (l a b : Lit) → is_table atoms ≡ true
-    → atom_of atoms l ≡ Some (iff_atom a b) → is_gate_of atoms clause l (Some (iff_atom a b)) ≡ true
+-- What an atom says of its literals is so.
+
+alike : (a b : Bool) → a ≡ b → are_alike a b ≡ true
+alike true b e = sym e
+alike false b e = ap not (sym e)
+
+as_it_says : (v : Valuation) (atoms : List Atom) (g : ℕ) (atom : Atom) → is_table atoms ≡ true
+    → slice_get atoms g ≡ Some atom → is_as_it_says (truths_of v atoms) g atom ≡ true
+as_it_says v atoms g (and_atom ls) table there =
+    alike (literal_holds (truths_of v atoms) (gate g true)) (list_all (literal_holds (truths_of v atoms)) ls)
+    (literal_holds-and v atoms (gate g true) ls table there)
+as_it_says v atoms g (iff_atom a b) table there =
+    alike (literal_holds (truths_of v atoms) (gate g true))
+    (are_alike (literal_holds (truths_of v atoms) a) (literal_holds (truths_of v atoms) b))
+    (literal_holds-iff v atoms (gate g true) a b table there)
+as_it_says v atoms g (bool_atom serial) table there = refl
+as_it_says v atoms g (in_atom ps r) table there = refl
+as_it_says v atoms g (le_atom x k) table there = refl
+as_it_says v atoms g (sum_atom k ss) table there = refl
+
+-- a clause of an atom
+said_holds : (v : Valuation) (atoms : List Atom) (clause : List Lit) (g : ℕ) (atom : Atom) → is_table atoms ≡ true
+    → slice_get atoms g ≡ Some atom → list_any (is_set_of clause) (clauses_of g atom) ≡ true
     → clause_holds v atoms clause ≡ true
-iff_holds v atoms clause l a b table there h = step l.positive refl h
-  where
-    step : (s : Bool) → l.positive ≡ s
-        → (if s then is_set_of clause (l ∷ a ∷ b ∷ []) || is_set_of clause (l ∷ negation a ∷ negation b ∷ [])
-        else is_set_of clause (l ∷ negation a ∷ b ∷ []) || is_set_of clause (l ∷ a ∷ negation b ∷ [])) ≡ true
-        → clause_holds v atoms clause ≡ true
-    step true sign sets =
-        let ts = truths_of v atoms in
-        let p = literal_holds ts in
-        let t = iff (p a) (p b) in
-        let e = literal_holds-iff v atoms l a b table there ∙ if_positive l.positive t sign in
-        elim (or_cases (is_set_of clause (l ∷ a ∷ b ∷ [])) (is_set_of clause (l ∷ negation a ∷ negation b ∷ [])) sets) [
-          | inl set ↦ any_of_set p clause (l ∷ a ∷ b ∷ []) set (both_or (p l) (p a) (p b) e)
-          | inr set ↦ any_of_set p clause (l ∷ negation a ∷ negation b ∷ []) set
-              (neither_or (p l) (p a) (p b) (p (negation a)) (p (negation b)) e (literal_holds-negation ts a)
-              (literal_holds-negation ts b))
-        ]
-    step false sign sets =
-        let ts = truths_of v atoms in
-        let p = literal_holds ts in
-        let t = iff (p a) (p b) in
-        let e = literal_holds-iff v atoms l a b table there ∙ if_negative l.positive t (ap not sign) in
-        elim (or_cases (is_set_of clause (l ∷ negation a ∷ b ∷ [])) (is_set_of clause (l ∷ a ∷ negation b ∷ [])) sets) [
-          | inl set ↦ any_of_set p clause (l ∷ negation a ∷ b ∷ []) set
-              (second_or (p l) (p a) (p b) (p (negation a)) e (literal_holds-negation ts a))
-          | inr set ↦ any_of_set p clause (l ∷ a ∷ negation b ∷ []) set
-              (first_or (p l) (p a) (p b) (p (negation b)) e (literal_holds-negation ts b))
-        ]
+said_holds v atoms clause g atom table there h =
+    let ts = truths_of v atoms in
+    let c = find_any (is_set_of clause) (clauses_of g atom) h in
+    any_of_set (literal_holds ts) clause c.element c.passes
+    (all_contained (list_any (literal_holds ts)) (clauses_of g atom) c.element
+    (clauses_say ts g atom ∙ as_it_says v atoms g atom table there) c.within)
 
 -- Lengths.
 
@@ -213,24 +152,30 @@ link_holds laws v atoms clause l serial k words there h =
     any_of_set (literal_holds (truths_of v atoms)) clause (l ∷ m.element ∷ []) rest.1
     (short_holds laws v atoms l m.element serial k (atom_of atoms m.element) words there refl parts.0 rest.0)
 
+linked_holds : RegexLaws → (v : Valuation) (atoms : List Atom) (clause : List Lit) (l : Lit) (atom : Atom)
+    → HasWords v → atom_of atoms l ≡ Some atom → is_link_of atoms clause l atom ≡ true
+    → clause_holds v atoms clause ≡ true
+linked_holds laws v atoms clause l (le_atom (length_of serial) k) words there h =
+    link_holds laws v atoms clause l serial k words there h
+linked_holds laws v atoms clause l _ words there h = absurd (false≢true h)
+
 gate_of_holds : RegexLaws → (v : Valuation) (atoms : List Atom) (clause : List Lit) (l : Lit) (o : Option Atom)
     → is_table atoms ≡ true → HasWords v → atom_of atoms l ≡ o → is_gate_of atoms clause l o ≡ true
     → clause_holds v atoms clause ≡ true
-gate_of_holds laws v atoms clause l (Some (and_atom ls)) table words there h =
-    and_holds v atoms clause l ls table there h
-gate_of_holds laws v atoms clause l (Some (iff_atom a b)) table words there h =
-    iff_holds v atoms clause l a b table there h
-gate_of_holds laws v atoms clause l (Some (le_atom (length_of serial) k)) table words there h =
-    link_holds laws v atoms clause l serial k words there h
-gate_of_holds laws v atoms clause l _ table words there h = absurd (false≢true h)
+gate_of_holds laws v atoms clause l None table words there h = absurd (false≢true h)
+gate_of_holds laws v atoms clause l (Some atom) table words there h =
+    elim (or_cases (list_any (is_set_of clause) (clauses_of l.atom atom)) (is_link_of atoms clause l atom) h) [
+      | inl said ↦ said_holds v atoms clause l.atom atom table there said
+      | inr linked ↦ linked_holds laws v atoms clause l atom words there linked
+    ]
 
 gate_holds : RegexLaws → GatesHold
 gate_holds laws v atoms clause table words h = elim (or_cases (has_both_signs clause) _ h) [
   | inl signs ↦
       let l = any_among (λ l. is_among clause (negation l)) clause signs in
       any_of_both (truths_of v atoms) clause l.literal l.among l.passes
-  | inr gate ↦
-      let l = find_any _ clause gate in
+  | inr of_one ↦
+      let l = find_any _ clause of_one in
       gate_of_holds laws v atoms clause l.element (atom_of atoms l.element) table words refl l.passes
 ]
 

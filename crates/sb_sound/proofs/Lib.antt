@@ -15,6 +15,7 @@ mod DeadForms
 mod ExpansionForms
 mod BoundOrders
 mod ShortWords
+mod GateSayings
 mod GateFacts
 mod MembershipFacts
 mod PassFacts
