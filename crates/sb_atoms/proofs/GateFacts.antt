@@ -1,25 +1,25 @@
 -- The clauses of gates are gates, in order.
-use Rattle.std.proofs.Common.{◌≡◌, ℕ, ◌+◌, ◌<◌, Bool, true, false, ◌||◌, if◌then◌else◌, List, [], ◌∷◌, ◌++◌, length, map, take, get_or, slice_get, Some, option_map, refl, sym, ap, ◌∙◌, append_assoc}
-use Rattle.std.specs.List.{list_all, list_any}
+use Rattle.std.proofs.Common.{◌≡◌, ℕ, ◌+◌, ◌<◌, Bool, true, false, ◌||◌, if◌then◌else◌, List, [], ◌∷◌, ◌++◌, length, take, get_or, option_map, refl, sym, ap, ap₂, subst, ◌∙◌}
+use Rattle.std.specs.List.{list_all, list_any, flat_map, Contains}
 use Rattle.std.specs.Ordering.{match_ordering}
 use Rattle.std.specs.declared.cmp.Ordering.{Ordering}
 use Rattle.std.specs.declared.cmp.Ordering.TheVariants.{Less, Equal, Greater}
-use Rattle.std.proofs.lemmas.Bool.{and_parts, and_from, or_left, or_right}
-use Rattle.std.proofs.lemmas.List.{append-nil, take_more}
+use Rattle.std.proofs.lemmas.Bool.{and_parts, and_from}
+use Rattle.std.proofs.lemmas.List.{flat_map_more, take_more}
 use Rattle.std.proofs.lemmas.List.Folds.{list_all-append}
-use Rattle.std.proofs.lemmas.Option.{slice_get-map, get_or_from_slice_get}
+use Rattle.std.proofs.lemmas.Option.{slice_get-map, slice_get-get_or, get_or_from_slice_get}
 use Rattle.sb_facts.proofs.CallerLemmas.{or_swap}
 use Rattle.sb_lang.specs.Regex.{Regex}
 use Rattle.sb_lit.specs.declared.clause.Lit.{Lit}
-use Rattle.sb_lit.specs.Clauses.{are_ascending, are_among, is_among, is_same_literal, literal_order, negation}
-use Rattle.sb_lit.proofs.CallerLemmas.{is_same_literal-self, all_from_among}
-use Rattle.sb_rulebook.specs.Atoms.{Atom, AtomOver, bool_atom, in_atom, le_atom, sum_atom, and_atom, iff_atom}
-use Rattle.sb_rulebook.specs.Gates.{atom_of, has_both_signs, is_gate, is_gate_of, is_set_of}
+use Rattle.sb_lit.specs.Clauses.{are_ascending, are_among, is_among, is_same_literal, literal_order}
+use Rattle.sb_lit.proofs.CallerLemmas.{all_from_among}
+use Rattle.sb_rulebook.specs.Atoms.{AtomOver, bool_atom, in_atom, le_atom, sum_atom, and_atom, iff_atom}
+use Rattle.sb_rulebook.specs.Gates.{clauses_of, is_gate, is_set_of}
 use Rattle.sb_rulebook.specs.Translation.{in_order, with_literal}
+use Rattle.sb_sound.proofs.CallerLemmas.{same_literal, all_from, said_gate}
 use Rattle.sb_atoms.specs.Numbered.{Names, over, atoms_in}
+use Rattle.sb_atoms.specs.GateClauses.{atom_at, clause_of, gate_clauses, is_trivial}
 use Rattle.sb_atoms.proofs.Ordered.{order_ascends}
-use Rattle.sb_sound.proofs.CallerLemmas.{same_literal, any_at}
-use Rattle.sb_atoms.specs.GateClauses.{atom_at, clause_of, clauses_of, gate, is_trivial, parts_of, two_of}
 
 -- Literals in order are the same literals.
 
@@ -53,139 +53,57 @@ set_of_order ls =
     (all_from_among (is_among ls) (in_order ls) (λ l h. sym (among_order ls l) ∙ h))
     (all_from_among (is_among (in_order ls)) ls (λ l h. among_order ls l ∙ h))
 
--- One clause.
+-- What holds of each clause in order holds of those that are kept.
 
-clause_all : (test : List Lit → Bool) (ls : List Lit) → test (in_order ls) ≡ true
-    → list_all test (clause_of ls) ≡ true
-clause_all test ls h = step (is_trivial (in_order ls))
+pub all_ordered : (test : List Lit → Bool) (cs : List (List Lit)) → list_all (λ c. test (in_order c)) cs ≡ true
+    → list_all test (flat_map clause_of cs) ≡ true
+all_ordered test [] h = refl
+all_ordered test (c ∷ cs) h =
+    let p = and_parts (test (in_order c)) (list_all (λ d. test (in_order d)) cs) h in
+    list_all-append test (clause_of c) (flat_map clause_of cs)
+    ∙ and_from (list_all test (clause_of c)) (list_all test (flat_map clause_of cs)) (one (is_trivial (in_order c)) p.0)
+    (all_ordered test cs p.1)
   where
-    step : (b : Bool) → list_all test (if b then [] else in_order ls ∷ []) ≡ true
-    step true = refl
-    step false = and_from (test (in_order ls)) true h refl
+    one : (b : Bool) → test (in_order c) ≡ true → list_all test (if b then [] else in_order c ∷ []) ≡ true
+    one true is = refl
+    one false is = and_from (test (in_order c)) true is refl
 
--- the clause with the gate's literal is a gate, by that literal
-by_gate : (atoms : List Atom) (l : Lit) (ls : List Lit) (a : Atom) → atom_of atoms l ≡ Some a
-    → is_gate_of atoms (in_order (l ∷ ls)) l (Some a) ≡ true → is_gate atoms (in_order (l ∷ ls)) ≡ true
-by_gate atoms l ls a there h =
-    or_right (has_both_signs (in_order (l ∷ ls))) _
-    (any_at (λ k. is_gate_of atoms (in_order (l ∷ ls)) k (atom_of atoms k)) (in_order (l ∷ ls)) l
-    (among_order (l ∷ ls) l ∙ or_left (is_same_literal l l) (is_among ls l) (is_same_literal-self l))
-    (ap (is_gate_of atoms (in_order (l ∷ ls)) l) there ∙ h))
+pub all_ascend : (cs : List (List Lit)) → list_all are_ascending (flat_map clause_of cs) ≡ true
+all_ascend cs = all_ordered are_ascending cs (all_from (λ c. are_ascending (in_order c)) cs (λ c among. order_ascends c))
 
--- Of a conjunction.
+-- The clauses of an atom are the same over the regexes.
 
-parts_gates : (atoms : List Atom) (g : ℕ) (ls ms : List Lit) → slice_get atoms g ≡ Some (and_atom ls)
-    → are_among ms ls ≡ true → list_all (is_gate atoms) (parts_of g ms) ≡ true
-parts_gates atoms g ls [] there h = refl
-parts_gates atoms g ls (m ∷ ms) there h =
-    let p = and_parts (is_among ls m) (are_among ms ls) h in
-    list_all-append (is_gate atoms) (clause_of (gate g false ∷ m ∷ [])) (parts_of g ms)
-    ∙ and_from (list_all (is_gate atoms) (clause_of (gate g false ∷ m ∷ [])))
-    (list_all (is_gate atoms) (parts_of g ms))
-    (clause_all (is_gate atoms) (gate g false ∷ m ∷ []) (by_gate atoms (gate g false) (m ∷ []) (and_atom ls) there
-    (any_at (λ k. is_set_of (in_order (gate g false ∷ m ∷ [])) (gate g false ∷ k ∷ [])) ls m p.0
-    (set_of_order (gate g false ∷ m ∷ [])))))
-    (parts_gates atoms g ls ms there p.1)
-
-themselves : (ls : List Lit) → are_among ls ls ≡ true
-themselves ls = all_from_among (is_among ls) ls (λ l h. h)
-
-and_gates : (atoms : List Atom) (g : ℕ) (ls : List Lit) → slice_get atoms g ≡ Some (and_atom ls)
-    → list_all (is_gate atoms) (parts_of g ls ++ clause_of (gate g true ∷ map negation ls)) ≡ true
-and_gates atoms g ls there =
-    list_all-append (is_gate atoms) (parts_of g ls) (clause_of (gate g true ∷ map negation ls))
-    ∙ and_from (list_all (is_gate atoms) (parts_of g ls)) _
-    (parts_gates atoms g ls ls there (themselves ls))
-    (clause_all (is_gate atoms) (gate g true ∷ map negation ls)
-    (by_gate atoms (gate g true) (map negation ls) (and_atom ls) there
-    (set_of_order (gate g true ∷ map negation ls))))
-
--- Of an equivalence.
-
-four : {X : Type 0} (test : X → Bool) (a b c d : List X) → list_all test a ≡ true → list_all test b ≡ true
-    → list_all test c ≡ true → list_all test d ≡ true → list_all test (a ++ (b ++ (c ++ d))) ≡ true
-four test a b c d p q r s =
-    list_all-append test a (b ++ (c ++ d))
-    ∙ and_from (list_all test a) _ p
-    (list_all-append test b (c ++ d)
-    ∙ and_from (list_all test b) _ q (list_all-append test c d ∙ and_from (list_all test c) (list_all test d) r s))
-
-iff_gates : (atoms : List Atom) (g : ℕ) (l m : Lit) → slice_get atoms g ≡ Some (iff_atom l m)
-    → list_all (is_gate atoms) (two_of g l m) ≡ true
-iff_gates atoms g l m there =
-    four (is_gate atoms) (clause_of (gate g true ∷ l ∷ m ∷ []))
-    (clause_of (gate g true ∷ negation l ∷ negation m ∷ [])) (clause_of (gate g false ∷ negation l ∷ m ∷ []))
-    (clause_of (gate g false ∷ l ∷ negation m ∷ []))
-    (clause_all (is_gate atoms) (gate g true ∷ l ∷ m ∷ [])
-    (by_gate atoms (gate g true) (l ∷ m ∷ []) (iff_atom l m) there
-    (or_left _ _ (set_of_order (gate g true ∷ l ∷ m ∷ [])))))
-    (clause_all (is_gate atoms) (gate g true ∷ negation l ∷ negation m ∷ [])
-    (by_gate atoms (gate g true) (negation l ∷ negation m ∷ []) (iff_atom l m) there
-    (or_right _ _ (set_of_order (gate g true ∷ negation l ∷ negation m ∷ [])))))
-    (clause_all (is_gate atoms) (gate g false ∷ negation l ∷ m ∷ [])
-    (by_gate atoms (gate g false) (negation l ∷ m ∷ []) (iff_atom l m) there
-    (or_left _ _ (set_of_order (gate g false ∷ negation l ∷ m ∷ [])))))
-    (clause_all (is_gate atoms) (gate g false ∷ l ∷ negation m ∷ [])
-    (by_gate atoms (gate g false) (l ∷ negation m ∷ []) (iff_atom l m) there
-    (or_right _ _ (set_of_order (gate g false ∷ l ∷ negation m ∷ [])))))
-
--- Of any atom.
+clauses_over : (rs : List Regex) (g : ℕ) (a : AtomOver ℕ) → clauses_of g (over rs a) ≡ clauses_of g a
+clauses_over rs g (bool_atom serial) = refl
+clauses_over rs g (in_atom ps r) = refl
+clauses_over rs g (le_atom x k) = refl
+clauses_over rs g (sum_atom k ss) = refl
+clauses_over rs g (and_atom ls) = refl
+clauses_over rs g (iff_atom l m) = refl
 
 pub all_gates : (rs : List Regex) (atoms : List (AtomOver ℕ)) (g : ℕ) (a : AtomOver ℕ) → Names atoms g a
-    → list_all (is_gate (atoms_in rs atoms)) (clauses_of g a) ≡ true
-all_gates rs atoms g (bool_atom serial) h = refl
-all_gates rs atoms g (in_atom ps r) h = refl
-all_gates rs atoms g (le_atom x k) h = refl
-all_gates rs atoms g (sum_atom k ss) h = refl
-all_gates rs atoms g (and_atom ls) h =
-    and_gates (atoms_in rs atoms) g ls (slice_get-map (over rs) atoms g ∙ ap (option_map (over rs)) h)
-all_gates rs atoms g (iff_atom l m) h =
-    iff_gates (atoms_in rs atoms) g l m (slice_get-map (over rs) atoms g ∙ ap (option_map (over rs)) h)
-
-one_ascends : (ls : List Lit) → list_all are_ascending (clause_of ls) ≡ true
-one_ascends ls = clause_all are_ascending ls (order_ascends ls)
-
-parts_ascend : (g : ℕ) (ls : List Lit) → list_all are_ascending (parts_of g ls) ≡ true
-parts_ascend g [] = refl
-parts_ascend g (l ∷ ls) =
-    list_all-append are_ascending (clause_of (gate g false ∷ l ∷ [])) (parts_of g ls)
-    ∙ and_from (list_all are_ascending (clause_of (gate g false ∷ l ∷ []))) (list_all are_ascending (parts_of g ls))
-    (one_ascends (gate g false ∷ l ∷ [])) (parts_ascend g ls)
-
-pub all_ascend : (g : ℕ) (a : AtomOver ℕ) → list_all are_ascending (clauses_of g a) ≡ true
-all_ascend g (bool_atom serial) = refl
-all_ascend g (in_atom ps r) = refl
-all_ascend g (le_atom x k) = refl
-all_ascend g (sum_atom k ss) = refl
-all_ascend g (and_atom ls) =
-    list_all-append are_ascending (parts_of g ls) (clause_of (gate g true ∷ map negation ls))
-    ∙ and_from (list_all are_ascending (parts_of g ls)) _ (parts_ascend g ls) (one_ascends (gate g true ∷ map negation ls))
-all_ascend g (iff_atom l m) =
-    four are_ascending (clause_of (gate g true ∷ l ∷ m ∷ [])) (clause_of (gate g true ∷ negation l ∷ negation m ∷ []))
-    (clause_of (gate g false ∷ negation l ∷ m ∷ [])) (clause_of (gate g false ∷ l ∷ negation m ∷ []))
-    (one_ascends (gate g true ∷ l ∷ m ∷ [])) (one_ascends (gate g true ∷ negation l ∷ negation m ∷ []))
-    (one_ascends (gate g false ∷ negation l ∷ m ∷ [])) (one_ascends (gate g false ∷ l ∷ negation m ∷ []))
+    → list_all (is_gate (atoms_in rs atoms)) (gate_clauses g a) ≡ true
+all_gates rs atoms g a h =
+    all_ordered (is_gate (atoms_in rs atoms)) (clauses_of g a)
+    (all_from (λ c. is_gate (atoms_in rs atoms) (in_order c)) (clauses_of g a) (λ c among.
+    said_gate (atoms_in rs atoms) (in_order c) g (over rs a) c
+    (slice_get-map (over rs) atoms g ∙ ap (option_map (over rs)) h)
+    (subst (λ (cs : List (List Lit)). Contains cs c) (sym (clauses_over rs g a)) among) (set_of_order c)))
 
 -- What is put.
-
-pub parts_more : (g : ℕ) (ls : List Lit) (l : Lit)
-    → parts_of g (ls ++ l ∷ []) ≡ parts_of g ls ++ clause_of (gate g false ∷ l ∷ [])
-parts_more g [] l = append-nil (clause_of (gate g false ∷ l ∷ []))
-parts_more g (m ∷ ms) l =
-    ap (λ (cs : List (List Lit)). clause_of (gate g false ∷ m ∷ []) ++ cs) (parts_more g ms l)
-    ∙ sym (append_assoc (clause_of (gate g false ∷ m ∷ [])) (parts_of g ms) (clause_of (gate g false ∷ l ∷ [])))
 
 pub names_at : (atoms : List (AtomOver ℕ)) (g : ℕ) (a : AtomOver ℕ) → Names atoms g a → atom_at atoms g ≡ a
 names_at atoms g a h = get_or_from_slice_get atoms g a (bool_atom 0) h
 
--- one more literal of a conjunction
-pub parts_step : (g : ℕ) (ls : List Lit) (i : ℕ) (d h : Lit) (old now new : List (List Lit)) (pair : List Lit)
-    → i < length ls → h ≡ gate g false → pair ≡ h ∷ get_or ls i d ∷ [] → now ≡ old ++ parts_of g (take i ls)
-    → new ≡ now ++ clause_of pair → new ≡ old ++ parts_of g (take (i + 1) ls)
-parts_step g ls i d h old now new pair within is whole before put =
+pub names_there : (atoms : List (AtomOver ℕ)) (g : ℕ) → g < length atoms → Names atoms g (atom_at atoms g)
+names_there atoms g low = slice_get-get_or atoms g (bool_atom 0) low
+
+-- one more clause of those that are said
+pub ordered_step : (cs : List (List Lit)) (i : ℕ) (d c : List Lit) (now new : List (List Lit)) → i < length cs
+    → c ≡ get_or cs i d → now ≡ flat_map clause_of (take i cs) → new ≡ now ++ clause_of c
+    → new ≡ flat_map clause_of (take (i + 1) cs)
+ordered_step cs i d c now new within is before put =
     put
-    ∙ ap (λ (p : List Lit). now ++ clause_of p) (whole ∙ ap (λ (l : Lit). l ∷ get_or ls i d ∷ []) is)
-    ∙ ap (λ (cs : List (List Lit)). cs ++ clause_of (gate g false ∷ get_or ls i d ∷ [])) before
-    ∙ append_assoc old (parts_of g (take i ls)) (clause_of (gate g false ∷ get_or ls i d ∷ []))
-    ∙ ap (λ (cs : List (List Lit)). old ++ cs)
-    (sym (ap (parts_of g) (take_more ls i d within) ∙ parts_more g (take i ls) (get_or ls i d)))
+    ∙ ap₂ (λ (all : List (List Lit)) (ls : List Lit). all ++ clause_of ls) before is
+    ∙ flat_map_more clause_of [] (take i cs) (get_or cs i d)
+    ∙ ap (flat_map clause_of) (sym (take_more cs i d within))

@@ -1,17 +1,13 @@
--- The clauses of an atom that speaks of literals.
-use Rattle.std.specs.Prelude.{ℕ, Bool, true, false, not, ◌||◌, ◌==◌, if◌then◌else◌, List, [], ◌∷◌, ◌++◌, map, get_or}
-use Rattle.std.specs.List.{list_all, list_any}
+-- The clauses of an atom that speaks of literals, as a search takes them.
+use Rattle.std.specs.Prelude.{ℕ, Bool, true, false, ◌||◌, ◌==◌, if◌then◌else◌, List, [], ◌∷◌, get_or}
+use Rattle.std.specs.List.{flat_map}
 use Rattle.sb_lit.specs.declared.clause.Lit.{Lit}
-use Rattle.sb_lit.specs.Clauses.{negation}
-use Rattle.sb_rulebook.specs.Atoms.{AtomOver, bool_atom, and_atom, iff_atom, literal_holds}
+use Rattle.sb_rulebook.specs.Atoms.{AtomOver, bool_atom}
+use Rattle.sb_rulebook.specs.Gates.{clauses_of}
 use Rattle.sb_rulebook.specs.Translation.{in_order}
 
 abbrev pub atom_at : List (AtomOver ℕ) → ℕ → AtomOver ℕ
 atom_at atoms i = get_or atoms i (bool_atom 0)
-
--- the literal of the gate
-abbrev pub gate : ℕ → Bool → Lit
-gate atom positive = record { atom = atom; positive = positive }
 
 -- the first of the literals is of this atom
 abbrev pub begins_with : ℕ → List Lit → Bool
@@ -27,35 +23,6 @@ is_trivial (l ∷ ls) = begins_with l.atom ls || is_trivial ls
 abbrev pub clause_of : List Lit → List (List Lit)
 clause_of ls = if is_trivial (in_order ls) then [] else in_order ls ∷ []
 
--- where the conjunction is true each literal is
-abbrev pub parts_of : ℕ → List Lit → List (List Lit)
-parts_of atom [] = []
-parts_of atom (l ∷ ls) = clause_of (gate atom false ∷ l ∷ []) ++ parts_of atom ls
-
--- where the equivalence is true both are true, or both false, and where it is false they are not
-abbrev pub two_of : ℕ → Lit → Lit → List (List Lit)
-two_of atom l m =
-    clause_of (gate atom true ∷ l ∷ m ∷ [])
-    ++ (clause_of (gate atom true ∷ negation l ∷ negation m ∷ [])
-    ++ (clause_of (gate atom false ∷ negation l ∷ m ∷ []) ++ clause_of (gate atom false ∷ l ∷ negation m ∷ [])))
-
-abbrev pub clauses_of : ℕ → AtomOver ℕ → List (List Lit)
-clauses_of atom (and_atom ls) = parts_of atom ls ++ clause_of (gate atom true ∷ map negation ls)
-clauses_of atom (iff_atom l m) = two_of atom l m
-clauses_of atom _ = []
-
--- Both are true, or both false.
-abbrev pub are_alike : Bool → Bool → Bool
-are_alike a b = if a then b else not b
-
--- each clause is true where the atoms have these truths
-abbrev pub all_hold : List Bool → List (List Lit) → Bool
-all_hold truths clauses = list_all (list_any (literal_holds truths)) clauses
-
--- the atom is as true as what it says of its literals
-abbrev pub is_as_it_says : List Bool → ℕ → AtomOver ℕ → Bool
-is_as_it_says truths atom (and_atom ls) =
-    are_alike (literal_holds truths (gate atom true)) (list_all (literal_holds truths) ls)
-is_as_it_says truths atom (iff_atom l m) =
-    are_alike (literal_holds truths (gate atom true)) (are_alike (literal_holds truths l) (literal_holds truths m))
-is_as_it_says truths atom _ = true
+-- the clauses of an atom so
+abbrev pub gate_clauses : ℕ → AtomOver ℕ → List (List Lit)
+gate_clauses atom a = flat_map clause_of (clauses_of atom a)

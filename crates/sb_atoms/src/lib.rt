@@ -21,7 +21,7 @@ mod translate;
 mod truth;
 
 pub use atom::{Atom, AtomId};
-pub use gates::gate_clauses;
+pub use gates::{gate_clauses, said_clauses};
 pub use order::in_order;
 pub use table::Atoms;
 pub use truth::eval;

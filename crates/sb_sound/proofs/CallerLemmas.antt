@@ -7,6 +7,7 @@ pub use Rattle.sb_sound.proofs.GateLiterals.{same_literal}
 pub use Rattle.sb_sound.proofs.GateSayings.{clauses_say}
 pub use Rattle.sb_sound.proofs.GateForms.{said_gate}
 pub use Rattle.sb_sound.proofs.ClauseSets.{any_at, literal_holds-negation, any_of_both, any_negated}
+pub use Rattle.sb_sound.proofs.PassFacts.{all_from}
 pub use Rattle.sb_sound.proofs.TableFacts.{IsTruthAt, truth_at_place, truths_from-front, names_from, all_in_front, literal_holds-take}
 pub use Rattle.sb_sound.proofs.TableGrowth.{truths_from-append, length-truths_of, any_holds-front}
 pub use Rattle.sb_sound.proofs.SoundLevels.{kept_at-up_to}

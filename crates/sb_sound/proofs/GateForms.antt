@@ -1,5 +1,5 @@
 -- Which clauses are gates.
-use Rattle.std.proofs.Common.{◌≡◌, ℕ, ℤ, pos, negsuc, Bool, true, false, not, ◌&&◌, ◌||◌, if◌then◌else◌, List, [], ◌∷◌, slice_get, Option, Some, None, refl, ap, subst, sym, ◌∙◌, inl, inr}
+use Rattle.std.proofs.Common.{◌≡◌, ℕ, ℤ, pos, negsuc, true, not, ◌&&◌, List, [], ◌∷◌, slice_get, Option, Some, None, refl, ap, subst, sym, ◌∙◌, inl, inr}
 use Rattle.std.specs.List.{list_any, Contains}
 use Rattle.std.proofs.lemmas.Bool.{and_parts, and_from, or_cases, or_left, or_right, false≢true, eqb-true}
 use Rattle.sb_lit.specs.declared.clause.Lit.{Lit}
@@ -103,14 +103,13 @@ module _ (atoms : List Atom) (clause : List Lit) where
         let l = of_sign positive o in
         let k = of_sign (not positive) m in
         from_literal l (le_atom (length_of serial) (pos n)) (first_there clause l (k ∷ []) set) there
-        (or_right (list_any (is_set_of clause) (clauses_of l.atom (le_atom (length_of serial) (pos n)))) _
         (any_of (λ m. is_short_membership serial (pos n) (atom_of atoms m)
         && (differ_in_sign l m && is_set_of clause (l ∷ m ∷ []))) clause k (second_there clause l k [] set)
         (and_from (is_short_membership serial (pos n) (atom_of atoms k))
         (differ_in_sign l k && is_set_of clause (l ∷ k ∷ []))
         (ap (is_short_membership serial (pos n)) other ∙ atom_itself apart (short_membership serial n))
         (and_from (differ_in_sign l k) (is_set_of clause (l ∷ k ∷ [])) (signs_differ positive)
-        (set_from clause (l ∷ k ∷ []) set)))))
+        (set_from clause (l ∷ k ∷ []) set))))
 
 pub gates_exact : OrderTellsApart → GatesAreExact
 gates_exact apart atoms clause = (gate_form atoms clause apart, from_form atoms clause apart)

@@ -1,8 +1,8 @@
 use Rattle.std.proofs.Common.{[], ◌∷◌, true}
-use Rattle.sb_atoms.specs.GateClauses.{gate}
 use Rattle.sb_lit.specs.Clauses.{negation}
+use Rattle.sb_rulebook.specs.Gates.{gate}
 use Rattle.sb_atoms.proofs.Gathering.{mapped-more}
-use Rattle.sb_atoms.proofs.gates.put_whole.Goals as goal
+use Rattle.sb_atoms.proofs.gates.say_whole.Goals as goal
 
 pub loop-literal-preserved : goal.loop-literal-preserved
 loop-literal-preserved c =
