@@ -18,6 +18,8 @@ pub use Rattle.sb_atoms.proofs.Ordered.{order_ascends, below_in_order, below_neg
 pub use Rattle.sb_atoms.proofs.GivenValues.{asked_given, asked_value, membership_given}
 -- together the clauses of a gate say what the atom does
 pub use Rattle.sb_atoms.proofs.Saying.{all_say}
+-- the clauses of an atom are the same over the regexes
+pub use Rattle.sb_atoms.proofs.GateFacts.{clauses_over}
 
 pub no_atoms : (n : ℕ) → HaveRegexesBelow n []
 no_atoms n i a h = absurd (nothing i a h)

@@ -1,5 +1,5 @@
 -- The clauses of gates are gates, in order.
-use Rattle.std.proofs.Common.{◌≡◌, ℕ, ◌+◌, ◌<◌, Bool, true, false, ◌||◌, if◌then◌else◌, List, [], ◌∷◌, ◌++◌, length, take, get_or, option_map, refl, sym, ap, ap₂, subst, ◌∙◌}
+use Rattle.std.proofs.Common.{◌≡◌, ℕ, ◌+◌, ◌<◌, Bool, true, false, ◌||◌, if◌then◌else◌, List, [], ◌∷◌, ◌++◌, length, map, take, get_or, option_map, refl, sym, ap, ap₂, subst, ◌∙◌}
 use Rattle.std.specs.List.{list_all, list_any, flat_map, Contains}
 use Rattle.std.specs.Ordering.{match_ordering}
 use Rattle.std.specs.declared.cmp.Ordering.{Ordering}
@@ -14,11 +14,12 @@ use Rattle.sb_lit.specs.declared.clause.Lit.{Lit}
 use Rattle.sb_lit.specs.Clauses.{are_ascending, are_among, is_among, is_same_literal, literal_order}
 use Rattle.sb_lit.proofs.CallerLemmas.{all_from_among}
 use Rattle.sb_rulebook.specs.Atoms.{AtomOver, bool_atom, in_atom, le_atom, sum_atom, and_atom, iff_atom}
-use Rattle.sb_rulebook.specs.Gates.{clauses_of, is_gate, is_set_of}
+use Rattle.sb_rulebook.specs.Gates.{gate, clauses_of, is_gate, is_set_of}
 use Rattle.sb_rulebook.specs.Translation.{in_order, with_literal}
 use Rattle.sb_sound.proofs.CallerLemmas.{same_literal, all_from, said_gate}
 use Rattle.sb_atoms.specs.Numbered.{Names, over, atoms_in}
 use Rattle.sb_atoms.specs.GateClauses.{atom_at, clause_of, gate_clauses, is_trivial}
+use Rattle.sb_atoms.proofs.Gathering.{mapped-more}
 use Rattle.sb_atoms.proofs.Ordered.{order_ascends}
 
 -- Literals in order are the same literals.
@@ -73,7 +74,7 @@ all_ascend cs = all_ordered are_ascending cs (all_from (λ c. are_ascending (in_
 
 -- The clauses of an atom are the same over the regexes.
 
-clauses_over : (rs : List Regex) (g : ℕ) (a : AtomOver ℕ) → clauses_of g (over rs a) ≡ clauses_of g a
+pub clauses_over : (rs : List Regex) (g : ℕ) (a : AtomOver ℕ) → clauses_of g (over rs a) ≡ clauses_of g a
 clauses_over rs g (bool_atom serial) = refl
 clauses_over rs g (in_atom ps r) = refl
 clauses_over rs g (le_atom x k) = refl
@@ -97,6 +98,14 @@ names_at atoms g a h = get_or_from_slice_get atoms g a (bool_atom 0) h
 
 pub names_there : (atoms : List (AtomOver ℕ)) (g : ℕ) → g < length atoms → Names atoms g (atom_at atoms g)
 names_there atoms g low = slice_get-get_or atoms g (bool_atom 0) low
+
+-- one more literal of a conjunction
+pub part_more : (g : ℕ) (ls : List Lit) (i : ℕ) (d h : Lit) (old now new : List (List Lit)) → i < length ls
+    → now ≡ old ++ map (λ l. gate g false ∷ l ∷ []) (take i ls) → h ≡ gate g false
+    → new ≡ now ++ (h ∷ get_or ls i d ∷ []) ∷ [] → new ≡ old ++ map (λ l. gate g false ∷ l ∷ []) (take (i + 1) ls)
+part_more g ls i d h old now new within before is put =
+    mapped-more (λ l. gate g false ∷ l ∷ []) ls i d old now new (h ∷ get_or ls i d ∷ []) within before
+    (ap (λ (k : Lit). k ∷ get_or ls i d ∷ []) is) put
 
 -- one more clause of those that are said
 pub ordered_step : (cs : List (List Lit)) (i : ℕ) (d c : List Lit) (now new : List (List Lit)) → i < length cs

@@ -1,5 +1,5 @@
 -- The clauses of gates of an atom speak of the atoms up to it, and their lines follow.
-use Rattle.sb_refute.proofs.Words.{◌≡◌, ◌≢◌, ◌⊎◌, ℕ, zero, suc, ◌+◌, ◌<◌, true, nat_lt, List, [], ◌∷◌, ◌++◌, length, map, take, Option, Result, Ok, Err, All, Contains, inl, inr, refl, sym, ap, subst, ◌∙◌, arith, append_assoc, list_all, and_parts, and_from, false≢true, lt-ltb, ltb-true, length-map, map-append, get_or_from_slice_get, slice_get-get_or, IfOk, Lit, are_ascending, Kept, kept_at, are_reserved, Regex, line, AtomOver, bool_atom, in_atom, le_atom, sum_atom, and_atom, iff_atom, AllKept, Asked, with_clause, follows, rule_line, text_of, is_small_literal, RuleLinesAreExact, with_bytes, NameEarlier, over, atoms_in, atom_at, clauses_of, puts_one, Backing, EvidencesUncounted, HasGatesOf, IsOfGates, LeadsAlways, at_bottom, All-nil, All-cons, Atom, names_below, is_gate, GatesAreExact, ascend_form}
+use Rattle.sb_refute.proofs.Words.{◌≡◌, ◌≢◌, ◌⊎◌, ℕ, zero, suc, ◌+◌, ◌<◌, true, nat_lt, List, [], ◌∷◌, ◌++◌, length, map, take, Option, Result, Ok, Err, All, Contains, inl, inr, refl, sym, ap, subst, ◌∙◌, arith, append_assoc, list_all, and_parts, and_from, false≢true, lt-ltb, ltb-true, length-map, map-append, get_or_from_slice_get, slice_get-get_or, IfOk, Lit, are_ascending, Kept, kept_at, are_reserved, Regex, line, AtomOver, bool_atom, in_atom, le_atom, sum_atom, and_atom, iff_atom, AllKept, Asked, with_clause, follows, rule_line, text_of, is_small_literal, RuleLinesAreExact, with_bytes, NameEarlier, over, atoms_in, atom_at, gate_clauses, puts_one, Backing, EvidencesUncounted, HasGatesOf, IsOfGates, LeadsAlways, at_bottom, All-nil, All-cons, Atom, names_below, is_gate, GatesAreExact, ascend_form}
 use Rattle.sb_rulebook.specs.Lines as lines
 use Rattle.sb_sound.specs.ClauseLaws.{AreDefined}
 use Rattle.sb_refute.proofs.Backs.{backs-beside, backs-clause, units-stay}
@@ -33,7 +33,7 @@ parts-below rs n i (iff_atom l m) low h =
 
 -- those of an atom that names none but atoms before it
 gates-below : (rs : List Regex) (n i : ℕ) (a : AtomOver ℕ) → i < n → names_below i (over rs a) ≡ true
-    → list_all (are_reserved n) (clauses_of i a) ≡ true
+    → list_all (are_reserved n) (gate_clauses i a) ≡ true
 gates-below rs n i a low h = of-gate (λ k. nat_lt k n) i a (lt-ltb i n low) (parts-below rs n i a low h)
 
 pub are-gates : (atoms : List (AtomOver ℕ)) (cs : List (List Lit))
@@ -53,7 +53,7 @@ are-gates atoms (c ∷ cs) known ascend gates =
     (λ rs. (and_parts (is_gate (atoms_in rs atoms) c) (list_all (is_gate (atoms_in rs atoms)) cs) (gates rs)).1))
 
 pub gates-found : {A E : Type 0} (r : Result A E) (items : A → List (List Lit)) (atoms : List (AtomOver ℕ)) (i : ℕ)
-    → i < length atoms → NameEarlier 0 atoms → IfOk r (λ x. items x ≡ clauses_of i (atom_at atoms i))
+    → i < length atoms → NameEarlier 0 atoms → IfOk r (λ x. items x ≡ gate_clauses i (atom_at atoms i))
     → IfOk r (λ x. list_all are_ascending (items x) ≡ true)
     → IfOk r (λ x. (rs : List Regex) → list_all (is_gate (atoms_in rs atoms)) (items x) ≡ true)
     → IfOk r (λ x. All (IsOfGates atoms) (items x))
@@ -158,9 +158,9 @@ kept-more e mid new cs i c more before now =
     ∙ ap (λ (k : Kept). e.kept ++ k) (sym (ap (map at_bottom) more ∙ map-append at_bottom (take i cs) (c ∷ []))))
 
 pub has-gates : (atoms : List (AtomOver ℕ)) (i : ℕ) (old new : Kept) (cs : List (List Lit))
-    → cs ≡ clauses_of i (atom_at atoms i) → new ≡ old ++ map at_bottom cs → HasGatesOf i atoms new
+    → cs ≡ gate_clauses i (atom_at atoms i) → new ≡ old ++ map at_bottom cs → HasGatesOf i atoms new
 has-gates atoms i old new cs are is = λ a clause named among.
-    let at : clauses_of i a ≡ cs =
-    ap (clauses_of i) (sym (get_or_from_slice_get atoms i a (bool_atom 0) named)) ∙ sym are in
+    let at : gate_clauses i a ≡ cs =
+    ap (gate_clauses i) (sym (get_or_from_slice_get atoms i a (bool_atom 0) named)) ∙ sym are in
     let it = kept-behind old cs clause (subst (λ (ds : List (List Lit)). Contains ds clause) at among) in
     (it.0, ap (λ (k : Kept). kept_at k it.0) is ∙ it.1)

@@ -1,5 +1,6 @@
 -- The literals of a gate's clauses are of its atom, or of those of which the atom speaks.
-use Rattle.sb_refute.proofs.Words.{◌≡◌, ℕ, Bool, true, false, ◌&&◌, if◌then◌else◌, List, [], ◌∷◌, map, refl, list_all, and_parts, and_from, all_append, Lit, negation, literal_order, AtomOver, bool_atom, in_atom, le_atom, sum_atom, and_atom, iff_atom, in_order, with_literal, clause_of, clauses_of, gate, is_trivial, parts_of, Ordering}
+use Rattle.sb_refute.proofs.Words.{◌≡◌, ℕ, Bool, true, false, ◌&&◌, if◌then◌else◌, List, [], ◌∷◌, map, refl, list_all, and_parts, and_from, all_append, Lit, negation, literal_order, AtomOver, bool_atom, in_atom, le_atom, sum_atom, and_atom, iff_atom, in_order, with_literal, clause_of, clauses_of, gate, gate_clauses, is_trivial, Ordering}
+use Rattle.std.specs.List.{flat_map}
 use Rattle.std.specs.Ordering.{match_ordering}
 use Rattle.std.specs.declared.cmp.Ordering.TheVariants.{Less, Equal, Greater}
 
@@ -34,16 +35,17 @@ each-part test (and_atom ls) = list_all (λ l. test l.atom) ls
 each-part test (iff_atom l m) = test l.atom && test m.atom
 each-part test _ = true
 
-pub of-gate : (test : ℕ → Bool) (g : ℕ) (a : AtomOver ℕ) → test g ≡ true → each-part test a ≡ true
+-- the literals of each clause
+each-said : (test : ℕ → Bool) (g : ℕ) (a : AtomOver ℕ) → test g ≡ true → each-part test a ≡ true
     → list_all (list_all (λ (l : Lit). test l.atom)) (clauses_of g a) ≡ true
-of-gate test g (bool_atom serial) h t = refl
-of-gate test g (in_atom ps r) h t = refl
-of-gate test g (le_atom x k) h t = refl
-of-gate test g (sum_atom k ss) h t = refl
-of-gate test g (and_atom ls) h t =
-    all_append (list_all p) (parts_of g ls) (clause_of (gate g true ∷ map negation ls)) (parts ls t)
-    (of-clause p (gate g true ∷ map negation ls)
-    (and_from (test g) (list_all p (map negation ls)) h (negations ls t)))
+each-said test g (bool_atom serial) h t = refl
+each-said test g (in_atom ps r) h t = refl
+each-said test g (le_atom x k) h t = refl
+each-said test g (sum_atom k ss) h t = refl
+each-said test g (and_atom ls) h t =
+    all_append (list_all p) (map (λ l. gate g false ∷ l ∷ []) ls) ((gate g true ∷ map negation ls) ∷ []) (parts ls t)
+    (and_from (list_all p (gate g true ∷ map negation ls)) true
+    (and_from (test g) (list_all p (map negation ls)) h (negations ls t)) refl)
   where
     p : Lit → Bool
     p = λ l. test l.atom
@@ -54,26 +56,26 @@ of-gate test g (and_atom ls) h t =
         let q = and_parts (p l) (list_all p ls) t in
         and_from (p l) (list_all p (map negation ls)) q.0 (negations ls q.1)
 
-    parts : (ls : List Lit) → list_all p ls ≡ true → list_all (list_all p) (parts_of g ls) ≡ true
+    parts : (ls : List Lit) → list_all p ls ≡ true
+        → list_all (list_all p) (map (λ l. gate g false ∷ l ∷ []) ls) ≡ true
     parts [] t = refl
     parts (l ∷ ls) t =
         let q = and_parts (p l) (list_all p ls) t in
-        all_append (list_all p) (clause_of (gate g false ∷ l ∷ [])) (parts_of g ls)
-        (of-clause p (gate g false ∷ l ∷ [])
-        (and_from (test g) (p l && true) h (and_from (p l) true q.0 refl))) (parts ls q.1)
-of-gate test g (iff_atom l m) h t =
-    let q = and_parts (p l) (p m) t in
-    all_append (list_all p) (clause_of (gate g true ∷ l ∷ m ∷ [])) _ (three true l m q.0 q.1)
-    (all_append (list_all p) (clause_of (gate g true ∷ negation l ∷ negation m ∷ [])) _
-    (three true (negation l) (negation m) q.0 q.1)
-    (all_append (list_all p) (clause_of (gate g false ∷ negation l ∷ m ∷ [])) _ (three false (negation l) m q.0 q.1)
-    (three false l (negation m) q.0 q.1)))
+        and_from (test g && (p l && true)) (list_all (list_all p) (map (λ l. gate g false ∷ l ∷ []) ls))
+        (and_from (test g) (p l && true) h (and_from (p l) true q.0 refl)) (parts ls q.1)
+each-said test g (iff_atom l m) h t =
+    let q = and_parts (test l.atom) (test m.atom) t in rw (h, q.0, q.1) refl
+
+pub of-gate : (test : ℕ → Bool) (g : ℕ) (a : AtomOver ℕ) → test g ≡ true → each-part test a ≡ true
+    → list_all (list_all (λ (l : Lit). test l.atom)) (gate_clauses g a) ≡ true
+of-gate test g a h t = each-ordered (clauses_of g a) (each-said test g a h t)
   where
     p : Lit → Bool
     p = λ l. test l.atom
 
-    three : (b : Bool) (k j : Lit) → p k ≡ true → p j ≡ true
-        → list_all (list_all p) (clause_of (gate g b ∷ k ∷ j ∷ [])) ≡ true
-    three b k j r s =
-        of-clause p (gate g b ∷ k ∷ j ∷ [])
-        (and_from (test g) (p k && (p j && true)) h (and_from (p k) (p j && true) r (and_from (p j) true s refl)))
+    each-ordered : (cs : List (List Lit)) → list_all (list_all p) cs ≡ true
+        → list_all (list_all p) (flat_map clause_of cs) ≡ true
+    each-ordered [] h = refl
+    each-ordered (c ∷ cs) h =
+        let q = and_parts (list_all p c) (list_all (list_all p) cs) h in
+        all_append (list_all p) (clause_of c) (flat_map clause_of cs) (of-clause p c q.0) (each-ordered cs q.1)

@@ -26,7 +26,7 @@ pub use Rattle.sb_rulebook.specs.AtomRules.{defined, has_its_parts, with_regex}
 pub use Rattle.sb_rulebook.specs.Atoms.{Atom, AtomOver, and_atom, bool_atom, iff_atom, in_atom, is_same_atom, is_well_formed, le_atom, sum_atom}
 pub use Rattle.sb_rulebook.specs.Brought.{is_brought}
 pub use Rattle.sb_rulebook.specs.Follows.{by_rule, follows, not_brought}
-pub use Rattle.sb_rulebook.specs.Gates.{is_gate}
+pub use Rattle.sb_rulebook.specs.Gates.{clauses_of, gate, is_gate}
 pub use Rattle.sb_rulebook.specs.Kept.{AllKept, Asked, all_dropped, dropped_above, with_clause}
 pub use Rattle.sb_rulebook.specs.LineLaws.{atom_has_text, is_small, is_small_literal}
 pub use Rattle.sb_rulebook.specs.Lines.{assertion_line, atom_line, rule_line, text_of}
@@ -43,7 +43,7 @@ pub use Rattle.sb_regex.specs.Numbered.{regex_at}
 pub use Rattle.sb_clauses.specs.Propagation.{State, are_reserved, has_room_for, is_reserved}
 pub use Rattle.sb_deriv.specs.Faithful.{KeepsEntries, Memo}
 pub use Rattle.sb_atoms.proofs.CallerLemmas.{atoms_kept, earlier_more, earlier_none, named_before, over_one}
-pub use Rattle.sb_atoms.specs.GateClauses.{atom_at, clause_of, clauses_of, gate, is_trivial, parts_of}
+pub use Rattle.sb_atoms.specs.GateClauses.{atom_at, clause_of, gate_clauses, is_trivial}
 pub use Rattle.sb_atoms.specs.Numbered.{AreDistinct, Extends, HasRegexBelow, HaveRegexesBelow, NameEarlier, Names, atom_in, atoms_in, over}
 pub use Rattle.sb_atoms.specs.Translated.{AreDefined, brought_translation}
 pub use Rattle.sb_trace.proofs.CallerLemmas.{counts_none, counts_on, puts_both, puts_none, puts_one, stays_both, stays_same, tracks_grow}

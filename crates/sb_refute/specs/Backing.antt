@@ -10,7 +10,7 @@ use Rattle.sb_rulebook.specs.Atoms.{AtomOver}
 use Rattle.sb_rulebook.specs.Kept.{AllKept, Asked}
 use Rattle.sb_atoms.specs.Numbered.{Names, atoms_in}
 use Rattle.sb_atoms.specs.Translated.{has_declared}
-use Rattle.sb_atoms.specs.GateClauses.{clauses_of}
+use Rattle.sb_atoms.specs.GateClauses.{gate_clauses}
 use Rattle.sb_trace.specs.Putting.{Puts, IsCounted}
 use Rattle.sb_trace.specs.Tracking.{Traced, Tracks}
 use Rattle.sb_refute.specs.declared.evidence.Asserted.{Asserted}
@@ -59,7 +59,7 @@ IsEmptyAt kept id = (level : ℕ) × (kept_at kept id ≡ Some (record { literal
 
 -- each clause of the gates of the atom is kept, at level 0
 abbrev pub HasGatesOf : ℕ → List (AtomOver ℕ) → Kept → Type 0
-HasGatesOf i atoms kept = (a : AtomOver ℕ) (clause : List Lit) → Names atoms i a → Contains (clauses_of i a) clause
+HasGatesOf i atoms kept = (a : AtomOver ℕ) (clause : List Lit) → Names atoms i a → Contains (gate_clauses i a) clause
     → (id : ℕ) × (kept_at kept id ≡ Some (record { literals = clause; level = 0 }))
 
 -- the same of the atoms below the number

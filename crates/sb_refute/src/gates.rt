@@ -1,7 +1,7 @@
 //! The clauses of gates.
 
 ghost use Rattle.std.specs.Prelude.{◌≡◌, ◌<◌, ◌+◌, ◌++◌, ◌∷◌, [], true, false, length, All, IfOk};
-ghost use Rattle.sb_atoms.specs.GateClauses.{clauses_of, atom_at};
+ghost use Rattle.sb_atoms.specs.GateClauses.{gate_clauses, atom_at};
 ghost use Rattle.sb_refute.specs.Backing.{HasGatesOf};
 ghost use Rattle.sb_refute.specs.Lines.{Called, IsOfGates, LeadsAlways, at_bottom};
 
@@ -58,7 +58,7 @@ impl Evidence {
     fn next_clauses(&self) -> Result<Vec<Clause>, AllocError>
         requires { self.now.gates < length self.now.atoms }
         ensures exact { IfOk result (λ found. found.items
-            ≡ clauses_of self.now.gates (atom_at self.now.atoms self.now.gates)) }
+            ≡ gate_clauses self.now.gates (atom_at self.now.atoms self.now.gates)) }
         ensures gates { IfOk result (λ found. All (IsOfGates self.now.atoms) found.items) }
     {
         let id = AtomId::of(Lit {

@@ -1,11 +1,12 @@
 //! Clauses of gates.
 
-ghost use Rattle.std.specs.Prelude.{◌≡◌, ◌∷◌, ◌||◌, [], not, map, nat_lt, true, length, if◌then◌else◌, IfOk};
+ghost use Rattle.std.specs.Prelude.{◌≡◌, ◌∷◌, [], map, nat_lt, true, false, length, if◌then◌else◌, IfOk};
 ghost use Rattle.std.specs.List.{list_all, list_any};
 ghost use Rattle.std.specs.HashSet.{contains};
 ghost use Rattle.sb_lit.specs.declared.clause.Lit.{Lit};
 ghost use Rattle.sb_lit.specs.Clauses.{negation, is_among, are_among};
 ghost use Rattle.sb_hints.specs.Sets.{are_equal};
+ghost use Rattle.sb_rulebook.specs.Brought.{is_brought_atom};
 ghost use Rattle.sb_rulebook.specs.Gates.{atom_of, has_both_signs, is_set_of, is_gate_of, is_gate};
 ghost use Rattle.sb_rulebook.specs.Kept.{Asked};
 ghost use Rattle.sb_rulebook.specs.Lines.{rule_line, gate};
@@ -16,9 +17,9 @@ ghost use Rattle.sb_rules.specs.Gating.{HasLiterals};
 
 use crate::fault::{Fault, Refusal};
 use crate::kept::Kept;
-use sb_atoms::{Atom, AtomId};
+use sb_atoms::{Atom, AtomId, said_clauses};
 use sb_hints::{are_ascending, has_all, set_of};
-use sb_lit::Lit;
+use sb_lit::{Clause, Lit};
 use std::alloc::{AllocError, Global};
 use std::collections::HashSet;
 
@@ -53,6 +54,7 @@ impl Kept {
     /// the order of the conjuncts, whose atoms come before the conjunction's, the time does not grow with these.
     fn is_gate(&self, literals: &[Lit]) -> Result<bool, AllocError>
         requires known { list_all (λ l. nat_lt l.atom (length self.now.atoms)) literals.now ≡ true }
+        requires brought { list_all is_brought_atom self.now.atoms ≡ true }
         ensures { IfOk result (λ b. b ≡ is_gate (atoms_in self.now.arena self.now.atoms) literals.now) }
     {
         let all = set_of(self.alloc, literals)?;
@@ -67,7 +69,7 @@ impl Kept {
         Ok(false)
     }
 
-    /// Whether a clause is one of the gate of a literal's atom.
+    /// Whether a clause, which has no literal and its negation, is one of the gate of the atom of one of its literals.
     fn is_gate_of(
         &self,
         clause: &[Lit],
@@ -75,17 +77,19 @@ impl Kept {
         literal: Lit,
     ) -> Result<bool, AllocError>
         requires known { nat_lt literal.atom (length self.now.atoms) ≡ true }
+        requires brought { list_all is_brought_atom self.now.atoms ≡ true }
         requires all { HasLiterals clause.now (contains are_equal all.now) }
+        requires signs { has_both_signs clause.now ≡ false }
+        requires among { is_among clause.now literal ≡ true }
         ensures { IfOk result (λ b. b ≡ is_gate_of (atoms_in self.now.arena self.now.atoms) clause.now literal
             (atom_of (atoms_in self.now.arena self.now.atoms) literal)) }
     {
-        match self.atoms.describe(AtomId::of(literal)) {
-            Atom::And(conjuncts) => {
-                is_of_conjunction(self.alloc, clause, all, literal, conjuncts, self.conjunct)
-            }
-            Atom::Iff(one, other) => Ok(is_of_equivalence(clause, all, literal, *one, *other)),
-            Atom::Bool(_) | Atom::In(..) => Ok(false),
+        let id = AtomId::of(literal);
+        if let Atom::And(conjuncts) = self.atoms.describe(id) {
+            return is_of_conjunction(self.alloc, clause, all, literal, conjuncts, self.conjunct);
         }
+        let said = said_clauses(self.alloc, &self.atoms, id)?;
+        Ok(is_one_of(clause, all, &said))
     }
 }
 
@@ -194,22 +198,17 @@ fn has_any(clause: &[Lit], all: &HashSet<Lit>, literal: Lit, conjuncts: &[Lit]) 
     false
 }
 
-/// Whether the clause is one of the gate of an equivalence, whose literal this is.
-fn is_of_equivalence(clause: &[Lit], all: &HashSet<Lit>, literal: Lit, one: Lit, other: Lit) -> bool
+/// Whether the clause has the literals of one of these clauses, and no others.
+fn is_one_of(clause: &[Lit], all: &HashSet<Lit>, said: &[Clause]) -> bool
     requires { HasLiterals clause.now (contains are_equal all.now) }
-    ensures { result ≡ (if literal.positive
-        then is_set_of clause.now (literal ∷ one ∷ other ∷ [])
-        || is_set_of clause.now (literal ∷ negation one ∷ negation other ∷ [])
-        else is_set_of clause.now (literal ∷ negation one ∷ other ∷ [])
-        || is_set_of clause.now (literal ∷ one ∷ negation other ∷ [])) }
+    ensures { result ≡ list_any (is_set_of clause.now) said.now }
 {
-    if literal.positive {
-        is_set_of(clause, all, &[literal, one, other])
-            || is_set_of(clause, all, &[literal, one.negated(), other.negated()])
-    } else {
-        is_set_of(clause, all, &[literal, one.negated(), other])
-            || is_set_of(clause, all, &[literal, one, other.negated()])
+    for few in said {
+        if is_set_of(clause, all, few.literals()) {
+            return true;
+        }
     }
+    false
 }
 
 /// Whether the clause has these few literals, and no others.

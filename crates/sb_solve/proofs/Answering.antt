@@ -1,5 +1,5 @@
 -- What a check comes to, by the clauses that were put, the search and its end.
-use Rattle.sb_solve.proofs.Words.{◌≡◌, ℕ, ◌<◌, Bool, true, false, List, [], ◌∷◌, length, Option, refl, sym, ap, subst, ◌∙◌, arith, list_all, false≢true, ltb-true, slice_get-get_or, Lit, Spending, Kept, held, HasNoneFalse, live, asked_in, AtomOver, bool_atom, AllKept, Asked, AreTerms, FollowsByRule, LineStaysSound, CountedAgainStaysSound, Stacked, Store, state_of, atom_at, clauses_of, atoms_in, atoms_kept, earlier_table, IsCounted, puts_both, Backing, Backs, Evidences, HasGates, GrowsTo, is_atom, AreWanted, is_in, AreKept, IsKept, IsDecided, AreLiterals, IsAnswered, terms_at, Answers, IsDone, IsNumbered, IsValuedBy, AreOfLevels, IsSolved, AreStated, IsTrue, Solved, Contains}
+use Rattle.sb_solve.proofs.Words.{◌≡◌, ℕ, ◌<◌, Bool, true, false, List, [], ◌∷◌, length, Option, refl, sym, ap, subst, ◌∙◌, arith, list_all, false≢true, ltb-true, slice_get-get_or, Lit, Spending, Kept, held, HasNoneFalse, live, asked_in, AtomOver, bool_atom, AllKept, Asked, AreTerms, FollowsByRule, LineStaysSound, CountedAgainStaysSound, Stacked, Store, state_of, atom_at, gate_clauses, atoms_in, atoms_kept, earlier_table, IsCounted, puts_both, Backing, Backs, Evidences, HasGates, GrowsTo, is_atom, AreWanted, is_in, AreKept, IsKept, IsDecided, AreLiterals, IsAnswered, terms_at, Answers, IsDone, IsNumbered, IsValuedBy, AreOfLevels, IsSolved, AreStated, IsTrue, Solved, Contains}
 use Rattle.sb_solve.specs.declared.check.Solved.TheVariants as solved
 use Rattle.sb_solve.proofs.Deciding.{all_in}
 use Rattle.sb_solve.proofs.Ended.{kept_grown}
@@ -24,10 +24,10 @@ none_wanted atoms wanted i h there =
 gated : (atoms : List (AtomOver ℕ)) (old kept : Kept) (literals : List Lit) (wanted : List ℕ) → GrowsTo old kept
     → (0 < length literals → HasGates (length atoms) atoms old) → AreWanted atoms literals wanted
     → list_all (is_atom atoms) wanted ≡ true → (i : ℕ) → is_in wanted i ≡ true
-    → AreKept kept (clauses_of i (atom_at atoms i))
+    → AreKept kept (gate_clauses i (atom_at atoms i))
 gated atoms old kept [] wanted grows gates are known i there = absurd (none_wanted atoms wanted i are there)
 gated atoms old kept (l ∷ ls) wanted grows gates are known i there =
-    are_kept kept (clauses_of i (atom_at atoms i))
+    are_kept kept (gate_clauses i (atom_at atoms i))
     (λ clause among.
     let at = slice_get-get_or atoms i (bool_atom 0) below in
     let k = gates (omega arith) i below (atom_at atoms i) clause at among in (

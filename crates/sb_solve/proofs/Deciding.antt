@@ -1,5 +1,5 @@
 -- Where each atom that is wanted has a value, and no kept clause is false, the values are truths.
-use Rattle.sb_solve.proofs.Words.{◌≡◌, ℕ, zero, suc, ◌+◌, ◌<◌, ◌⊎◌, Bool, true, false, not, ◌&&◌, ◌==◌, nat_eq, nat_lt, cond, if◌then◌else◌, List, [], ◌∷◌, length, get_or, slice_get, Option, Some, None, option_map, option_and_then, unwrap_or, refl, sym, ap, ap₂, subst, ◌∙◌, arith, inl, inr, list_all, list_any, is_none, false≢true, and_parts, and_from, or_cases, or_left, or_right, eqb-true, eq-eqb, ltb-true, append-nil, slice_get-map, get_or_from_slice_get, unwrap_or-slice_get, Lit, is_among, is_same_literal, is_false_under, is_false_clause, is_true_under, Kept, is_same_literal-of, is_same_literal-true, literal_of_parts, all_among, Regex, regex_at, Assigned, held, value_of, entry_of, IsConsistent, HasNoneFalse, Sort, Term, Valuation, holds, Piece, constant_piece, word_piece, Atom, AtomOver, bool_atom, in_atom, le_atom, sum_atom, and_atom, iff_atom, literal_holds, truths_of, translation, HasSorts, fits_sorts, TranslationHolds, IsTruthAt, truth_at_place, all_in_front, literal_holds-take, over, atoms_in, are_alike, clauses_of, gate, is_as_it_says, all_say, each-part, of-gate, has_value, word_at, is_true_by, is_true_of, fits_subject, constant_of, subject_of, is_atom, is_of_wanted, wanted_of, wanted_on, is_in, atoms_of, parts_of, is_simple, is_closed, is_true, is_constant, makes_true, truth_by, IsKept, AreKept, IsDecided, IsGiven, all_weaker, list_all-map, slice_get-get_or, some-none, any-filter_same, language, all_hold, number_in, list_any_none}
+use Rattle.sb_solve.proofs.Words.{◌≡◌, ℕ, zero, suc, ◌+◌, ◌<◌, ◌⊎◌, Bool, true, false, not, ◌&&◌, ◌==◌, nat_eq, nat_lt, cond, if◌then◌else◌, List, [], ◌∷◌, length, get_or, slice_get, Option, Some, None, option_map, option_and_then, unwrap_or, refl, sym, ap, ap₂, subst, ◌∙◌, arith, inl, inr, list_all, list_any, is_none, false≢true, and_parts, and_from, or_cases, or_left, or_right, eqb-true, eq-eqb, ltb-true, append-nil, slice_get-map, get_or_from_slice_get, unwrap_or-slice_get, Lit, is_among, is_same_literal, is_false_under, is_false_clause, is_true_under, Kept, is_same_literal-of, is_same_literal-true, literal_of_parts, all_among, Regex, regex_at, Assigned, held, value_of, entry_of, IsConsistent, HasNoneFalse, Sort, Term, Valuation, holds, Piece, constant_piece, word_piece, Atom, AtomOver, bool_atom, in_atom, le_atom, sum_atom, and_atom, iff_atom, literal_holds, truths_of, translation, HasSorts, fits_sorts, TranslationHolds, IsTruthAt, truth_at_place, all_in_front, literal_holds-take, over, atoms_in, are_alike, gate_clauses, gate, is_as_it_says, all_say, each-part, of-gate, has_value, word_at, is_true_by, is_true_of, fits_subject, constant_of, subject_of, is_atom, is_of_wanted, wanted_of, wanted_on, is_in, atoms_of, parts_of, is_simple, is_closed, is_true, is_constant, makes_true, truth_by, IsKept, AreKept, IsDecided, IsGiven, all_weaker, list_all-map, slice_get-get_or, some-none, any-filter_same, language, all_hold, number_in, list_any_none}
 use Rattle.sb_rulebook.specs.Atoms as rulebook
 use Rattle.sb_solve.proofs.Gathered.{names_before}
 
@@ -247,9 +247,9 @@ module _ (rs : List Regex) (atoms : List (AtomOver ℕ)) (wanted : List ℕ) (ke
         and_from (has_value es j) (nat_lt j n) (all_in (has_value es) wanted j d.full h)
         (all_in (is_atom atoms) wanted j d.known h) in
         let parts = all_weaker (is_in wanted) test tested (parts_of a) (closed_there i a there at).1 in
-        let clauses = clauses_of i a in
+        let clauses = gate_clauses i a in
         let are : AreKept kept clauses =
-        subst (λ (b : AtomOver ℕ). AreKept kept (clauses_of i b)) (get_or_from_slice_get atoms i a (bool_atom 0) at)
+        subst (λ (b : AtomOver ℕ). AreKept kept (gate_clauses i b)) (get_or_from_slice_get atoms i a (bool_atom 0) at)
         (d.gates i there) in
         sym (all_say (truths_on es 0 n) i a)
         ∙ kept_true es n kept clauses d.none_false are (of-gate test i a (tested i there) (part_each test a parts))

@@ -31,12 +31,13 @@ pub use Rattle.sb_rulebook.specs.Accepted.{at_level, live_by_level, term_of}
 pub use Rattle.sb_rulebook.specs.AtomRules.{are_known}
 pub use Rattle.sb_rulebook.specs.Atoms.{le_atom, sum_atom}
 pub use Rattle.sb_rulebook.specs.Follows.{follows}
+pub use Rattle.sb_rulebook.specs.Gates.{gate}
 pub use Rattle.sb_rulebook.specs.Kept.{count_again}
 pub use Rattle.sb_rulebook.specs.Lines.{Line}
 pub use Rattle.sb_rulebook.specs.Refusals.{Refusal}
 pub use Rattle.sb_rulebook.specs.TranslationLaws.{TranslationStays}
 pub use Rattle.sb_sound.proofs.CallerLemmas.{Contains-slice_get, IsTruthAt, all_in_front, any_holds-front, kept_at-up_to, length-truths_of, literal_holds-take, names_from, truth_at_place, truths_from-append, truths_from-front}
-pub use Rattle.sb_sound.specs.GateLaws.{GatesHold}
+pub use Rattle.sb_sound.specs.GateLaws.{GatesHold, all_hold, are_alike, is_as_it_says}
 pub use Rattle.sb_sound.specs.SoundLaws.{CountedAgainStaysSound, FollowsByRule, IsSound, LevelsHold, LineStaysSound, PlacesHold, StandsAt}
 pub use Rattle.sb_sound.specs.Tables.{names_below}
 pub use Rattle.sb_sound.specs.TranslationLaws.{TranslationHolds}
@@ -52,7 +53,7 @@ pub use Rattle.sb_search.specs.Writing.{written}
 pub use Rattle.sb_search.specs.declared.choices.Choices.{Choices}
 pub use Rattle.sb_search.specs.declared.found.Found.{Found}
 pub use Rattle.sb_atoms.proofs.CallerLemmas.{all_say, atoms_kept, atoms_more, earlier_table}
-pub use Rattle.sb_atoms.specs.GateClauses.{all_hold, are_alike, atom_at, clauses_of, gate, is_as_it_says}
+pub use Rattle.sb_atoms.specs.GateClauses.{atom_at, gate_clauses}
 pub use Rattle.sb_atoms.specs.Numbered.{over}
 pub use Rattle.sb_atoms.specs.Translated.{brought_translation, has_declared, have_declared}
 pub use Rattle.sb_stack.proofs.CallerLemmas.{live_laid, same_sort, value_there}

@@ -4,7 +4,7 @@ use Rattle.sb_solve.specs.Words.{AreDistinct, Assigned, AtomOver, HasSorts, IsCo
 use Rattle.sb_lit.specs.Clauses.{is_true_under}
 use Rattle.sb_clauses.specs.Propagation.{HasNoneFalse}
 use Rattle.sb_rulebook.specs.Atoms as rulebook
-use Rattle.sb_atoms.specs.GateClauses.{atom_at, clauses_of}
+use Rattle.sb_atoms.specs.GateClauses.{atom_at, gate_clauses}
 use Rattle.sb_search.specs.Found.{has_value}
 use Rattle.sb_solve.specs.Wanted.{is_in, are_closed}
 use Rattle.sb_solve.specs.Values.{truth_by}
@@ -29,7 +29,7 @@ pub record IsDecided (rs : List Regex) (atoms : List (AtomOver ℕ)) (wanted : L
     pub closed : are_closed atoms wanted ≡ true
     pub full : list_all (has_value entries) wanted ≡ true
     pub none_false : HasNoneFalse kept (held entries)
-    pub gates : (i : ℕ) → is_in wanted i ≡ true → AreKept kept (clauses_of i (atom_at atoms i))
+    pub gates : (i : ℕ) → is_in wanted i ≡ true → AreKept kept (gate_clauses i (atom_at atoms i))
 
 -- The wanted memberships on the trail are true of the words; the valuation gives these words, and the truths of the
 -- trail, to the constants of atoms that are wanted.

@@ -1,4 +1,4 @@
-use Rattle.sb_refute.proofs.Words.{◌≡◌, ◌<◌, All, length, sym, subst, IfOk, clauses_of, atom_at, Backing, backing_of, IsOfGates}
+use Rattle.sb_refute.proofs.Words.{◌≡◌, ◌<◌, All, length, sym, subst, IfOk, gate_clauses, atom_at, Backing, backing_of, IsOfGates}
 use Rattle.sb_refute.proofs.GateLines.{gates-found}
 use Rattle.sb_refute.proofs.evidence.Evidence.next_clauses.Goals as goal
 
@@ -10,11 +10,11 @@ gate_clauses-requires c =
 pub returns : goal.returns
 returns c =
     let i = backing_of c.self.inside.parts in
-    let exact = subst (λ n. IfOk c.gate_clauses.result (λ found. found.items ≡ clauses_of n (atom_at i.atoms n)))
+    let exact = subst (λ n. IfOk c.gate_clauses.result (λ found. found.items ≡ gate_clauses n (atom_at i.atoms n)))
     c.of-id.ensures c.gate_clauses.ensures.exact in
     record {
       exact = subst (λ (v : Backing). IfOk c.gate_clauses.result
-          (λ found. found.items ≡ clauses_of v.gates (atom_at v.atoms v.gates))) c.self.view_is exact;
+          (λ found. found.items ≡ gate_clauses v.gates (atom_at v.atoms v.gates))) c.self.view_is exact;
       gates = subst (λ (v : Backing). IfOk c.gate_clauses.result (λ found. All (IsOfGates v.atoms) found.items))
           c.self.view_is
           (gates-found c.gate_clauses.result (λ found. found.items) i.atoms i.gates

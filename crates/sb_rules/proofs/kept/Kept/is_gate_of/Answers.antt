@@ -1,14 +1,35 @@
-use Rattle.std.proofs.Common.{sym, subst, ◌∙◌}
-use Rattle.sb_atoms.specs.Numbered.{Names, atom_in}
-use Rattle.sb_rulebook.specs.Atoms.{iff_atom}
-use Rattle.sb_rules.proofs.Gated.{gate_at}
+use Rattle.std.proofs.Common.{[], ◌∷◌, map, if◌then◌else◌, sym, subst, ap, ◌∙◌}
+use Rattle.std.specs.List.{list_any}
+use Rattle.sb_facts.proofs.CallerLemmas.{ok_more}
+use Rattle.sb_lit.specs.Clauses.{negation}
+use Rattle.sb_atoms.specs.GateClauses.{atom_at}
+use Rattle.sb_atoms.specs.Numbered.{Names, atom_in, atoms_in}
+use Rattle.sb_rulebook.specs.Atoms.{and_atom}
+use Rattle.sb_rulebook.specs.Gates.{atom_of, clauses_of, is_gate_of, is_set_of}
+use Rattle.sb_rules.proofs.Gated.{atom_there, brought_there, by_clauses, by_conjunction}
 use Rattle.sb_rules.proofs.kept.Kept.is_gate_of.Goals as goal
 
-pub returns-in-Iff : goal.returns-in-Iff
-returns-in-Iff c =
+pub returns-in-And : goal.returns-in-And
+returns-in-And c =
     let atoms = c.args.self.now.atoms in
-    let a = iff_atom c.in-Iff.one c.in-Iff.other in
-    c.is_of_equivalence.ensures
-    ∙ sym (gate_at c.args.self.now.arena atoms c.args.clause.now c.args.literal a
-    (subst (λ n. Names atoms n a) c.of.ensures
-    (subst (λ d. Names atoms c.of.result (atom_in d)) c.in-Iff.is c.describe.ensures)))
+    let rs = c.args.self.now.arena in
+    let clause = c.args.clause.now in
+    let l = c.args.literal in
+    let ls = c.in-And.conjuncts.items in
+    ok_more (λ b. b ≡ (if l.positive then is_set_of clause (l ∷ map negation ls)
+    else list_any (λ m. is_set_of clause (l ∷ m ∷ [])) ls))
+    (λ b. b ≡ is_gate_of (atoms_in rs atoms) clause l (atom_of (atoms_in rs atoms) l)) c.is_of_conjunction.result
+    (λ b is. by_conjunction rs atoms clause l ls b
+    (subst (λ n. Names atoms n (and_atom ls)) c.of.ensures
+    (subst (λ d. Names atoms c.of.result (atom_in d)) c.in-And.is c.describe.ensures))
+    c.requires.signs c.requires.among is) c.is_of_conjunction.ensures
+
+pub returns : goal.returns
+returns c =
+    let atoms = c.args.self.now.atoms in
+    let l = c.args.literal in
+    by_clauses c.args.self.now.arena atoms c.args.clause.now l (atom_at atoms l.atom) c.is_one_of.result
+    (atom_there atoms l c.requires.known) (brought_there atoms l c.requires.known c.requires.brought)
+    (c.is_one_of.ensures
+    ∙ ap (list_any (is_set_of c.args.clause.now))
+    (c.deref.ensures.value ∙ (c.in_ok-said.ensures ∙ ap (λ n. clauses_of n (atom_at atoms n)) c.of.ensures)))
