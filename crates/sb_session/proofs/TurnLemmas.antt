@@ -1,9 +1,8 @@
 -- What becomes of what came next.
-use Rattle.sb_session.proofs.Words.{◌≡◌, Bool, true, false, if◌then◌else◌, List, ℕ, sym, ◌∙◌, refl, Cut, Fails, Goes, IsEntry, Outside, Pauses, SessionFault, SessionState, Sofar, Takes, Went, entry_of, false≢true, is_exit, is_proved, Next}
+use Rattle.sb_session.proofs.Words.{◌≡◌, Bool, true, false, if◌then◌else◌, List, ℕ, sym, ◌∙◌, refl, Cut, CutOrNot, Goes, IsEntry, Outside, Pauses, SessionState, Sofar, Takes, Went, entry_of, is_exit, is_proved, Next}
 use Rattle.sb_reader.specs.declared.feed.Next.TheVariants as next
 use Rattle.sb_reader.specs.Feeding as feed
 use Rattle.sb_session.specs.declared.command.Went.TheVariants.{Go, Exited}
-use Rattle.sb_session.specs.declared.command.SessionFault.TheVariants as fault
 use Rattle.sb_session.specs.declared.solve.Pause.TheVariants as pause
 use Rattle.sb_session.proofs.ReadingLemmas.{answer_on, answer_exit, cut_answer, wait_on}
 
@@ -40,18 +39,12 @@ exits n went session session' before now is e h opened bytes old new answers sof
     (an_exit (is_exit (entry_of n)) (sym e ∙ h.went_is)) h.same_kind (takes_entry n old new is answers) h.answers sofar
 
 -- the entry is not answered, or not whole
-pub fails : (n : Next) (f : SessionFault) (session session' : SessionState) (before now : Outside) → IsEntry n
-    → session.ended ≡ false → Fails f (entry_of n) session session' before now
+pub fails : (n : Next) (session : SessionState) (before now : Outside) → IsEntry n
+    → CutOrNot (entry_of n) session before now
     → (opened : Outside) (bytes : List ℕ) (old new : feed.Unanswered) → feed.IsNext n old new
     → Sofar opened bytes old session before → Cut (is_proved session) opened bytes old.1 now
-fails n fault.Ended session session' before now is going h opened bytes old new answers sofar =
-    absurd (false≢true (sym going ∙ h.0))
-fails n fault.Fault session session' before now is going h opened bytes old new answers sofar =
-    cut_answer opened bytes (entry_of n) old new session before now (takes_entry n old new is answers)
-    h.2 sofar
-fails n fault.NoMemory session session' before now is going h opened bytes old new answers sofar =
-    cut_answer opened bytes (entry_of n) old new session before now (takes_entry n old new is answers)
-    h.2 sofar
+fails n session before now is h opened bytes old new answers sofar =
+    cut_answer opened bytes (entry_of n) old new session before now (takes_entry n old new is answers) h sofar
 
 -- no whole entry is there
 pub waits : (n : Next) (session : SessionState) (now : Outside) → n ≡ next.NotYet → session.ended ≡ false

@@ -2,12 +2,12 @@
 use Rattle.std.specs.Prelude.{◌≡◌, ℕ, List, length, Result, Ok, Err}
 use Rattle.sb_world.specs.Outside.{Outside}
 use Rattle.sb_world.specs.Moved.{Write, moved_by}
+use Rattle.sb_world.specs.declared.WorldError.{WorldError}
+use Rattle.sb_world.specs.declared.WorldError.TheVariants as world_error
 use Rattle.sb_reader.specs.Entries.{Entry}
 use Rattle.sb_reader.specs.Feeding as feed
 use Rattle.sb_rulebook.specs.Judging as rulebook
 use Rattle.sb_stack.specs.Stacked.{state_of}
-use Rattle.sb_session.specs.declared.command.SessionFault.{SessionFault}
-use Rattle.sb_session.specs.declared.command.SessionFault.TheVariants as fault
 use Rattle.sb_session.specs.declared.solve.SolveStatus.{SolveStatus}
 use Rattle.sb_session.specs.declared.solve.SolveStatus.TheVariants.{Fault, NoMemory}
 use Rattle.sb_session.specs.Commanding.{SessionState, is_proved, IsTracked}
@@ -27,9 +27,8 @@ pub record Sofar (opened : Outside) (bytes : List ℕ) (kept : feed.Unanswered) 
   pub answered : Answered (is_proved session) bytes kept.1 entries left writes (state_of session.stack, progress)
   pub outside : now ≡ moved_by (work (length bytes) writes) opened
 
--- the status of a run that ended with a status or a fault
-abbrev pub status_by : Result SolveStatus SessionFault → SolveStatus
+-- the status of a run that ended with a status or an error
+abbrev pub status_by : Result SolveStatus WorldError → SolveStatus
 status_by (Ok status) = status
-status_by (Err fault.Fault) = Fault
-status_by (Err fault.NoMemory) = NoMemory
-status_by (Err fault.Ended) = NoMemory
+status_by (Err world_error.Failed) = Fault
+status_by (Err world_error.NoMemory) = NoMemory

@@ -50,16 +50,6 @@ pub enum SessionFault {
     Ended,
 }
 
-impl From<AllocError> for SessionFault {
-    ghost use Rattle.sb_session.specs.declared.command.SessionFault.TheVariants.{NoMemory};
-
-    ghost from_gives = { λ _ fault. fault ≡ NoMemory };
-
-    fn from(_error: AllocError) -> SessionFault {
-        SessionFault::NoMemory
-    }
-}
-
 impl From<WorldError> for SessionFault {
     ghost use Rattle.sb_session.specs.Commanding.{fault_of};
 
@@ -142,6 +132,25 @@ impl Session {
         if self.ended {
             return Err(SessionFault::Ended);
         }
+        let went = self.answer(entry, world)?;
+        Ok(went)
+    }
+
+    /// Answers the next entry of a session that has not ended.
+    pub(crate) fn answer<W: World>(
+        &mut self,
+        entry: &Next,
+        world: &mut W,
+    ) -> Result<Went, WorldError>
+        requires entry { IsEntry entry.now }
+        requires goes_on { self.old.ended ≡ false }
+        ensures ok { IfOk result
+            (λ went. Goes went (entry_of entry.now) self.old self.new (W.outside world.old) (W.outside world.new)) }
+        ensures err { OnErr result
+            (CutOrNot (entry_of entry.now) self.old (W.outside world.old) (W.outside world.new)) }
+        ensures ended { OnErr result (self.new.ended ≡ true) }
+        ensures faults { CountsFault result (W.faults world.old) (W.faults world.new) }
+    {
         self.ended = true;
         let went = answer_entry(
             self.alloc,
@@ -156,14 +165,15 @@ impl Session {
         Ok(went)
     }
 
-    /// Writes the last lines of the proof, where one is written. No entry may come behind them.
-    pub fn finish<W: World>(&mut self, world: &mut W) -> Result<(), SessionFault>
+    /// Writes the last lines of the proof, where one is written. No entry may come behind them. An error is want of
+    /// memory, or a fault of the outside where the world's count of faults rose.
+    pub fn finish<W: World>(&mut self, world: &mut W) -> Result<(), WorldError>
         ensures ok { OnOk result ((p : Progress) → IsTracked self.old p
             → W.outside world.new ≡ moved_by (writing_all (end_writes (is_proved self.old) p)) (W.outside world.old)) }
         ensures err { OnErr result ((p : Progress) → IsTracked self.old p
             → CutOf (end_writes (is_proved self.old) p) (W.outside world.old) (W.outside world.new)) }
         ensures ended { self.new.ended ≡ true }
-        ensures faults { CountsSessionFault result (W.faults world.old) (W.faults world.new) }
+        ensures cause { CountsFault result (W.faults world.old) (W.faults world.new) }
     {
         self.ended = true;
         finish_proof(self.alloc, &mut self.prover, self.proved, world)?;
