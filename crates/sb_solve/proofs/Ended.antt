@@ -1,5 +1,5 @@
 -- What a search leaves, and what comes of it.
-use Rattle.sb_solve.proofs.Words.{◌≡◌, ℕ, Bool, true, List, [], ◌∷◌, length, take, Option, Some, None, refl, sym, ap, subst, ◌∙◌, take-append_seam, Asserted, false≢true, Global, Vec, Lit, Spending, Kept, KeptClause, kept_at, Regex, has_room_for, AtomOver, Stacked, Store, AreDistinct, Backing, IsLowestEmpty, unit_at, Stand, each-reserved, kept-stays, room-for-each, stand-traced, FollowsByLevel, GrowsTo, HaveAtoms, IsValid, IsTaught, AreWanted, AreAmong, AreTaken, Answers, HasCore, IsDone, IsNumbered, IsSearched, Runs, backing_in, Solved, State, IsKeptCore, are_negated, Traced, EmptyClause, written, Strings, Tables, Choices}
+use Rattle.sb_solve.proofs.Words.{◌≡◌, ◌≤◌, ℕ, Bool, true, List, [], ◌∷◌, length, take, Option, Some, None, refl, sym, ap, subst, ◌∙◌, take-append_seam, Asserted, false≢true, Global, Vec, Lit, Spending, Kept, KeptClause, kept_at, Regex, has_room_for, AtomOver, Stacked, Store, AreDistinct, Backing, IsLowestEmpty, unit_at, Stand, each-reserved, kept-stays, room-for-each, stand-traced, FollowsByLevel, GrowsTo, HaveAtoms, IsValid, IsTaught, AreWanted, AreAmong, AreTaken, Answers, HasCore, IsDone, IsNumbered, IsSearched, Runs, backing_in, Solved, State, IsKeptCore, are_negated, Traced, EmptyClause, written, Strings, Tables, Choices}
 use Rattle.sb_theory.specs.Strings as theory
 use Rattle.sb_solve.specs.declared.check.Solved.TheVariants as solved
 
@@ -17,9 +17,10 @@ searched_over : (b : Tables) (y : Strings) (z : State) (before after : Spending)
     → theory.Stands y z.trail.literals → GrowsTo b.engine.kept z.kept
     → FollowsByLevel (IsValid y.store.arena y.atoms) b.engine.kept z.kept
     → theory.Writes b.strings y (written b.engine.kept before old) (written z.kept after new)
+    → after.limit ≡ before.limit → before.spent ≤ after.spent
     → IsSearched b.strings.proves b.strings.store (backing_in b) before old y.store
     (record (backing_in b) { trace = y.trace; atoms = y.atoms; kept = z.kept; refuted = refuted }) after new
-searched_over b y z before after old new refuted room stands grows follows writes = record {
+searched_over b y z before after old new refuted room stands grows follows writes limit spends = record {
   store = writes.store;
   regexes = stands.holds.regexes;
   atoms = writes.atoms;
@@ -29,6 +30,8 @@ searched_over b y z before after old new refuted room stands grows follows write
   follows = subst (λ (ts : List (AtomOver ℕ)). FollowsByLevel (IsValid y.store.arena ts) b.engine.kept z.kept)
       writes.atoms follows;
   silent = writes.silent;
+  limit = limit;
+  spends = spends;
   puts = λ on asked kept e counted.
       let start : theory.Backs asked b.strings kept (written b.engine.kept before old) =
       record { tracks = e.tracks; atoms = e.atoms; clauses = e.clauses; known = have; counted = counted } in
@@ -57,12 +60,13 @@ pub runs_to : (s : Stacked) (b c : Tables) (y : Strings) (z : State) (choices : 
     → has_room_for (length b.strings.atoms) b.engine.kept ≡ true → theory.Stands y z.trail.literals
     → GrowsTo b.engine.kept z.kept → FollowsByLevel (IsTaught y.store.arena y.atoms y.wanted) b.engine.kept z.kept
     → theory.Writes b.strings y (written b.engine.kept before old) (written z.kept after new)
+    → after.limit ≡ before.limit → before.spent ≤ after.spent
     → Answers s y.store.arena y.atoms z.kept y.wanted after answer → Runs s b before old c after new answer
-runs_to s b c y z choices words before after old new answer is same room stands grows follows writes answers =
+runs_to s b c y z choices words before after old new answer is same room stands grows follows writes limit spends answers =
     subst (λ (t : Tables). Runs s b before old t after new answer) (sym is) (record {
       searched = λ refuted.
           searched_over b y z before after old new refuted room stands grows
-          (λ level values obeys. follows level values (λ clause taught. obeys clause taught.1)) writes;
+          (λ level values obeys. follows level values (λ clause taught. obeys clause taught.1)) writes limit spends;
       answers = subst (λ (ns : List ℕ). Answers s y.store.arena y.atoms z.kept ns after answer) same answers;
       refuted_stays = refl;
       gates_stay = refl;

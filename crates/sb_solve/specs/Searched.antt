@@ -1,5 +1,5 @@
 -- Private: a search over the evidence and the tables, from its beginning to its answer.
-use Rattle.std.specs.Prelude.{◌≡◌, ℕ, Bool, true, false, List, [], length, Option, Some}
+use Rattle.std.specs.Prelude.{◌≡◌, ◌≤◌, ℕ, Bool, true, false, List, [], length, Option, Some}
 use Rattle.sb_solve.specs.Words.{AllKept, AreDistinct, Asked, AtomOver, Backing, Backs, EmptyClause, Evidences, FollowsByLevel, HaveAtoms, HaveRegexesBelow, IsCounted, IsValid, Kept, Lit, Regex, RegexesGrow, Spending, Stacked, Stand, Stands, Store, are_atoms, atoms_in, is_atom, is_table, is_true_by, list_all, state_of, wanted_on}
 use Rattle.sb_clauses.specs.Propagation.{State}
 use Rattle.sb_analyze.specs.Cores.{IsKeptCore}
@@ -41,7 +41,7 @@ AreAmong atoms literals wanted = (rs : List Regex) → is_table (atoms_in rs ato
 
 -- What is known of regexes grows, clauses stay, and new ones follow from these and from what is true of words, level by
 -- level; where lines are put, those for the new clauses follow, and where none are, what stands of regexes in the proof
--- stays.
+-- stays. The budget keeps its limit, and no step of it comes back.
 pub record IsSearched (proves : Bool) (x : Store) (e : Backing) (before : Spending) (old : Option (List ℕ))
     (y : Store) (f : Backing) (after : Spending) (new : Option (List ℕ)) : Type 0
   where
@@ -53,6 +53,8 @@ pub record IsSearched (proves : Bool) (x : Store) (e : Backing) (before : Spendi
     pub known : HaveAtoms e.atoms f.kept
     pub follows : FollowsByLevel (IsValid y.arena e.atoms) e.kept f.kept
     pub silent : proves ≡ false → f.trace ≡ e.trace
+    pub limit : after.limit ≡ before.limit
+    pub spends : before.spent ≤ after.spent
     pub puts : proves ≡ true → (asked : Asked) (kept : AllKept) → Backs x.arena x.graph.memo e kept
         → IsCounted asked kept before → Evidences asked kept y.arena y.graph.memo f after old new
 

@@ -1,6 +1,6 @@
 //! The check of the live assertions.
 
-ghost use Rattle.std.specs.Prelude.{◌≡◌, ◌<◌, true, false, length, IfOk, OnOk};
+ghost use Rattle.std.specs.Prelude.{◌≡◌, ◌<◌, ◌≤◌, true, false, length, IfOk, OnOk};
 ghost use Rattle.sb_solve.specs.Words.{All, AllKept, AreTerms, Backs, CountsTapeFault, Evidences, Grows, HaveRegexesBelow, IsCounted, IsStoreOf, asked_in, is_decided, list_all, live, state_of};
 ghost use Rattle.sb_solve.specs.Solved.{AreOfLevels, IsSolved};
 ghost use Rattle.sb_solve.specs.Truth.{IsTrue};
@@ -67,6 +67,8 @@ pub fn solve<L: Tape>(
         → IsTrue (asked_in (state_of stack.now)) store.new.arena store.new.graph.memo evidence.new) }
     ensures levels { OnOk result (AreOfLevels (asked_in (state_of stack.now)).live evidence.old.asserted
         evidence.new.asserted) }
+    ensures limit { OnOk result (budget.new.limit ≡ budget.old.limit) }
+    ensures spends { OnOk result (budget.old.spent ≤ budget.new.spent) }
     ensures store { OnOk result (Grows stack.now.table store.old store.new) }
     ensures regexes { OnOk result (HaveRegexesBelow (length store.new.arena) evidence.new.atoms) }
     ensures counts { CountsTapeFault result (L.Tape.faults tape.old) (L.Tape.faults tape.new) }

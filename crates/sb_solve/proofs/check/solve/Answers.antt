@@ -19,6 +19,8 @@ returns g c =
           (λ x done. sound _ _ _ _ _ _ _ _ _ _ _ _ _ _ _ _ stated done c.follows_by_rule.ensures
           c.line_stays_sound.ensures c.counted_again_stays_sound.ensures) ok;
       levels = IfOk-weaker r _ _ (λ x done. levels _ _ _ _ _ _ _ _ _ _ _ _ _ _ _ _ stated done) ok;
+      limit = IfOk-weaker r _ _ (λ x done. done.searched.limit) ok;
+      spends = IfOk-weaker r _ _ (λ x done. done.searched.spends) ok;
       store = IfOk-weaker r _ _
           (λ x done. grows_both _ _ _ _ stated.store (c.regexes_grow.ensures.alone _ _ _ done.searched.store)) ok;
       regexes = IfOk-weaker r _ _ (λ x done. done.searched.regexes) ok;
@@ -36,6 +38,8 @@ returns-in_err-literals g c =
       answer = IfOk-from_err x.result _ x.ensures.0;
       sound = IfOk-from_err x.result _ x.ensures.0;
       levels = IfOk-from_err x.result _ x.ensures.0;
+      limit = IfOk-from_err x.result _ x.ensures.0;
+      spends = IfOk-from_err x.result _ x.ensures.0;
       store = IfOk-from_err x.result _ x.ensures.0;
       regexes = IfOk-from_err x.result _ x.ensures.0;
       counts = counts_on (Vec Lit Global) x.result p.0 _ _ _ p.1 p.2 c.in_err-literals.ensures.counts;

@@ -25,7 +25,7 @@ returns-in-Unsat g c =
     let y = c.search.new.theory in
     record {
       runs = runs_to c.args.stack.now c.args.tables.now _ y c.search.new.engine c.search.new.choices y.words
-          _ _ _ _ _ refl c.search.ensures.wanted c.requires.known h.stands h.kept h.follows_by_level h.puts
+          _ _ _ _ _ refl c.search.ensures.wanted c.requires.known h.stands h.kept h.follows_by_level h.puts h.limit h.spends
           (subst (IsFound y.wanted [] c.search.new.engine c.search.new.budget) c.in-Unsat.is h.found);
       counts = h.counts;
     }
@@ -36,7 +36,7 @@ returns-in-Spent g c =
     let y = c.search.new.theory in
     record {
       runs = runs_to c.args.stack.now c.args.tables.now _ y c.search.new.engine c.search.new.choices y.words
-          _ _ _ _ _ refl c.search.ensures.wanted c.requires.known h.stands h.kept h.follows_by_level h.puts
+          _ _ _ _ _ refl c.search.ensures.wanted c.requires.known h.stands h.kept h.follows_by_level h.puts h.limit h.spends
           (subst (IsFound y.wanted [] c.search.new.engine c.search.new.budget) c.in-Spent.is h.found);
       counts = h.counts;
     }
@@ -49,7 +49,7 @@ returns-in_ok-values-in-Sat g c =
     record {
       runs = runs_to c.args.stack.now c.args.tables.now c.values_of.new.tables y c.search.new.engine
           c.search.new.choices _ _ _ _ _ _ v.rest c.search.ensures.wanted c.requires.known h.stands h.kept
-          h.follows_by_level h.puts
+          h.follows_by_level h.puts h.limit h.spends
           (record {
             search = c.search.new.engine;
             theory = y.words.items;
