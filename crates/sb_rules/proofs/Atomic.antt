@@ -1,8 +1,9 @@
 -- Atoms of the table, and what is made of one more.
-use Rattle.std.proofs.Common.{◌≡◌, ℕ, zero, suc, Bool, true, false, ◌||◌, ◌==◌, inl, inr, if◌then◌else◌, List, [], ◌∷◌, ◌++◌, length, Option, Some, None, Ok, Err, refl, ap, ap₂, sym, subst, ◌∙◌}
+use Rattle.std.proofs.Common.{◌≡◌, ℕ, zero, suc, Bool, true, false, ◌||◌, ◌==◌, inl, inr, if◌then◌else◌, List, [], ◌∷◌, ◌++◌, length, Option, Some, None, Result, Ok, Err, refl, ap, ap₂, sym, subst, ◌∙◌}
 use Rattle.std.specs.List.{list_all, list_any}
 use Rattle.std.proofs.lemmas.Bool.{and_parts, and_from}
 use Rattle.std.proofs.lemmas.Bool.Decides.{nat_tests}
+use Rattle.std.proofs.lemmas.List.{map-append}
 use Rattle.std.proofs.Common.{arith}
 use Rattle.sb_lang.specs.Regex.{Regex}
 use Rattle.sb_lang.specs.OrderLaws.{OrderTellsApart}
@@ -11,13 +12,16 @@ use Rattle.sb_atoms.specs.declared.atom.Atom as code
 use Rattle.sb_atoms.specs.declared.atom.Atom.TheVariants as atom
 use Rattle.sb_atoms.specs.Numbered.{atom_in, Names, IsWith, over, atoms_in, HasRegexBelow, HaveRegexesBelow}
 use Rattle.sb_atoms.proofs.CallerLemmas.{over_one, atoms_more}
-use Rattle.sb_rulebook.specs.Refusals.{repeated, not_normal}
-use Rattle.sb_rulebook.specs.Atoms.{AtomOver, bool_atom, in_atom, le_atom, sum_atom, and_atom, iff_atom, is_same_atom, is_well_formed}
+use Rattle.sb_rulebook.specs.Refusals.{Refusal, repeated, not_normal}
+use Rattle.sb_rulebook.specs.Atoms.{Atom, AtomOver, bool_atom, in_atom, le_atom, sum_atom, and_atom, iff_atom, is_same_atom, is_well_formed}
 use Rattle.sb_rulebook.specs.AtomRules.{defined}
 use Rattle.sb_rulebook.specs.Brought.{is_brought_atom}
 use Rattle.sb_rulebook.specs.Kept.{AllKept}
 use Rattle.sb_rulebook.proofs.CallerLemmas.{same_atom, atom_itself}
+use Rattle.sb_rules.specs.declared.fault.Fault.{Fault}
+use Rattle.sb_rules.specs.declared.fault.Fault.TheVariants as fault
 use Rattle.sb_rules.specs.declared.kept.Kept.{Kept}
+use Rattle.sb_rules.specs.Judged.{Meets}
 use Rattle.sb_rules.specs.Kept.{kept_in}
 
 -- An atom is among those of the table exactly where it has a number.
@@ -75,6 +79,18 @@ pub added_new : (old new : List (AtomOver ℕ)) (a : AtomOver ℕ) (id : ℕ) �
     → ((i : ℕ) → Names old i a → ⊥) → new ≡ old ++ a ∷ []
 added_new old new a id (inl same) named none = absurd (none id (subst (λ xs. Names xs id a) same named))
 added_new old new a id (inr more) named none = more
+
+-- memory was wanted for an atom, which may be kept
+pub atom_wanted : (A : Type 0) (result : Result A Fault) (e : Fault) (ruled : Result AllKept Refusal) (k : Kept)
+    (others : AllKept) (a : AtomOver ℕ) (atoms : List (AtomOver ℕ)) → result ≡ Err e → e ≡ fault.NoMemory
+    → IsWith k.atoms atoms a → Meets result ruled k (record k { atoms = atoms }) others
+atom_wanted A result e ruled k others a atoms r s (inl same) =
+    rw (r, s) (inl (ap (λ (xs : List (AtomOver ℕ)). record (kept_in k others) { atoms = atoms_in k.arena xs }) same))
+atom_wanted A result e ruled k others a atoms r s (inr more) = rw (r, s) (inr (
+  over k.arena a,
+  ap (λ (xs : List Atom). record (kept_in k others) { atoms = xs })
+      (ap (atoms_in k.arena) more ∙ map-append (over k.arena) k.atoms (a ∷ [])),
+))
 
 -- after adding an atom, whether it is there
 pub whole_with : (n : ℕ) (old new : List (AtomOver ℕ)) (a : AtomOver ℕ) → IsWith old new a → HaveRegexesBelow n old

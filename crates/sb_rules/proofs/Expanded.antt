@@ -1,5 +1,5 @@
 -- The line of an expansion.
-use Rattle.std.proofs.Common.{◌≡◌, ℕ, Bool, if◌then◌else◌, List, [], ◌∷◌, map, Option, Some, None, is_some, option_map, slice_get, set, Result, Err, refl, ap, sym, ◌∙◌}
+use Rattle.std.proofs.Common.{◌≡◌, ℕ, Bool, if◌then◌else◌, List, [], ◌∷◌, map, Option, Some, None, is_some, option_map, slice_get, set, Result, Err, refl, inl, ap, sym, ◌∙◌}
 use Rattle.std.proofs.lemmas.Option.{slice_get-map}
 use Rattle.sb_lang.specs.Regex.{Regex}
 use Rattle.sb_regex.specs.Numbered.{regex_at, regexes_at}
@@ -17,6 +17,9 @@ use Rattle.sb_rules.specs.Branches.{branches_at}
 use Rattle.sb_atoms.specs.Numbered.{atoms_in}
 use Rattle.sb_rules.specs.Known.{Known}
 use Rattle.sb_rules.proofs.Staying.{all_of}
+use Rattle.sb_rules.specs.Expanding.{JudgesExpansion}
+use Rattle.sb_rules.specs.declared.fault.Fault.{Fault}
+use Rattle.sb_rules.specs.declared.fault.Fault.TheVariants as fault
 use Rattle.sb_rules.specs.declared.kept.Kept.{Kept}
 use Rattle.sb_rules.specs.Kept.{kept_in}
 
@@ -49,6 +52,12 @@ branches_of rs order (k ∷ ks) =
 same_targets : (ks : List Class) → map (λ k. k.1) (map class_in ks) ≡ map (λ k. k.target) ks
 same_targets [] = refl
 same_targets (k ∷ ks) = ap (λ ids. k.target ∷ ids) (same_targets ks)
+
+-- memory was wanted, and what is kept is as before
+pub expansion_wanted : (A : Type 0) (result : Result A Fault) (e : Fault) (asked : Asked) (old new : Kept) (number : ℕ)
+    (ks : List Class) → result ≡ Err e → e ≡ fault.NoMemory
+    → ((others : AllKept) → kept_in new others ≡ kept_in old others) → JudgesExpansion result asked old new number ks
+expansion_wanted A result e asked old new number ks r s same = rw (r, s) (λ others. inl (same others))
 
 -- What the rule of expansions says, by what was looked up.
 

@@ -3,7 +3,7 @@ use Rattle.std.specs.List.{All}
 use Rattle.std.proofs.lemmas.List.Elements.{All-nil, All-cons}
 use Rattle.std.proofs.lemmas.Option.{get_or_from_slice_get, slice_get_within}
 use Rattle.sb_rulebook.specs.Parts.{together}
-use Rattle.std.proofs.Common.{◌≡◌, ℕ, suc, ◌<◌, map, Option, None, option_map, slice_get, subst, List, [], ◌∷◌, ◌++◌, length, Some, Result, Ok, Err, refl, ap, ap₂, sym, ◌∙◌}
+use Rattle.std.proofs.Common.{◌≡◌, ℕ, suc, ◌<◌, map, Option, None, option_map, slice_get, subst, List, [], ◌∷◌, ◌++◌, length, Some, Result, Ok, Err, refl, inl, ap, ap₂, sym, ◌∙◌}
 use Rattle.std.specs.Prelude.{OnErr}
 use Rattle.sb_lang.specs.Regex.{Regex}
 use Rattle.sb_lit.specs.declared.clause.Lit.{Lit}
@@ -23,7 +23,7 @@ use Rattle.sb_rules.specs.declared.fault.Fault.{Fault}
 use Rattle.sb_rules.specs.declared.fault.Fault.TheVariants as fault
 use Rattle.sb_rules.specs.declared.kept.Kept.{Kept}
 use Rattle.sb_rules.specs.Kept.{kept_in, IsWhole}
-use Rattle.sb_rules.specs.Judged.{Judges, Meets, IsCounting}
+use Rattle.sb_rules.specs.Judged.{Judges, LeavesKept, Meets, IsCounting}
 
 -- all that is kept, by its parts
 abbrev pub all_of : AllKept → List Regex → Known → List Atom → clauses.Kept → ℕ → AllKept
@@ -74,7 +74,8 @@ judged-known (Ok done) asked old new line w e a c n u h =
     )
 judged-known (Err (fault.Refused refusal)) asked old new line w e a c n u h =
     λ others. (h (kept_in old others), same_kept old new others w e u a c n)
-judged-known (Err fault.NoMemory) asked old new line w e a c n u h = λ others. tt
+judged-known (Err fault.NoMemory) asked old new line w e a c n u h =
+    λ others. inl (same_kept old new others w e u a c n)
 
 -- A line that is counted.
 
@@ -104,13 +105,29 @@ pub judged_by : {A : Type 0} (result : Result A Fault) (one other : Result AllKe
     → Meets result other middle new others → Meets result one old new others
 judged_by (Ok done) one other old middle new others e k m = (m.0, e ∙ m.1)
 judged_by (Err (fault.Refused refusal)) one other old middle new others e k m = (e ∙ m.0, m.1 ∙ k)
-judged_by (Err fault.NoMemory) one other old middle new others e k m = tt
+judged_by (Err fault.NoMemory) one other old middle new others e k m =
+    subst (λ (kept : AllKept). LeavesKept kept (kept_in new others)) k m
 
 pub exits : (A : Type 0) (result : Result A Fault) (e f : Fault) (ruled : Result AllKept Refusal) (old new : Kept)
     (others : AllKept) → result ≡ Err e → e ≡ f → Meets {A = Unit {0}} (Err f) ruled old new others
     → Meets result ruled old new others
 exits A result e (fault.Refused refusal) ruled old new others r s m = rw (r, s) m
-exits A result e fault.NoMemory ruled old new others r s m = rw (r, s) tt
+exits A result e fault.NoMemory ruled old new others r s m = rw (r, s) m
+
+-- memory was wanted, and what is kept is as before
+pub wanted : (A : Type 0) (result : Result A Fault) (e : Fault) (ruled : Result AllKept Refusal) (old new : Kept)
+    (others : AllKept) → result ≡ Err e → e ≡ fault.NoMemory → kept_in new others ≡ kept_in old others
+    → Meets result ruled old new others
+wanted A result e ruled old new others r s same = rw (r, s) (inl same)
+
+-- or the clauses alone are other ones, and these are as before
+pub clauses_wanted : (A : Type 0) (result : Result A Fault) (e : Fault) (ruled : Result AllKept Refusal)
+    (old middle : Kept) (others : AllKept) (cs : clauses.Kept) → result ≡ Err e → e ≡ fault.NoMemory
+    → kept_in middle others ≡ kept_in old others → cs ≡ middle.clauses
+    → Meets result ruled old (record middle { clauses = cs }) others
+clauses_wanted A result e ruled old middle others cs r s same stays =
+    wanted A result e ruled old (record middle { clauses = cs }) others r s
+    (ap (λ (ks : clauses.Kept). record (kept_in middle others) { clauses = ks }) stays ∙ same)
 
 -- Numbers that were found are below the length.
 

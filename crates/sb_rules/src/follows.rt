@@ -20,7 +20,7 @@ impl Kept {
     /// A line costs what it holds, and what its rule must look at: the normal form of the regex that it defines or of
     /// the intersection that its clause speaks of; the derivatives by the characters between which an expansion changes;
     /// the literals of its hints, or of the gates that its clause may be of, and the kept clauses that may be a part of
-    /// it. After want of memory what is kept may be anything.
+    /// it. After want of memory what is kept is as before, but that the atom of the line may be kept.
     pub fn follows(
         &mut self,
         table: &Table,

@@ -2,7 +2,7 @@ use Rattle.std.proofs.Common.{[], ◌∷◌, ◌++◌, Ok, refl, ap, ◌∙◌}
 use Rattle.std.proofs.lemmas.Result.{err_from_is_err_and}
 use Rattle.sb_rulebook.specs.Kept.{AllKept, with_clause}
 use Rattle.sb_rules.specs.Kept.{kept_in}
-use Rattle.sb_rules.proofs.Staying.{refused_count, clause_kept}
+use Rattle.sb_rules.proofs.Staying.{refused_count, clause_kept, clauses_wanted}
 use Rattle.sb_regex.proofs.CallerLemmas.{extends_same}
 use Rattle.sb_rules.proofs.kept.Kept.add_counted.Goals as goal
 
@@ -25,3 +25,10 @@ returns-clause-counts c = λ asked others rests limit.
 
 pub returns-in_err-add-clause-terms : goal.returns-in_err-add-clause-terms
 returns-in_err-add-clause-terms c = record { extends = extends_same _; normals = refl; measures = refl }
+
+pub returns-in_err-add-clause-counts : goal.returns-in_err-add-clause-counts
+returns-in_err-add-clause-counts c = λ asked others rests limit.
+    let x = c.from_residual-in_err-add in
+    let p = err_from_is_err_and x.result x.ensures.1 in
+    clauses_wanted _ x.result p.0 _ c.args.self.now c.args.self.now others c.add.new.self p.1 p.2 refl
+    c.in_err-add.ensures.err

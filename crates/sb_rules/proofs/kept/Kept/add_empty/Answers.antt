@@ -1,10 +1,11 @@
 use Rattle.std.proofs.Common.{[], not, if◌then◌else◌, Err, ap, sym, ◌∙◌, refl}
+use Rattle.std.proofs.lemmas.Result.{err_from_is_err_and}
 use Rattle.sb_rulebook.specs.Follows.{follows}
 use Rattle.sb_rulebook.specs.Kept.{AllKept, counting, with_clause}
 use Rattle.sb_rulebook.specs.Lines.{rule_line, empty}
 use Rattle.sb_rulebook.specs.Refusals.{rule_broken}
 use Rattle.sb_rules.specs.Kept.{kept_in}
-use Rattle.sb_rules.proofs.Staying.{judged_by}
+use Rattle.sb_rules.proofs.Staying.{judged_by, wanted}
 use Rattle.sb_rules.proofs.Emptied.{by_rule_empty}
 use Rattle.sb_regex.proofs.CallerLemmas.{extends_same, extends_more}
 use Rattle.sb_rules.proofs.kept.Kept.add_empty.Goals as goal
@@ -42,3 +43,15 @@ returns-clause-terms c = record {
   normals = c.add_counted.ensures.terms.normals ∙ c.have_no_word.ensures.terms.normals;
   measures = c.add_counted.ensures.terms.measures ∙ c.have_no_word.ensures.terms.measures;
 }
+
+pub returns-in_err-is_repeated-clause-judges : goal.returns-in_err-is_repeated-clause-judges
+returns-in_err-is_repeated-clause-judges c = λ asked limit others.
+    let x = c.from_residual in
+    let p = err_from_is_err_and x.result x.ensures.1 in
+    wanted _ x.result p.0 _ c.args.self.now c.args.self.now others p.1 p.2 refl
+
+pub returns-in_err-have_no_word-clause-judges : goal.returns-in_err-have_no_word-clause-judges
+returns-in_err-have_no_word-clause-judges c = λ asked limit others.
+    let x = c.from_residual-in_err-have_no_word in
+    let p = err_from_is_err_and x.result x.ensures.1 in
+    wanted _ x.result p.0 _ c.args.self.now c.have_no_word.new.self others p.1 p.2 (c.have_no_word.ensures.kept others)

@@ -1,9 +1,10 @@
 use Rattle.std.proofs.Common.{[], ◌∷◌, ◌++◌, length, if◌then◌else◌, Ok, Err, refl, ap, sym, ◌∙◌}
+use Rattle.std.proofs.lemmas.Result.{err_from_is_err_and}
 use Rattle.sb_atoms.specs.Numbered as numbered
 use Rattle.sb_atoms.specs.Numbered.{atoms_in}
 use Rattle.sb_rulebook.specs.Refusals.{not_normal}
 use Rattle.sb_rules.specs.Kept.{kept_in}
-use Rattle.sb_rules.proofs.Atomic.{all_brought, added_new, whole_with, kept_by_form}
+use Rattle.sb_rules.proofs.Atomic.{all_brought, added_new, atom_wanted, whole_with, kept_by_form}
 use Rattle.sb_regex.proofs.CallerLemmas.{extends_same}
 use Rattle.sb_rules.proofs.kept.Kept.add_new.Goals as goal
 
@@ -52,3 +53,10 @@ returns-in_err-add-clause-terms c = record { extends = extends_same _; normals =
 
 pub returns-clause-terms : goal.returns-clause-terms
 returns-clause-terms c = record { extends = extends_same _; normals = refl; measures = refl }
+
+pub returns-in_err-add-clause-defines : goal.returns-in_err-add-clause-defines
+returns-in_err-add-clause-defines c = λ others.
+    let x = c.from_residual in
+    let p = err_from_is_err_and x.result x.ensures.1 in
+    atom_wanted _ x.result p.0 _ c.args.self.now others (numbered.atom_in c.args.atom) c.add.new.self p.1 p.2
+    c.add.ensures.grows

@@ -1,9 +1,10 @@
 use Rattle.std.proofs.lemmas.Option.{slice_get_read, slice_get_past}
+use Rattle.std.proofs.lemmas.Result.{err_from_is_err_and}
 use Rattle.std.proofs.Common.{length, [], ◌∷◌, ◌++◌, if◌then◌else◌, Ok, Err, refl, ap, sym, ◌∙◌, false}
 use Rattle.sb_rulebook.specs.Kept.{with_clause}
 use Rattle.sb_rulebook.specs.Refusals.{rule_broken}
 use Rattle.sb_rules.specs.Kept.{kept_in}
-use Rattle.sb_rules.proofs.Staying.{clause_kept}
+use Rattle.sb_rules.proofs.Staying.{clause_kept, clauses_wanted, wanted}
 use Rattle.sb_rules.proofs.Clausal.{by_asserted, by_no_assertion, by_unknown}
 use Rattle.sb_rules.proofs.kept.Kept.assert.Goals as goal
 
@@ -50,3 +51,16 @@ returns-then-not-is_known-clause-judges c = λ asked live others. (
       (sym c.is_known.ensures ∙ c.if-not-is_known.true),
   refl,
 )
+
+pub returns-in_err-is_asserted-clause-judges : goal.returns-in_err-is_asserted-clause-judges
+returns-in_err-is_asserted-clause-judges c = λ asked live others.
+    let x = c.from_residual in
+    let p = err_from_is_err_and x.result x.ensures.1 in
+    wanted _ x.result p.0 _ c.args.self.now c.is_asserted.new.self others p.1 p.2 (c.is_asserted.ensures.kept others)
+
+pub returns-in_err-add-clause-judges : goal.returns-in_err-add-clause-judges
+returns-in_err-add-clause-judges c = λ asked live others.
+    let x = c.from_residual-in_err-add in
+    let p = err_from_is_err_and x.result x.ensures.1 in
+    clauses_wanted _ x.result p.0 _ c.args.self.now c.is_asserted.new.self others c.add.new.self p.1 p.2
+    (c.is_asserted.ensures.kept others) c.in_err-add.ensures.err

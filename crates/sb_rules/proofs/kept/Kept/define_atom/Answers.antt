@@ -1,4 +1,5 @@
 use Rattle.std.proofs.Common.{map, length, refl, sym, subst, ◌∙◌}
+use Rattle.std.proofs.lemmas.Result.{err_from_is_err_and}
 use Rattle.sb_atoms.specs.Numbered as numbered
 use Rattle.sb_atoms.specs.Numbered.{over}
 use Rattle.sb_term.specs.Symbols.{sort_in}
@@ -8,7 +9,7 @@ use Rattle.sb_rulebook.specs.Follows.{follows}
 use Rattle.sb_rulebook.specs.Lines.{atom_line}
 use Rattle.sb_rules.specs.Kept.{kept_in}
 use Rattle.sb_rules.specs.Defining.{IsBroughtAs}
-use Rattle.sb_rules.proofs.Staying.{judged_by}
+use Rattle.sb_rules.proofs.Staying.{judged_by, wanted}
 use Rattle.sb_rules.proofs.AtomLines.{by_no_parts, by_unbrought, by_brought, has_number, number_below}
 use Rattle.sb_regex.proofs.CallerLemmas.{extends_same}
 use Rattle.sb_rules.proofs.kept.Kept.define_atom.Goals as goal
@@ -52,3 +53,9 @@ returns-in_err-atom-clause-terms c = record { extends = extends_same _; normals 
 
 pub returns-in-None-clause-terms : goal.returns-in-None-clause-terms
 returns-in-None-clause-terms c = record { extends = extends_same _; normals = refl; measures = refl }
+
+pub returns-in_err-atom-clause-judges : goal.returns-in_err-atom-clause-judges
+returns-in_err-atom-clause-judges c = λ asked d others.
+    let x = c.from_residual in
+    let p = err_from_is_err_and x.result x.ensures.1 in
+    wanted _ x.result p.0 _ c.args.self.now c.args.self.now others p.1 p.2 refl

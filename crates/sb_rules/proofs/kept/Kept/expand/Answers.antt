@@ -1,11 +1,11 @@
-use Rattle.std.proofs.Common.{map, ap, sym, ◌∙◌}
+use Rattle.std.proofs.Common.{map, refl, ap, sym, ◌∙◌}
 use Rattle.std.proofs.lemmas.Result.{err_from_is_err_and}
 use Rattle.sb_proof.specs.Lines.{class_in}
 use Rattle.sb_rulebook.specs.Follows.{follows}
 use Rattle.sb_rulebook.specs.Lines.{expansion_line}
 use Rattle.sb_rulebook.specs.Kept.{counting, with_expansion}
 use Rattle.sb_rules.specs.Kept.{kept_in}
-use Rattle.sb_rules.proofs.Staying.{judged_by, exits}
+use Rattle.sb_rules.proofs.Staying.{judged_by, exits, wanted}
 use Rattle.sb_regex.proofs.CallerLemmas.{extends_more}
 use Rattle.sb_rules.proofs.kept.Kept.expand.Goals as goal
 
@@ -34,3 +34,9 @@ returns-clause-terms c = record {
   normals = c.keep_expansion.ensures.terms.normals ∙ c.judge_expansion.ensures.terms.normals;
   measures = c.keep_expansion.ensures.terms.measures ∙ c.judge_expansion.ensures.terms.measures;
 }
+
+pub returns-in_err-targets-clause-judges : goal.returns-in_err-targets-clause-judges
+returns-in_err-targets-clause-judges c = λ asked limit others.
+    let x = c.from_residual in
+    let p = err_from_is_err_and x.result x.ensures.1 in
+    wanted _ x.result p.0 _ c.args.self.now c.args.self.now others p.1 p.2 refl

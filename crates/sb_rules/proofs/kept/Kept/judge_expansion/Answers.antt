@@ -1,4 +1,5 @@
 use Rattle.std.proofs.lemmas.Option.{slice_get_within}
+use Rattle.std.proofs.lemmas.Result.{err_from_is_err_and}
 use Rattle.std.proofs.Common.{◌≡◌, length, false, map, option_map, refl, ap, sym, slice_get, ◌∙◌}
 use Rattle.std.proofs.lemmas.List.{length-map}
 use Rattle.sb_regex.specs.Numbered.{regex_at}
@@ -10,7 +11,7 @@ use Rattle.sb_rulebook.specs.Parts.{together}
 use Rattle.sb_rules.specs.Branches.{branches_at}
 use Rattle.sb_rules.specs.Kept.{kept_in}
 use Rattle.sb_rules.proofs.Staying.{same_kept, found_below}
-use Rattle.sb_rules.proofs.Expanded.{unknown_target, by_expansion, judged_by}
+use Rattle.sb_rules.proofs.Expanded.{unknown_target, by_expansion, expansion_wanted, judged_by}
 use Rattle.sb_rules.proofs.Judged.{known_number}
 use Rattle.sb_rules.proofs.kept.Kept.judge_expansion.Goals as goal
 
@@ -128,3 +129,18 @@ returns-in_err-ids-clause-terms c = record { extends = extends_same _; normals =
 
 pub returns-in_default-2-clause-terms : goal.returns-in_default-2-clause-terms
 returns-in_default-2-clause-terms c = record { extends = extends_same _; normals = refl; measures = refl }
+
+pub returns-in_err-ids-clause-judges : goal.returns-in_err-ids-clause-judges
+returns-in_err-ids-clause-judges c = λ asked.
+    let x = c.from_residual in
+    let p = err_from_is_err_and x.result x.ensures.1 in
+    expansion_wanted _ x.result p.0 asked c.args.self.now c.args.self.now c.args.number c.args.classes.now p.1 p.2
+    (λ others. refl)
+
+pub returns-in_err-is_expansion-clause-judges : goal.returns-in_err-is_expansion-clause-judges
+returns-in_err-is_expansion-clause-judges c = λ asked.
+    let x = c.from_residual-in_err-is_expansion in
+    let p = err_from_is_err_and x.result x.ensures.1 in
+    let new = record c.args.self.now { arena = c.is_expansion.new.arena; plain = c.is_expansion.new.plain } in
+    expansion_wanted _ x.result p.0 asked c.args.self.now new c.args.number c.args.classes.now p.1 p.2
+    (λ others. same_kept c.args.self.now new others c.requires.whole c.is_expansion.ensures.extends refl refl refl refl)
