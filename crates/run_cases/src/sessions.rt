@@ -79,5 +79,6 @@ fn word_of(went: Result<Went, SessionFault>) -> &'static str {
         Err(SessionFault::Ended) => "ended",
         Err(SessionFault::Fault) => "fault",
         Err(SessionFault::NoMemory) => "no-memory",
+        Err(SessionFault::Spent) => "spent",
     }
 }

@@ -1,5 +1,5 @@
 -- What a check comes to.
-use Rattle.sb_prover.proofs.Words.{◌≡◌, ◌⊎◌, ℕ, ◌<◌, ◌^◌, ◌-◌, Bool, true, false, List, [], length, Option, Some, IfSome, inl, inr, refl, sym, ap, subst, ◌∙◌, arith, All, AllKept, AreAsked, IsReadyThen, AreOfLevels, AreTerms, AreValues, Backing, Backs, CountedAgainStaysSound, Decided, Decider, EmptyClauseRefutes, Evidences, Finds, FollowsByRule, FragmentIsOfEach, HaveLevels, IsAsked, IsCompleted, IsCounted, IsDecided, IsEmptyAt, IsFit, IsQuestion, IsReady, IsSolution, IsSolved, IsSpent, IsTrue, IsValued, IsVerdict, Kept, LineStaysSound, NormalHasTermsWords, Proving, Satisfiable, SaysTrue, Solution, Solved, Stacked, Store, Term, asked_in, asserted_at, empty_at, in_fragment, kept_at, level_at, list_all, live_constants, live_terms, puts_none, said_by, speaks_of, state_of, true-behind, verdict_in, verdict_of, without_words, Spending, ClauseId, EmptyClause}
+use Rattle.sb_prover.proofs.Words.{◌≡◌, ◌⊎◌, ℕ, ◌<◌, ◌^◌, ◌-◌, Bool, true, false, List, [], length, Option, Some, IfSome, inl, inr, refl, sym, ap, subst, ◌∙◌, arith, All, AllKept, AreAsked, IsReadyThen, AreOfLevels, AreTerms, AreValues, Backing, Backs, CountedAgainStaysSound, Decided, Decider, EmptyClauseRefutes, Evidences, Finds, FollowsByRule, FragmentIsOfEach, HasSpent, HaveLevels, IsAsked, IsCompleted, IsCounted, IsDecided, IsEmptyAt, IsFit, IsQuestion, IsReady, IsSolution, IsSolved, IsSpent, IsTrue, IsValued, IsVerdict, Kept, LineStaysSound, NormalHasTermsWords, Proving, Satisfiable, SaysTrue, Solution, Solved, Stacked, Store, Term, asked_in, asserted_at, empty_at, in_fragment, kept_at, level_at, list_all, live_constants, live_terms, puts_none, said_by, speaks_of, state_of, true-behind, verdict_in, verdict_of, without_words, Spending, ClauseId, EmptyClause}
 use Rattle.sb_solve.specs.declared.check.Solved.TheVariants as solved
 use Rattle.sb_decide.specs.declared.decide.Decided.TheVariants as decided
 use Rattle.sb_prover.specs.declared.checking.Solution.TheVariants as solution
@@ -120,6 +120,15 @@ ready-then kept s x e f budget (solved.Unsat id) h = tt
 ready-then kept s x e f budget solved.Spent h = tt
 
 -- What a check comes to by it.
+
+-- where the search has spent its steps, they are those of a check
+pub spent-all : (kept : Decider) (s : Stacked) (x : Store) (e f : Backing) (budget : Spending) (r : Solved)
+    (z : Solution) → budget.limit ≡ 2 ^ 64 - 1 → Finds kept s x e f budget r → IsCompleted kept s r z
+    → HasSpent budget (verdict_of z)
+spent-all kept s x e f budget (solved.Sat words truths) (solution.Sat full others) limit found is = tt
+spent-all kept s x e f budget (solved.Unsat id) (solution.Unsat other) limit found is = tt
+spent-all kept s x e f budget solved.Spent solution.Spent limit found is = found ∙ limit
+spent-all kept s x e f budget _ _ limit found is = absurd is
 
 -- no line is put
 pub solved-again : (s : Stacked) (before : AllKept) (x : Store) (e : Backing) (r : Solution) (told : Option (List ℕ))

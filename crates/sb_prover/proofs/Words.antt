@@ -91,6 +91,6 @@ pub use Rattle.sb_solve.specs.Truth.{IsTrue}
 pub use Rattle.sb_solve.specs.Values.{are_words_there, is_word_there, truth_in, word_in, word_or_empty, word_there}
 pub use Rattle.sb_solve.specs.declared.check.Solved.{Solved}
 pub use Rattle.sb_prover.specs.Checking.{AreAsked, AreTruthsOf, AreValues, Finds, IsAsked, IsCompleted, IsNumbered, IsReadyThen, IsSolution, IsSpent, SaysTrue, said_by, verdict_of}
-pub use Rattle.sb_prover.specs.Proving.{AreLow, EntriesMoveLive, EntriesStayFit, GoesDown, HaveLevels, IsAbreast, IsProved, LeadsTo, LevelsStay, MovesLive, Proving, leaving, level_at}
+pub use Rattle.sb_prover.specs.Proving.{AreLow, EntriesMoveLive, EntriesStayFit, GoesDown, HasSpent, HaveLevels, IsAbreast, IsProved, LeadsTo, LevelsStay, MovesLive, Proving, leaving, level_at}
 pub use Rattle.sb_prover.specs.Saying.{IsSaid, Tells, first_lines, said_value}
 pub use Rattle.sb_prover.specs.declared.checking.Solution.{Solution}

@@ -1,5 +1,6 @@
 -- What is known of a proof that is written along a script.
-use Rattle.std.specs.Prelude.{◌≡◌, ℕ, ◌≤◌, Bool, false, List, ◌++◌, length, take, slice_get, Option, Some, None, option_map, IfSome}
+use Rattle.std.specs.Prelude.{◌≡◌, ℕ, ◌≤◌, ◌^◌, ◌-◌, Bool, false, List, ◌++◌, length, take, slice_get, Option, Some, None, option_map, IfSome}
+use Rattle.sb_lit.specs.Budgets.{Spending}
 use Rattle.sb_lang.specs.Regex.{Regex}
 use Rattle.sb_regex.specs.Numbered.{Extends}
 use Rattle.sb_reader.specs.Entries.{Entry}
@@ -21,6 +22,8 @@ use Rattle.sb_meaning.specs.Terms.{Term}
 use Rattle.sb_stack.specs.declared.stack.Step.{Step}
 use Rattle.sb_stack.specs.declared.stack.Step.TheVariants as code
 use Rattle.sb_stack.specs.Steps.{IsStep}
+use Rattle.sb_stack.specs.declared.verdict.Verdict as answer
+use Rattle.sb_stack.specs.declared.verdict.Verdict.TheVariants as verdict
 use Rattle.sb_refute.specs.declared.evidence.Asserted.{Asserted}
 use Rattle.sb_refute.specs.Backing.{Backing, Backs, asserted_at}
 use Rattle.sb_sound.specs.SoundLaws.{Continues, GoesOn}
@@ -126,3 +129,8 @@ pub record IsProved (q : Question) (v : Verdict) (before : Progress) (store : St
     pub proves : Proves before after q lines v
     pub told : new ≡ with_bytes lines old
     pub abreast : IsAbreast store proving after
+
+-- no verdict but unknown, or as many steps are spent as a check may have
+abbrev pub HasSpent : Spending → answer.Verdict → Type 0
+HasSpent budget verdict.Unknown = budget.spent ≡ 2 ^ 64 - 1
+HasSpent budget _ = Unit {0}

@@ -21,7 +21,7 @@ ghost use Rattle.sb_sound.specs.ScriptLaws.{IsFit};
 ghost use Rattle.sb_decide.specs.Knowing.{Knows};
 ghost use Rattle.sb_decide.specs.Ready.{IsDecided};
 ghost use Rattle.sb_solve.specs.Truth.{IsTrue};
-ghost use Rattle.sb_prover.specs.Proving.{IsAbreast, IsProved, HaveLevels};
+ghost use Rattle.sb_prover.specs.Proving.{IsAbreast, IsProved, HasSpent, HaveLevels};
 ghost use Rattle.sb_prover.specs.Checking.{IsAsked, AreAsked, Finds, AreTruthsOf, IsReadyThen, IsCompleted, IsSolution, SaysTrue, verdict_of, said_by, IsNumbered};
 
 use crate::prover::Prover;
@@ -59,7 +59,8 @@ impl Prover {
     /// Answers a check of which this is known ([`Decider::decide`]): `Outside` where it is outside, `Unsat` where the
     /// empty clause stands in the proof, else what a search finds over the live assertions that refute the check, where
     /// a constant has no word, or over those of other structure and the memberships of their constants; and `Unknown`
-    /// where a check may have no more lines. Where there are no such assertions nothing is searched. Where `proves` is
+    /// where a check may have no more lines, or without lines no more steps: where a search is made, `budget` is then
+    /// one of 2^64 - 1 steps, of which those of the search are spent. Where there are no such assertions nothing is searched. Where `proves` is
     /// true, puts the lines that prove the verdict, the verdict's own line as the last; else what is put proves nothing,
     /// no lines of regexes are made for a lemma, and a check in which a constant has no word is `Unsat` at once.
     ///
@@ -74,6 +75,7 @@ impl Prover {
         decided: Decided,
         proves: bool,
         tape: &mut L,
+        budget: &mut Budget,
     ) -> Result<Verdict, TapeFault>
         requires knows { Knows decider.old stack.old }
         requires decided { IsDecided decider.old stack.old decided }
@@ -87,6 +89,7 @@ impl Prover {
             decider.new.store self.new (L.Tape.told tape.old) (L.Tape.told tape.new)) }
         ensures verdict { IfOk result
             (λ v. IsVerdict (state_of stack.old) [] (verdict_in (live_constants stack.old) v)) }
+        ensures spent { IfOk result (λ v. HasSpent budget.new v) }
         ensures regexes { OnOk result (HaveRegexesBelow (length decider.new.store.arena) self.new.evidence.atoms) }
         ensures knows { IfOk result (λ v. Knows decider.new (found v stack.new)) }
         ensures rest { without_words stack.new ≡ without_words stack.old }
@@ -105,7 +108,7 @@ impl Prover {
         entries_lead_on();
         empty_clause_refutes();
         self.begin(tape)?;
-        let solution = self.solution(decider, stack, decided, proves, tape)?;
+        let solution = self.solution(decider, stack, decided, proves, tape, budget)?;
         say_solution(self.alloc, stack, &solution, proves, tape)?;
         Ok(verdict_of(solution))
     }
@@ -118,6 +121,7 @@ impl Prover {
         decided: Decided,
         proves: bool,
         tape: &mut L,
+        budget: &mut Budget,
     ) -> Result<Solution, TapeFault>
         requires knows { Knows decider.old stack.old }
         requires decided { IsDecided decider.old stack.old decided }
@@ -130,6 +134,7 @@ impl Prover {
             → Backs decider.old.store.arena decider.old.store.graph.memo self.old.evidence before
             → before.counted ≡ 0 → IsSolution stack.old before decider.new.store self.new.evidence r
             (L.Tape.told tape.old) (L.Tape.told tape.new)) }
+        ensures spent { IfOk result (λ r. HasSpent budget.new (verdict_of r)) }
         ensures knows { IfOk result (λ r. Knows decider.new (found (verdict_of r) stack.new)) }
         ensures rest { without_words stack.new ≡ without_words stack.old }
         ensures sound { OnOk result (IsTrue (asked_in (state_of stack.old)) decider.new.store.arena
@@ -150,7 +155,7 @@ impl Prover {
         follows_by_rule();
         line_stays_sound();
         counted_again_stays_sound();
-        let mut budget = Budget::new(u64::MAX);
+        *budget = Budget::new(u64::MAX);
         let solved = searched(
             self.alloc,
             &mut self.evidence,
@@ -159,7 +164,7 @@ impl Prover {
             decided,
             proves,
             tape,
-            &mut budget,
+            budget,
         )?;
         let solution = completed(self.alloc, decider, stack, solved)?;
         Ok(solution)
@@ -194,6 +199,7 @@ fn searched<L: Tape>(
         (Finds decider.new stack.now decider.old.store evidence.old evidence.new budget.new) }
     ensures sound { OnOk result (proves ≡ false → IsTrue (asked_in (state_of stack.now)) decider.new.store.arena
         decider.new.store.graph.memo evidence.new) }
+    ensures limit { OnOk result (budget.new.limit ≡ budget.old.limit) }
     ensures knows { OnOk result (Knows decider.new stack.now) }
     ensures regexes { OnOk result (HaveRegexesBelow (length decider.new.store.arena) evidence.new.atoms) }
     ensures levels { OnOk result (HaveLevels (asked_in (state_of stack.now)).live evidence.old

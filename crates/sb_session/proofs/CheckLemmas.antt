@@ -1,8 +1,10 @@
 -- A check is answered with its proof, or without one.
-use Rattle.sb_session.proofs.Words.{◌≡◌, ◌⊎◌, ℕ, ◌<◌, Bool, true, false, if◌then◌else◌, List, [], ◌∷◌, map, length, take, drop, codes, Option, Some, None, is_some, Result, Ok, Err, IfOk, refl, sym, ap, ◌∙◌, subst, inl, inr, AbreastStays, AnswersCheck, CutCheck, CutOf, CutProof, FindsUnproved, Grows, HasLevels, HasRegexes, HasTrue, Holds, IsAbreast, IsFit, IsKnown, IsProved, IsTracked, IsVerdict, Outside, Progress, ProvesCheck, Proving, SessionState, Sort, Stacked, State, Store, Term, Verdict, end_writes, false≢true, found, is_outside, is_proved, is_sat, is_unknown, is_unsat, last_lines, live_constants, moved_by, moved_by-nothing, plain, proof_of, question_in, session_of, settled, state_of, verdict_in, verdict_text, without_words, write_at, writing_all, Decider, Knows, newest_format, text_of, header_line, end_line, bytes_of, with_bytes}
+use Rattle.sb_session.proofs.Words.{◌≡◌, ◌⊎◌, ℕ, ◌<◌, Bool, true, false, if◌then◌else◌, List, [], ◌∷◌, map, length, take, drop, codes, Option, Some, None, is_some, Result, Ok, Err, IfOk, IfSome, refl, sym, ap, ◌∙◌, subst, inl, inr, AbreastStays, AnswersCheck, CutCheck, CutOf, CutProof, FindsUnproved, Grows, HasLevels, HasRegexes, HasTrue, Holds, IsAbreast, IsFit, IsKnown, IsProved, IsTracked, IsVerdict, Outside, Progress, ProvesCheck, Proving, SessionState, Sort, Stacked, State, Stop, Store, Term, Verdict, WorldError, end_writes, false≢true, found, is_outside, is_proved, is_sat, is_unknown, is_unsat, last_lines, live_constants, moved_by, moved_by-nothing, plain, proof_of, question_in, session_of, settled, state_of, stop_of, verdict_in, verdict_text, without_words, write_at, writing_all, Decider, Knows, newest_format, text_of, header_line, end_line, bytes_of, with_bytes}
 use Rattle.sb_world.specs.declared.OutPort.TheVariants as out_port
+use Rattle.sb_world.specs.declared.WorldError.TheVariants as world_error
 use Rattle.sb_stack.specs.declared.verdict.Verdict as code
 use Rattle.sb_stack.specs.declared.verdict.Verdict.TheVariants as verdict
+use Rattle.sb_session.specs.declared.command.Stop.TheVariants as stop
 use Rattle.sb_session.proofs.WritingLemmas.{one_written, one_cut, none_cut, lines_written, lines_cut, behind_lines, cut_in_lines, cut_behind_lines}
 
 abreast_of : (s : SessionState) (proving : Proving) (p : Progress) → s.proof ≡ Some proving → IsTracked s p
@@ -16,6 +18,15 @@ tracked_by s proving p e h = subst (λ (proof : Option Proving). IsTracked (reco
 pub ok_map : {T E : Type 0} {P Q : T → Type 0} (r : Result T E) → ((x : T) → P x → Q x) → IfOk r P → IfOk r Q
 ok_map (Ok x) f h = f x h
 ok_map (Err e) f h = tt
+
+pub some_weaker : {T : Type 0} (o : Option T) (P Q : T → Type 0) → ((x : T) → P x → Q x) → IfSome o P → IfSome o Q
+some_weaker None P Q f h = tt
+some_weaker (Some x) P Q f h = f x h
+
+-- no error of the outside is want of steps
+pub never_spent : (s : Stop) (e : WorldError) → s ≡ stop_of e → s ≡ stop.Spent → ⊥
+never_spent s world_error.Failed is h = Prim.cc (is, h)
+never_spent s world_error.NoMemory is h = Prim.cc (is, h)
 
 -- a proof is written, or none
 pub is_kind : (proved : Bool) (proving : Proving) → is_some (proof_of proved proving) ≡ proved

@@ -1,8 +1,9 @@
 -- What the steps of the state make of an entry that is answered.
-use Rattle.sb_session.proofs.Words.{◌≡◌, ◌⊎◌, ℕ, ◌<◌, Bool, true, false, if◌then◌else◌, List, [], ◌∷◌, length, take, Option, None, Some, Result, Ok, refl, sym, ap, ◌∙◌, inl, inr, subst, Vec, Global, Answering, Answers, AnswersCheck, AnswersEntry, CutCheck, CutOrNot, CutReply, Entry, Event, Finding, Finds, FindsProved, FindsUnproved, IsMoved, IsReply, IsStep, IsTracked, Outside, Progress, SessionState, State, Verdict, Went, behind, event_of_leaving, events_of, is_proved, leaving, leaving_in, progress_by, settled, state_of, step_of, verdict_text, went_of, with_lines, write_at, is_exits, entry_exits, Assertion, Step}
+use Rattle.sb_session.proofs.Words.{◌≡◌, ◌⊎◌, ℕ, ◌<◌, Bool, true, false, if◌then◌else◌, List, [], ◌∷◌, length, take, Option, None, Some, Result, Ok, refl, sym, ap, ◌∙◌, inl, inr, subst, Vec, Global, Answering, Answers, AnswersCheck, AnswersEntry, CutCheck, CutOrNot, CutReply, Entry, Event, Fails, Finding, Finds, FindsProved, FindsUnproved, IsMoved, IsReply, IsStep, IsTracked, Outside, Progress, SessionState, State, Stop, Verdict, Went, behind, event_of_leaving, events_of, fault_of, is_proved, leaving, leaving_in, progress_by, settled, state_of, step_of, verdict_text, went_of, with_lines, write_at, is_exits, entry_exits, Assertion, Step}
 use Rattle.sb_world.specs.declared.OutPort.TheVariants as out_port
 use Rattle.sb_script.specs.Steps as meaning
 use Rattle.sb_stack.specs.declared.stack.Step.TheVariants as code
+use Rattle.sb_session.specs.declared.command.Stop.TheVariants as stop
 use Rattle.sb_session.specs.declared.command.Went.TheVariants.{Go, Exited}
 use Rattle.sb_session.proofs.WritingLemmas.{one_written, one_cut}
 
@@ -227,3 +228,11 @@ answers_regardless entry session after e f old new h p tracked =
       tracked = a.tracked;
       outside = a.outside;
     }
+
+-- an entry of a session that goes on is not answered
+pub fails_by : (s : Stop) (entry : Entry) (old new : SessionState) (before after : Outside) → old.ended ≡ false
+    → new.ended ≡ true → CutOrNot entry old before after → (s ≡ stop.Spent → is_proved old ≡ false)
+    → Fails (fault_of s) entry old new before after
+fails_by stop.Fault entry old new before after going ends cut spent = (going, ends, cut)
+fails_by stop.NoMemory entry old new before after going ends cut spent = (going, ends, cut)
+fails_by stop.Spent entry old new before after going ends cut spent = (spent refl, going, ends, cut)

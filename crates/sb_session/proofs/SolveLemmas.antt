@@ -1,25 +1,27 @@
 -- From the outcome of a run to its status.
 use Rattle.std.proofs.Common.{◌≡◌, ◌+◌, ◌<◌, ◌≤◌, ◌⊎◌, ℕ, Bool, true, false, List, [], ◌∷◌, ◌++◌, length, take, drop, Option, Some, None, IfSome, Result, Ok, Err, IfOk, OnErr, append_assoc, length-append, refl, sym, ap, ◌∙◌, subst, inl, inr, arith}
-use Rattle.sb_session.proofs.Words.{Along, Asked, Begins, CountsFault, CountsFaults, CutShort, Entry, GoesOn, IsBounded, Outside, PastLimit, Rose, Run, SolveStatus, Stage, WorldError, Write, asks_proof, beginning_is_first, beginning_stays, beginnings, created, false≢true, is_exit, open_at, opened, source_of, status_by, take-append-drop, take-append-le, take-append_seam}
+use Rattle.sb_session.proofs.Words.{Along, Asked, Begins, CountsFaults, CountsStop, CutShort, Entry, GoesOn, IsBounded, Outside, PastLimit, Rose, Run, SolveStatus, Stage, Stop, Write, asks_proof, beginning_is_first, beginning_stays, beginnings, created, false≢true, is_exit, open_at, opened, source_of, status_by, take-append-drop, take-append-le, take-append_seam}
 use Rattle.sb_world.specs.declared.InPort.TheVariants as in_port
-use Rattle.sb_world.specs.declared.WorldError.TheVariants as world_error
+use Rattle.sb_session.specs.declared.command.Stop.TheVariants as stop
 use Rattle.sb_session.specs.declared.solve.SolveStatus.TheVariants.{Done, Unfinished, Usage, Fault, NoMemory, InputLimit}
 
-pub run_by : (asked : Asked) (r : Result SolveStatus WorldError) (old new : Outside) (f g : ℕ)
+pub run_by : (asked : Asked) (r : Result SolveStatus Stop) (old new : Outside) (f g : ℕ)
     → IfOk r (λ s. Run asked s old new × CountsFaults s f g) → OnErr r (CutShort asked old new)
     → Run asked (status_by r) old new
 run_by asked (Ok s) old new f g ok err = ok.0
-run_by asked (Err world_error.Failed) old new f g ok err = err
-run_by asked (Err world_error.NoMemory) old new f g ok err = err
+run_by asked (Err stop.Fault) old new f g ok err = err
+run_by asked (Err stop.NoMemory) old new f g ok err = err
+run_by asked (Err stop.Spent) old new f g ok err = err
 
-pub counts_by : (P : SolveStatus → Type 0) (r : Result SolveStatus WorldError) (f g : ℕ)
-    → IfOk r (λ s. P s × CountsFaults s f g) → CountsFault r f g → CountsFaults (status_by r) f g
+pub counts_by : (P : SolveStatus → Type 0) (r : Result SolveStatus Stop) (f g : ℕ)
+    → IfOk r (λ s. P s × CountsFaults s f g) → CountsStop r f g → CountsFaults (status_by r) f g
 counts_by P (Ok s) f g ok faults = ok.1
-counts_by P (Err world_error.Failed) f g ok faults = faults
-counts_by P (Err world_error.NoMemory) f g ok faults = faults
+counts_by P (Err stop.Fault) f g ok faults = faults
+counts_by P (Err stop.NoMemory) f g ok faults = faults
+counts_by P (Err stop.Spent) f g ok faults = faults
 
 -- a run from the outside that is opened is one from before
-pub run_from : (asked : Asked) (proved : Bool) (r : Result SolveStatus WorldError) (old from now : Outside)
+pub run_from : (asked : Asked) (proved : Bool) (r : Result SolveStatus Stop) (old from now : Outside)
     (limit f g h : ℕ) → asked.limit ≡ limit → proved ≡ asks_proof asked → from ≡ opened asked old → g ≡ f
     → IfOk r (λ s. (a : Asked) (o : Outside) → a.limit ≡ limit → proved ≡ asks_proof a → from ≡ opened a o
     → Run a s o now)

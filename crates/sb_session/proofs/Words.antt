@@ -10,7 +10,7 @@ pub use Rattle.std.specs.declared.vec.Vec.{Vec}
 pub use Rattle.sb_facts.proofs.CallerLemmas.{some_mapped}
 pub use Rattle.sb_world.proofs.CallerLemmas.{both-assoc, moved_by-both, moved_by-nothing, read_at-moves, reading-add, reading-zero, reading_first, write_at-moves, writing_all-append, writing_all-one}
 pub use Rattle.sb_world.specs.Moved.{IsProperFront, Moved, Write, both, moved_by, reading, writing_all}
-pub use Rattle.sb_world.specs.Outside.{CountsFault, Outside, ReadsFront, Rose, open_at, read_at, source_of, write_at}
+pub use Rattle.sb_world.specs.Outside.{Outside, ReadsFront, Rose, open_at, read_at, source_of, write_at}
 pub use Rattle.sb_world.specs.declared.OutPort.{OutPort}
 pub use Rattle.sb_world.specs.declared.WorldError.{WorldError}
 pub use Rattle.sb_reader.proofs.CallerLemmas.{beginning_grows, beginning_is_first, beginning_stays, same_end, same_entry, same_none, shortens_before, shortens_to_itself, shortens_twice}
@@ -46,15 +46,16 @@ pub use Rattle.sb_store.specs.declared.store.Store.{Store}
 pub use Rattle.sb_decide.specs.Knowing.{Knows}
 pub use Rattle.sb_decide.specs.Laws.{KnowsStays, LeavesKnown}
 pub use Rattle.sb_decide.specs.declared.decide.Decider.{Decider}
-pub use Rattle.sb_prover.specs.Proving.{AbreastStays, AreLow, GoesDown, HaveLevels, IsAbreast, IsProved, LevelsStay, Proving, TrueGoesOn, leaving}
+pub use Rattle.sb_prover.specs.Proving.{AbreastStays, AreLow, GoesDown, HasSpent, HaveLevels, IsAbreast, IsProved, LevelsStay, Proving, TrueGoesOn, leaving}
 pub use Rattle.sb_session.specs.Certifying.{IsCertified}
 pub use Rattle.sb_session.specs.Checking.{AnswersCheck, CutCheck, CutProof, Finds, HasLevels, HasRegexes, HasTrue, Holds, IsKnown, LeavesProof, ProvesCheck, progress_by, session_of}
-pub use Rattle.sb_session.specs.Commanding.{Answering, Answers, AnswersEntry, CutOf, CutOrNot, CutReply, Fails, Goes, IsTracked, SessionState, Stage, is_proved, proof_of, went_of, with_lines}
+pub use Rattle.sb_session.specs.Commanding.{Answering, Answers, AnswersEntry, CountsStop, CutOf, CutOrNot, CutReply, Fails, Goes, IsTracked, SessionState, Stage, fault_of, is_proved, proof_of, stop_of, went_of, with_lines}
 pub use Rattle.sb_session.specs.Pausing.{NoneLeft, Pauses, is_clean}
 pub use Rattle.sb_session.specs.Progress.{Sofar, status_by}
 pub use Rattle.sb_session.specs.Reading.{AllAnswered, Answered, Cut, CutBetween, GoesOn, IsAll, IsFront, UpToExit, beginnings, end_writes, unfinished_writes, work}
 pub use Rattle.sb_session.specs.Solve.{AnsweredToTheEnd, AnsweredToTheExit, AnsweredUnfinished, Asked, CountsFaults, CutInScript, CutShort, IsBounded, PastLimit, Run, asked_by, asked_for, asks_proof, created, opened}
 pub use Rattle.sb_session.specs.Underway.{AllRead, IsRead, StaysOpen, Underway}
+pub use Rattle.sb_session.specs.declared.command.Stop.{Stop}
 pub use Rattle.sb_session.specs.declared.command.Went.{Went}
 pub use Rattle.sb_session.specs.declared.solve.Pause.{Pause}
 pub use Rattle.sb_session.specs.declared.solve.SolveStatus.{SolveStatus}

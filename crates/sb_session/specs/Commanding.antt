@@ -19,6 +19,8 @@ use Rattle.sb_session.specs.declared.command.Went.{Went}
 use Rattle.sb_session.specs.declared.command.Went.TheVariants.{Go, Exited}
 use Rattle.sb_session.specs.declared.command.SessionFault.{SessionFault}
 use Rattle.sb_session.specs.declared.command.SessionFault.TheVariants as fault
+use Rattle.sb_session.specs.declared.command.Stop.{Stop}
+use Rattle.sb_session.specs.declared.command.Stop.TheVariants as stop
 
 pub record SessionState : Type 0 where
   pub stack : stack.Stacked
@@ -109,21 +111,36 @@ pub record Goes (went : Went) (entry : Entry) (old new : SessionState) (before a
   pub same_kind : is_proved new ≡ is_proved old
   pub answers : AnswersEntry entry old new before after
 
--- The session had ended, and nothing is done; or it ends here, with less than all of the reply written.
+-- The session had ended, and nothing is done; or it ends here, with less than all of the reply written. The steps of a
+-- check are spent only where no proof is written.
 abbrev pub Fails : SessionFault → Entry → SessionState → SessionState → Outside → Outside → Type 0
 Fails fault.Ended entry old new before after = (old.ended ≡ true) × (new ≡ old) × (after ≡ before)
 Fails fault.Fault entry old new before after = (old.ended ≡ false) × (new.ended ≡ true)
     × CutOrNot entry old before after
 Fails fault.NoMemory entry old new before after = (old.ended ≡ false) × (new.ended ≡ true)
     × CutOrNot entry old before after
+Fails fault.Spent entry old new before after = (is_proved old ≡ false) × (old.ended ≡ false) × (new.ended ≡ true)
+    × CutOrNot entry old before after
 
-abbrev pub fault_of : WorldError → SessionFault
-fault_of world_error.Failed = fault.Fault
-fault_of world_error.NoMemory = fault.NoMemory
+abbrev pub stop_of : WorldError → Stop
+stop_of world_error.Failed = stop.Fault
+stop_of world_error.NoMemory = stop.NoMemory
+
+abbrev pub fault_of : Stop → SessionFault
+fault_of stop.Fault = fault.Fault
+fault_of stop.NoMemory = fault.NoMemory
+fault_of stop.Spent = fault.Spent
 
 -- only a fault raises the count of faults, and a fault does
 abbrev pub CountsSessionFault : {T : Type 0} → Result T SessionFault → ℕ → ℕ → Type 0
 CountsSessionFault (Ok x) old new = new ≡ old
 CountsSessionFault (Err fault.Fault) old new = Rose old new
 CountsSessionFault (Err fault.NoMemory) old new = new ≡ old
+CountsSessionFault (Err fault.Spent) old new = new ≡ old
 CountsSessionFault (Err fault.Ended) old new = new ≡ old
+
+abbrev pub CountsStop : {T : Type 0} → Result T Stop → ℕ → ℕ → Type 0
+CountsStop (Ok x) old new = new ≡ old
+CountsStop (Err stop.Fault) old new = Rose old new
+CountsStop (Err stop.NoMemory) old new = new ≡ old
+CountsStop (Err stop.Spent) old new = new ≡ old

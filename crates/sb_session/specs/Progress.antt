@@ -2,12 +2,12 @@
 use Rattle.std.specs.Prelude.{◌≡◌, ℕ, List, length, Result, Ok, Err}
 use Rattle.sb_world.specs.Outside.{Outside}
 use Rattle.sb_world.specs.Moved.{Write, moved_by}
-use Rattle.sb_world.specs.declared.WorldError.{WorldError}
-use Rattle.sb_world.specs.declared.WorldError.TheVariants as world_error
 use Rattle.sb_reader.specs.Entries.{Entry}
 use Rattle.sb_reader.specs.Feeding as feed
 use Rattle.sb_rulebook.specs.Judging as rulebook
 use Rattle.sb_stack.specs.Stacked.{state_of}
+use Rattle.sb_session.specs.declared.command.Stop.{Stop}
+use Rattle.sb_session.specs.declared.command.Stop.TheVariants as stop
 use Rattle.sb_session.specs.declared.solve.SolveStatus.{SolveStatus}
 use Rattle.sb_session.specs.declared.solve.SolveStatus.TheVariants.{Fault, NoMemory}
 use Rattle.sb_session.specs.Commanding.{SessionState, is_proved, IsTracked}
@@ -28,7 +28,8 @@ pub record Sofar (opened : Outside) (bytes : List ℕ) (kept : feed.Unanswered) 
   pub outside : now ≡ moved_by (work (length bytes) writes) opened
 
 -- the status of a run that ended with a status or an error
-abbrev pub status_by : Result SolveStatus WorldError → SolveStatus
+abbrev pub status_by : Result SolveStatus Stop → SolveStatus
 status_by (Ok status) = status
-status_by (Err world_error.Failed) = Fault
-status_by (Err world_error.NoMemory) = NoMemory
+status_by (Err stop.Fault) = Fault
+status_by (Err stop.NoMemory) = NoMemory
+status_by (Err stop.Spent) = NoMemory

@@ -1,6 +1,6 @@
 //! The session, entry by entry.
 
-ghost use Rattle.std.specs.Prelude.{◌≡◌, ◌⊎◌, [], length, true, false, is_some, Some, IfOk, IfErr, OnOk, OnErr};
+ghost use Rattle.std.specs.Prelude.{◌≡◌, ◌⊎◌, ◌^◌, ◌-◌, [], length, true, false, is_some, Some, None, IfOk, IfErr, IfSome, OnOk, OnErr};
 ghost use Rattle.sb_world.specs.Outside.{CountsFault};
 ghost use Rattle.sb_world.specs.Moved.{moved_by, writing_all};
 ghost use Rattle.sb_script.specs.State.{start};
@@ -10,11 +10,12 @@ ghost use Rattle.sb_stack.specs.Stacked.{state_of, live_constants, without_words
 ghost use Rattle.sb_stack.specs.Steps.{IsEntry, entry_of, verdict_in, found};
 ghost use Rattle.sb_decide.specs.Ready.{IsDecided};
 ghost use Rattle.sb_decide.specs.Laws.{LeavesKnown};
-ghost use Rattle.sb_session.specs.Commanding.{SessionState, Goes, Fails, AnswersEntry, CutOrNot, CutOf, IsTracked, proof_of, is_proved, is_exited, went_of, CountsSessionFault};
+ghost use Rattle.sb_session.specs.Commanding.{SessionState, Goes, Fails, AnswersEntry, CutOrNot, CutOf, IsTracked, proof_of, is_proved, is_exited, went_of, CountsSessionFault, CountsStop};
 ghost use Rattle.sb_session.specs.Checking.{session_of, Holds, IsKnown, LeavesProof, ProvesCheck, CutProof, AnswersCheck, CutCheck};
 ghost use Rattle.sb_session.specs.Reading.{end_writes};
 
 use sb_decide::{Decided, Decider, knows_stays};
+use sb_lit::Budget;
 use sb_proof::MemTape;
 use sb_prover::{
     NoTape, Prover, abreast_stays, entries_move_live, entries_stay_fit, levels_stay,
@@ -45,20 +46,58 @@ pub enum SessionFault {
     Fault,
     #[error("out of memory")]
     NoMemory,
+    /// A check without a proof took as many steps as it may, 2^64 - 1.
+    #[error("a check took as many steps as it may")]
+    Spent,
     /// An earlier entry was `(exit)`, or was not answered.
     #[error("the session has ended")]
     Ended,
 }
 
-impl From<WorldError> for SessionFault {
+/// Why an entry is not answered, where no earlier one ended the session.
+#[derive(Clone, Copy)]
+pub enum Stop {
+    /// The outside failed.
+    Fault,
+    /// Memory was wanted.
+    NoMemory,
+    /// A check without a proof took as many steps as it may, 2^64 - 1.
+    Spent,
+}
+
+impl From<AllocError> for Stop {
+    ghost use Rattle.sb_session.specs.declared.command.Stop.TheVariants.{NoMemory};
+
+    ghost from_gives = { λ _ stop. stop ≡ NoMemory };
+
+    fn from(_error: AllocError) -> Stop {
+        Stop::NoMemory
+    }
+}
+
+impl From<WorldError> for Stop {
+    ghost use Rattle.sb_session.specs.Commanding.{stop_of};
+
+    ghost from_gives = { λ error stop. stop ≡ stop_of error };
+
+    fn from(error: WorldError) -> Stop {
+        match error {
+            WorldError::Failed => Stop::Fault,
+            WorldError::NoMemory => Stop::NoMemory,
+        }
+    }
+}
+
+impl From<Stop> for SessionFault {
     ghost use Rattle.sb_session.specs.Commanding.{fault_of};
 
-    ghost from_gives = { λ error fault. fault ≡ fault_of error };
+    ghost from_gives = { λ stop fault. fault ≡ fault_of stop };
 
-    fn from(error: WorldError) -> SessionFault {
-        match error {
-            WorldError::Failed => SessionFault::Fault,
-            WorldError::NoMemory => SessionFault::NoMemory,
+    fn from(stop: Stop) -> SessionFault {
+        match stop {
+            Stop::Fault => SessionFault::Fault,
+            Stop::NoMemory => SessionFault::NoMemory,
+            Stop::Spent => SessionFault::Spent,
         }
     }
 }
@@ -118,7 +157,8 @@ impl Session {
 
     /// Answers the next entry of the script, whole, before it returns; at a check the lines of its proof are written
     /// before the answer, where a proof is. `Ended` exactly where an earlier entry was `(exit)` or was not answered;
-    /// `Fault` only where the world's count of faults rose. Linear in the entry and the answer, and for a check in the
+    /// `Fault` only where the world's count of faults rose; `Spent` only where no proof is written, at a check that took
+    /// 2^64 - 1 steps. Linear in the entry and the answer, and for a check in the
     /// assertions and constants that are new since the last check with a model, in what they make it explore, and in
     /// the lines of its proof.
     pub fn command<W: World>(&mut self, entry: &Next, world: &mut W) -> Result<Went, SessionFault>
@@ -137,11 +177,7 @@ impl Session {
     }
 
     /// Answers the next entry of a session that has not ended.
-    pub(crate) fn answer<W: World>(
-        &mut self,
-        entry: &Next,
-        world: &mut W,
-    ) -> Result<Went, WorldError>
+    pub(crate) fn answer<W: World>(&mut self, entry: &Next, world: &mut W) -> Result<Went, Stop>
         requires entry { IsEntry entry.now }
         requires goes_on { self.old.ended ≡ false }
         ensures ok { IfOk result
@@ -149,7 +185,8 @@ impl Session {
         ensures err { OnErr result
             (CutOrNot (entry_of entry.now) self.old (W.outside world.old) (W.outside world.new)) }
         ensures ended { OnErr result (self.new.ended ≡ true) }
-        ensures faults { CountsFault result (W.faults world.old) (W.faults world.new) }
+        ensures spent { IfErr result (λ stop. stop ≡ Stop.Spent → is_proved self.old ≡ false) }
+        ensures faults { CountsStop result (W.faults world.old) (W.faults world.new) }
     {
         self.ended = true;
         let went = answer_entry(
@@ -223,7 +260,7 @@ fn answer_entry<W: World>(
     proved: bool,
     entry: &Next,
     world: &mut W,
-) -> Result<Went, WorldError>
+) -> Result<Went, Stop>
     requires entry { IsEntry entry.now }
     requires held { Holds stack.old decider.old prover.old }
     ensures held { OnOk result (Holds stack.new decider.new prover.new) }
@@ -232,7 +269,8 @@ fn answer_entry<W: World>(
         (session_of stack.new decider.new (proof_of proved prover.new)) (W.outside world.old) (W.outside world.new)) }
     ensures err { OnErr result (CutOrNot (entry_of entry.now)
         (session_of stack.old decider.old (proof_of proved prover.old)) (W.outside world.old) (W.outside world.new)) }
-    ensures faults { CountsFault result (W.faults world.old) (W.faults world.new) }
+    ensures spent { IfErr result (λ stop. stop ≡ Stop.Spent → proved ≡ false) }
+    ensures faults { CountsStop result (W.faults world.old) (W.faults world.new) }
 {
     knows_stays();
     levels_stay();
@@ -296,7 +334,7 @@ fn answer_check<W: World>(
     prover: &mut Prover,
     proved: bool,
     world: &mut W,
-) -> Result<(), WorldError>
+) -> Result<(), Stop>
     requires held { Holds stack.old decider.old prover.old }
     ensures held { OnOk result (Holds stack.new decider.new prover.new) }
     ensures ok { OnOk result
@@ -308,18 +346,20 @@ fn answer_check<W: World>(
         → (W.outside world.new ≡ W.outside world.old)
         ⊎ CutCheck p (session_of stack.old decider.old (proof_of proved prover.old)) (W.outside world.old)
         (W.outside world.new)) }
-    ensures faults { CountsFault result (W.faults world.old) (W.faults world.new) }
+    ensures spent { IfErr result (λ stop. stop ≡ Stop.Spent → proved ≡ false) }
+    ensures faults { CountsStop result (W.faults world.old) (W.faults world.new) }
 {
     abreast_stays();
     regexes_stay_below();
     true_stays();
     let decided = decider.decide(alloc, stack)?;
     let verdict = find_verdict(alloc, stack, decider, prover, proved, decided, world)?;
-    write_all(world, OutPort::Answers, stack.settle(verdict))
+    write_all(world, OutPort::Answers, stack.settle(verdict))?;
+    Ok(())
 }
 
 /// The verdict of a check of which this is known. Writes the lines that prove it, where a proof is written; without one
-/// it is `NoMemory` where it would take more steps than a check may have.
+/// it is `Spent` where it would take more steps than a check may have.
 fn find_verdict<W: World>(
     alloc: Global,
     stack: &mut Stack,
@@ -328,7 +368,7 @@ fn find_verdict<W: World>(
     proved: bool,
     decided: Decided,
     world: &mut W,
-) -> Result<Verdict, WorldError>
+) -> Result<Verdict, Stop>
     requires held { Holds stack.old decider.old prover.old }
     requires decided { IsDecided decider.old stack.old decided }
     ensures held { IfOk result (λ v. Holds (found v stack.new) decider.new prover.new) }
@@ -343,49 +383,57 @@ fn find_verdict<W: World>(
         → (W.outside world.new ≡ W.outside world.old)
         ⊎ CutProof (state_of stack.old) p (is_some (proof_of proved prover.old)) (W.outside world.old)
         (W.outside world.new)) }
-    ensures faults { CountsFault result (W.faults world.old) (W.faults world.new) }
+    ensures spent { IfErr result (λ stop. stop ≡ Stop.Spent → proved ≡ false) }
+    ensures faults { CountsStop result (W.faults world.old) (W.faults world.new) }
 {
+    let mut budget = Budget::new(u64::MAX);
     if !proved {
-        let verdict = find_unproved(stack, decider, prover, decided)?;
+        let Some(verdict) = find_unproved(stack, decider, prover, decided, &mut budget)? else {
+            return Err(Stop::Spent);
+        };
         return Ok(verdict);
     }
     let mut lines = MemTape::new(alloc);
-    let Ok(verdict) = prover.check(decider, stack, decided, true, &mut lines) else {
-        return Err(WorldError::NoMemory);
+    let Ok(verdict) = prover.check(decider, stack, decided, true, &mut lines, &mut budget) else {
+        return Err(Stop::NoMemory);
     };
     write_all(world, OutPort::Proof, lines.bytes())?;
     Ok(verdict)
 }
 
-/// The verdict of a check, without a proof; it is never `Unknown`.
+/// The verdict of a check, without a proof, and never `Unknown`; none where the budget is spent.
 fn find_unproved(
     stack: &mut Stack,
     decider: &mut Decider,
     prover: &mut Prover,
     decided: Decided,
-) -> Result<Verdict, AllocError>
+    budget: &mut Budget,
+) -> Result<Option<Verdict>, AllocError>
     requires held { Holds stack.old decider.old prover.old }
     requires decided { IsDecided decider.old stack.old decided }
     ensures finds { IfOk result
-        (λ v. FindsUnproved (state_of stack.old) [] [] (verdict_in (live_constants stack.old) v)) }
-    ensures held { IfOk result (λ v. Holds (found v stack.new) decider.new prover.new) }
+        (λ answer. IfSome answer
+        (λ v. FindsUnproved (state_of stack.old) [] [] (verdict_in (live_constants stack.old) v))) }
+    ensures held { IfOk result
+        (λ answer. IfSome answer (λ v. Holds (found v stack.new) decider.new prover.new)) }
+    ensures spent { IfOk result (λ answer. answer ≡ None → budget.new.spent ≡ 2 ^ 64 - 1) }
     ensures rest { without_words stack.new ≡ without_words stack.old }
 {
-    let Ok(verdict) = prover.check(decider, stack, decided, false, &mut NoTape) else {
+    let Ok(verdict) = prover.check(decider, stack, decided, false, &mut NoTape, budget) else {
         return Err(AllocError);
     };
-    let known = if_known(verdict)?;
-    Ok(known)
+    Ok(if_known(verdict))
 }
 
 /// The verdict, unless it is `Unknown`.
-fn if_known(verdict: Verdict) -> Result<Verdict, AllocError>
-    ensures { IfOk result (λ v. (v ≡ verdict) × IsKnown v) }
+fn if_known(verdict: Verdict) -> Option<Verdict>
+    ensures some { IfSome result (λ v. (v ≡ verdict) × IsKnown v) }
+    ensures none { result ≡ None → verdict ≡ Verdict.Unknown }
 {
     match verdict {
-        Verdict::Sat { words, truths } => Ok(Verdict::Sat { words, truths }),
-        Verdict::Unsat => Ok(Verdict::Unsat),
-        Verdict::Unknown => Err(AllocError),
-        Verdict::Outside => Ok(Verdict::Outside),
+        Verdict::Sat { words, truths } => Some(Verdict::Sat { words, truths }),
+        Verdict::Unsat => Some(Verdict::Unsat),
+        Verdict::Unknown => None,
+        Verdict::Outside => Some(Verdict::Outside),
     }
 }

@@ -10,7 +10,7 @@ ghost use Rattle.sb_stack.specs.Stacked.{state_of};
 ghost use Rattle.sb_stack.specs.Steps.{IsEntry};
 ghost use Rattle.sb_words.specs.SolverWords.{are_taken};
 ghost use Rattle.sb_rulebook.specs.Judging.{beginning};
-ghost use Rattle.sb_session.specs.Commanding.{IsTracked, is_proved};
+ghost use Rattle.sb_session.specs.Commanding.{CountsStop, IsTracked, is_proved};
 ghost use Rattle.sb_session.specs.Certifying.{IsCertified};
 ghost use Rattle.sb_session.specs.Progress.{Sofar, status_by};
 ghost use Rattle.sb_session.specs.Reading.{Cut};
@@ -18,7 +18,7 @@ ghost use Rattle.sb_session.specs.Pausing.{Pauses};
 ghost use Rattle.sb_session.specs.Underway.{Turns, StaysOpen, IsRead, AllRead};
 ghost use Rattle.sb_session.specs.Solve.{Asked, asked_for, asked_by, asks_proof, created, opened, Run, WrongWords, CountsFaults, CutShort, CutInText, IsBounded};
 
-use crate::command::{Session, Went};
+use crate::command::{Session, Stop, Went};
 use sb_reader::{Ending, Feed, Next};
 use sb_sound::certified::{certified_is_accepted, certified_to_exit_is_accepted};
 use sb_words::NoRun;
@@ -37,7 +37,7 @@ pub enum SolveStatus {
     Usage,
     /// The outside failed.
     Fault,
-    /// There was not enough memory.
+    /// There was not enough memory, or without a proof a check took as many steps as it may, 2^64 - 1.
     NoMemory,
     /// So many bytes as the limit were read, and neither the script's end nor `(exit)`.
     InputLimit,
@@ -66,8 +66,8 @@ pub fn solve_top<W: World>(alloc: Global, words: &[String], world: &mut W) -> So
         → (result ≡ SolveStatus.Done) ⊎ (result ≡ SolveStatus.Unfinished)
         → IsCertified (asked_by (map string_bytes words.now) (2 ^ 32)) (W.outside world.old) (W.outside world.new) }
 
-    // Nothing else than want of memory keeps a script whose end or exit is below the limit from being answered, where
-    // no fault comes.
+    // Nothing else than want of memory, or without a proof a check of 2^64 - 1 steps, keeps a script whose end or exit is
+    // below the limit from being answered, where no fault comes.
     ensures complete { are_taken (map string_bytes words.now) ≡ true
         → (Rose (W.faults world.old) (W.faults world.new) → ⊥)
         → ((script : List ℕ)
@@ -115,23 +115,23 @@ pub fn solve_within<W: World>(
 }
 
 /// The status of a run, a fault's too.
-fn status_of(outcome: Result<SolveStatus, WorldError>) -> SolveStatus
+fn status_of(outcome: Result<SolveStatus, Stop>) -> SolveStatus
     ensures { result ≡ status_by outcome }
 {
     match outcome {
         Ok(status) => status,
-        Err(WorldError::Failed) => SolveStatus::Fault,
-        Err(WorldError::NoMemory) => SolveStatus::NoMemory,
+        Err(Stop::Fault) => SolveStatus::Fault,
+        Err(Stop::NoMemory | Stop::Spent) => SolveStatus::NoMemory,
     }
 }
 
 /// Writes the text to standard error.
-fn refuse_words<W: World>(text: &[u8], world: &mut W) -> Result<SolveStatus, WorldError>
+fn refuse_words<W: World>(text: &[u8], world: &mut W) -> Result<SolveStatus, Stop>
     ensures ok { IfOk result (λ status. (status ≡ SolveStatus.Usage)
         × (W.outside world.new ≡ moved_by (writing (OutPort.Faults, text.now)) (W.outside world.old))
         × CountsFaults status (W.faults world.old) (W.faults world.new)) }
     ensures err { OnErr result (CutInText text.now (W.outside world.old) (W.outside world.new)) }
-    ensures faults { CountsFault result (W.faults world.old) (W.faults world.new) }
+    ensures faults { CountsStop result (W.faults world.old) (W.faults world.new) }
 {
     write_all(world, OutPort::Faults, text)?;
     Ok(SolveStatus::Usage)
@@ -144,14 +144,14 @@ fn answer_files<W: World>(
     proof: Option<&str>,
     limit: u64,
     world: &mut W,
-) -> Result<SolveStatus, WorldError>
+) -> Result<SolveStatus, Stop>
     ensures ok { IfOk result
         (λ status. Run (asked_for (option_copied script.entry) (option_copied proof.entry) limit) status
         (W.outside world.old) (W.outside world.new)
         × CountsFaults status (W.faults world.old) (W.faults world.new)) }
     ensures err { OnErr result (CutShort (asked_for (option_copied script.entry) (option_copied proof.entry) limit)
         (W.outside world.old) (W.outside world.new)) }
-    ensures faults { CountsFault result (W.faults world.old) (W.faults world.new) }
+    ensures faults { CountsStop result (W.faults world.old) (W.faults world.new) }
 {
     world.open_input(InPort::Script, script)?;
     create_proof(proof, world)?;
@@ -183,7 +183,7 @@ fn answer_script<W: World>(
     feed: &mut Feed,
     session: &mut Session,
     world: &mut W,
-) -> Result<SolveStatus, WorldError>
+) -> Result<SolveStatus, Stop>
     requires buffer { 0 < length buffer.old }
     requires feed { feed.old ≡ ([], false) }
     requires state { state_of session.old.stack ≡ start }
@@ -196,7 +196,7 @@ fn answer_script<W: World>(
     ensures err { OnErr result ((asked : Asked) (old : Outside) → asked.limit ≡ limit
         → is_proved session.old ≡ asks_proof asked → W.outside world.old ≡ opened asked old
         → CutShort asked old (W.outside world.new)) }
-    ensures faults { CountsFault result (W.faults world.old) (W.faults world.new) }
+    ensures faults { CountsStop result (W.faults world.old) (W.faults world.new) }
 {
     let mut count = 0;
     while count < limit {
@@ -238,7 +238,7 @@ fn answer_piece<W: World>(
     feed: &mut Feed,
     session: &mut Session,
     world: &mut W,
-) -> Result<Pause, WorldError>
+) -> Result<Pause, Stop>
     requires feed { feed.old.1 ≡ false }
     requires session { session.old.ended ≡ false }
     ensures ok { IfOk result (λ pause. (opened : Outside) (bytes : List ℕ) (before : Outside)
@@ -252,7 +252,7 @@ fn answer_piece<W: World>(
     ensures finished { IfOk result (λ pause. feed.new.1 ≡ false) }
     ensures goes_on { IfOk result (λ pause. StaysOpen pause session.new) }
     ensures kind { OnOk result (is_proved session.new ≡ is_proved session.old) }
-    ensures faults { CountsFault result (W.faults world.old) (W.faults world.new) }
+    ensures faults { CountsStop result (W.faults world.old) (W.faults world.new) }
 {
     feed.push(piece)?;
     answer_entries(feed, session, world)
@@ -263,7 +263,7 @@ fn answer_entries<W: World>(
     feed: &mut Feed,
     session: &mut Session,
     world: &mut W,
-) -> Result<Pause, WorldError>
+) -> Result<Pause, Stop>
     requires { session.old.ended ≡ false }
     ensures ok { IfOk result (λ pause. (opened : Outside) (bytes : List ℕ)
         → Sofar opened bytes feed.old session.old (W.outside world.old)
@@ -274,7 +274,7 @@ fn answer_entries<W: World>(
         → Cut (is_proved session.old) opened bytes feed.old.1 (W.outside world.new)) }
     ensures finished { feed.new.1 ≡ feed.old.1 }
     ensures kind { OnOk result (is_proved session.new ≡ is_proved session.old) }
-    ensures faults { CountsFault result (W.faults world.old) (W.faults world.new) }
+    ensures faults { CountsStop result (W.faults world.old) (W.faults world.new) }
 {
     loop {
         if let Some(pause) = answer_next(feed, session, world)? {
@@ -288,7 +288,7 @@ fn answer_next<W: World>(
     feed: &mut Feed,
     session: &mut Session,
     world: &mut W,
-) -> Result<Option<Pause>, WorldError>
+) -> Result<Option<Pause>, Stop>
     requires { session.old.ended ≡ false }
     ensures ok { IfOk result (λ turn. (opened : Outside) (bytes : List ℕ)
         → Sofar opened bytes feed.old session.old (W.outside world.old)
@@ -301,7 +301,7 @@ fn answer_next<W: World>(
         → Cut (is_proved session.old) opened bytes feed.old.1 (W.outside world.new)) }
     ensures finished { feed.new.1 ≡ feed.old.1 }
     ensures kind { OnOk result (is_proved session.new ≡ is_proved session.old) }
-    ensures faults { CountsFault result (W.faults world.old) (W.faults world.new) }
+    ensures faults { CountsStop result (W.faults world.old) (W.faults world.new) }
 {
     let next = feed.next()?;
     answer_what_came(&next, session, world)
@@ -312,7 +312,7 @@ fn answer_what_came<W: World>(
     next: &Next,
     session: &mut Session,
     world: &mut W,
-) -> Result<Option<Pause>, WorldError>
+) -> Result<Option<Pause>, Stop>
     requires { session.old.ended ≡ false }
     ensures ok { IfOk result (λ turn. (opened : Outside) (bytes : List ℕ) (old new : feed.Unanswered)
         → feed.IsNext next.now old new → Sofar opened bytes old session.old (W.outside world.old)
@@ -324,7 +324,7 @@ fn answer_what_came<W: World>(
         → feed.IsNext next.now old new → Sofar opened bytes old session.old (W.outside world.old)
         → Cut (is_proved session.old) opened bytes old.1 (W.outside world.new)) }
     ensures kind { OnOk result (is_proved session.new ≡ is_proved session.old) }
-    ensures faults { CountsFault result (W.faults world.old) (W.faults world.new) }
+    ensures faults { CountsStop result (W.faults world.old) (W.faults world.new) }
 {
     match next {
         Next::NotYet => Ok(Some(Pause::Waiting)),
@@ -341,7 +341,7 @@ fn answer_end<W: World>(
     feed: &mut Feed,
     session: &mut Session,
     world: &mut W,
-) -> Result<SolveStatus, WorldError>
+) -> Result<SolveStatus, Stop>
     requires { session.old.ended ≡ false }
     ensures ok { IfOk result (λ status. (asked : Asked) (old : Outside) (bytes : List ℕ)
         → AllRead asked old bytes feed.old session.old (W.outside world.old)
@@ -350,7 +350,7 @@ fn answer_end<W: World>(
     ensures err { OnErr result ((asked : Asked) (old : Outside) (bytes : List ℕ)
         → AllRead asked old bytes feed.old session.old (W.outside world.old)
         → CutShort asked old (W.outside world.new)) }
-    ensures faults { CountsFault result (W.faults world.old) (W.faults world.new) }
+    ensures faults { CountsStop result (W.faults world.old) (W.faults world.new) }
 {
     feed.finish();
     let pause = answer_entries(feed, session, world)?;
@@ -362,7 +362,7 @@ fn end_script<W: World>(
     pause: Pause,
     session: &mut Session,
     world: &mut W,
-) -> Result<SolveStatus, WorldError>
+) -> Result<SolveStatus, Stop>
     ensures ok { IfOk result (λ status. (asked : Asked) (old : Outside) (bytes : List ℕ) (kept : feed.Unanswered)
         → IsRead asked old bytes → kept.1 ≡ true → is_proved session.old ≡ asks_proof asked
         → Pauses pause (opened asked old) bytes kept session.old (W.outside world.old)
@@ -372,7 +372,7 @@ fn end_script<W: World>(
         → IsRead asked old bytes → kept.1 ≡ true → is_proved session.old ≡ asks_proof asked
         → Pauses pause (opened asked old) bytes kept session.old (W.outside world.old)
         → CutShort asked old (W.outside world.new)) }
-    ensures faults { CountsFault result (W.faults world.old) (W.faults world.new) }
+    ensures faults { CountsStop result (W.faults world.old) (W.faults world.new) }
 {
     if pause == Pause::Ended(Ending::Unfinished) {
         write_all(world, OutPort::Answers, UNFINISHED)?;

@@ -26,6 +26,7 @@ returns-in_err-places g c =
       puts = IfOk-from_err x.result _ x.ensures.0;
       solved = IfOk-from_err x.result _ x.ensures.0;
       sound = IfOk-from_err x.result _ x.ensures.0;
+      limit = IfOk-from_err x.result _ x.ensures.0;
       knows = IfOk-from_err x.result _ x.ensures.0;
       regexes = IfOk-from_err x.result _ x.ensures.0;
       levels = IfOk-from_err x.result _ x.ensures.0;
@@ -53,6 +54,7 @@ returns-then-is_empty g c =
           (none-valued s places old.store before c.new.result.items c.new-then-is_empty.result.items
           c.new.ensures.items c.new-then-is_empty.ensures.items none);
       sound = λ proves. c.requires.sound;
+      limit = refl;
       knows = c.requires.knows;
       regexes = c.requires.regexes;
       levels = λ h. h;
@@ -67,6 +69,7 @@ returns-in_err-solved g c =
       puts = IfOk-from_err x.result _ x.ensures.0;
       solved = IfOk-from_err x.result _ x.ensures.0;
       sound = IfOk-from_err x.result _ x.ensures.0;
+      limit = IfOk-from_err x.result _ x.ensures.0;
       knows = IfOk-from_err x.result _ x.ensures.0;
       regexes = IfOk-from_err x.result _ x.ensures.0;
       levels = IfOk-from_err x.result _ x.ensures.0;
@@ -91,6 +94,7 @@ returns g c =
           x.evidence x.budget c.in_ok-solved.solved c.refuted-empty.result e.answer c.refuted-empty.ensures.known
           c.refuted-empty.ensures.kept;
       sound = λ proves. e.sound proves c.requires.terms c.requires.sound;
+      limit = e.limit;
       knows = c.knows_grown.ensures old x.store s e.store c.requires.knows;
       regexes = e.regexes;
       levels = levels-known (asked_in (state_of s)).live before x.evidence e.levels;

@@ -1,6 +1,7 @@
-use Rattle.sb_session.proofs.Words.{[], ◌∷◌, true, false, refl, arith, length, entry_of, err_from_is_err_and, leaving, proof_of, session_of, state_of, step_of}
+use Rattle.sb_session.proofs.Words.{[], ◌∷◌, true, false, refl, sym, ◌∙◌, arith, length, entry_of, err_from_is_err_and, leaving, proof_of, session_of, state_of, step_of}
 use Rattle.sb_stack.specs.declared.stack.Step.TheVariants as code
 use Rattle.sb_session.proofs.CommandLemmas.{by_answer, by_exit, by_left, moved_by, whole_reply, whole_reply_by, cut_reply, check_replies, cut_check_reply}
+use Rattle.sb_session.proofs.CheckLemmas.{never_spent}
 use Rattle.sb_session.proofs.LeavingLemmas.{held_on, count_live, levels_left, regexes_left, tracked_left, sound_left}
 use Rattle.sb_session.proofs.command.answer_entry.Goals as goal
 
@@ -183,3 +184,29 @@ returns-in_ok-write_all-in-Left-clause-held g c =
           c.args.decider.now.store c.leave.new.decider.store c.args.prover.now c.leave.new.prover left.store left.proof
           fits.1 h.levels h.sound;
     }
+
+-- No error of the outside is want of steps.
+
+pub returns-in_err-write_all-in-Answer-clause-spent : goal.returns-in_err-write_all-in-Answer-clause-spent
+returns-in_err-write_all-in-Answer-clause-spent g c =
+    let x = c.from_residual-in_err-write_all-in-Answer in
+    let p = err_from_is_err_and x.result x.ensures.1 in
+    rw p.1 (λ h. absurd (never_spent p.0 _ p.2 h))
+
+pub returns-in_err-write_all-in-Left-clause-spent : goal.returns-in_err-write_all-in-Left-clause-spent
+returns-in_err-write_all-in-Left-clause-spent g c =
+    let x = c.from_residual-in_err-write_all-in-Left in
+    let p = err_from_is_err_and x.result x.ensures.1 in
+    rw p.1 (λ h. absurd (never_spent p.0 _ p.2 h))
+
+pub returns-in_err-write_all-in-Exit-clause-spent : goal.returns-in_err-write_all-in-Exit-clause-spent
+returns-in_err-write_all-in-Exit-clause-spent g c =
+    let x = c.from_residual-in_err-write_all-in-Exit in
+    let p = err_from_is_err_and x.result x.ensures.1 in
+    rw p.1 (λ h. absurd (never_spent p.0 _ p.2 h))
+
+pub returns-in_err-answer_check-in-Check-clause-spent : goal.returns-in_err-answer_check-in-Check-clause-spent
+returns-in_err-answer_check-in-Check-clause-spent g c =
+    let x = c.from_residual-in_err-answer_check-in-Check in
+    let p = err_from_is_err_and x.result x.ensures.1 in
+    rw p.1 (λ h. c.in_err-answer_check-in-Check.ensures.spent (sym p.2 ∙ h))

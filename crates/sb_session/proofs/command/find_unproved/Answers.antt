@@ -1,6 +1,6 @@
-use Rattle.sb_session.proofs.Words.{[], sym, subst, Holds, IsVerdict, found, live_constants, state_of, verdict_in}
+use Rattle.sb_session.proofs.Words.{[], sym, subst, HasSpent, Holds, IsVerdict, found, live_constants, state_of, verdict_in}
 use Rattle.sb_stack.specs.declared.verdict.Verdict.{Verdict}
-use Rattle.sb_session.proofs.CheckLemmas.{known_finds, held_found}
+use Rattle.sb_session.proofs.CheckLemmas.{known_finds, held_found, some_weaker}
 use Rattle.sb_session.proofs.command.find_unproved.Goals as goal
 
 pub check-requires : goal.check-requires
@@ -10,16 +10,24 @@ check-requires c =
 
 pub returns-clause-finds : goal.returns-clause-finds
 returns-clause-finds c =
-    known_finds (state_of c.args.stack.now) (live_constants c.args.stack.now) c.in_ok-known.known
-    c.in_ok-known.ensures.1
-    (subst (λ (v : Verdict). IsVerdict (state_of c.args.stack.now) [] (verdict_in (live_constants c.args.stack.now) v))
-    (sym c.in_ok-known.ensures.0) c.in-Ok.ensures.verdict)
+    some_weaker c.if_known.result _ _
+    (λ v known.
+    known_finds (state_of c.args.stack.now) (live_constants c.args.stack.now) v known.1
+    (subst (λ (w : Verdict). IsVerdict (state_of c.args.stack.now) [] (verdict_in (live_constants c.args.stack.now) w))
+    (sym known.0) c.in-Ok.ensures.verdict))
+    c.if_known.ensures.some
 
 pub returns-clause-held : goal.returns-clause-held
 returns-clause-held c =
     let e = c.in-Ok.ensures in
     let h = c.requires.held in
-    subst (λ (v : Verdict). Holds (found v c.check.new.stack) c.check.new.decider c.check.new.self)
-    (sym c.in_ok-known.ensures.0)
+    some_weaker c.if_known.result _ _
+    (λ v known.
+    subst (λ (w : Verdict). Holds (found w c.check.new.stack) c.check.new.decider c.check.new.self) (sym known.0)
     (held_found c.in-Ok.verdict c.args.stack.now c.check.new.stack c.check.new.decider c.check.new.self e.rest e.knows
-    e.regexes (e.levels h.levels) h.fit e.sound)
+    e.regexes (e.levels h.levels) h.fit e.sound))
+    c.if_known.ensures.some
+
+pub returns-clause-spent : goal.returns-clause-spent
+returns-clause-spent c = λ none.
+    subst (HasSpent c.check.new.budget) (c.if_known.ensures.none none) c.in-Ok.ensures.spent

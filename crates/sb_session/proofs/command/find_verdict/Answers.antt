@@ -1,5 +1,5 @@
 use Rattle.sb_session.proofs.Words.{refl, inr, err_from_is_err_and, live_constants, verdict_in}
-use Rattle.sb_session.proofs.CheckLemmas.{check_proved, check_cut, check_unwritten, held_found}
+use Rattle.sb_session.proofs.CheckLemmas.{check_proved, check_cut, check_unwritten, held_found, never_spent}
 use Rattle.sb_session.proofs.command.find_verdict.Goals as goal
 
 pub find_unproved-requires : goal.find_unproved-requires
@@ -20,8 +20,16 @@ returns-clause-held g c =
 pub returns-then-not-proved-clause-ok : goal.returns-then-not-proved-clause-ok
 returns-then-not-proved-clause-ok g c = λ p tracked.
     check_unwritten c.args.stack.now c.find_unproved.new.decider c.args.prover.now c.find_unproved.new.prover
-    (verdict_in (live_constants c.args.stack.now) c.in_ok-verdict.verdict) p c.args.proved
-    (g.W.World.outside c.args.world.now) c.if-not-proved.true c.in_ok-verdict.ensures.finds
+    (verdict_in (live_constants c.args.stack.now) c.in-Some.verdict) p c.args.proved
+    (g.W.World.outside c.args.world.now) c.if-not-proved.true (rw c.in-Some.is at c.in_ok-verdict.ensures.finds)
+
+pub returns-then-not-proved-clause-held : goal.returns-then-not-proved-clause-held
+returns-then-not-proved-clause-held g c = rw c.in-Some.is at c.in_ok-verdict.ensures.held
+
+pub returns-in_err-write_all-clause-spent : goal.returns-in_err-write_all-clause-spent
+returns-in_err-write_all-clause-spent g c =
+    let e = err_from_is_err_and c.from_residual-in_err-write_all.result c.from_residual-in_err-write_all.ensures.1 in
+    rw e.1 (λ h. absurd (never_spent e.0 _ e.2 h))
 
 pub returns-clause-ok : goal.returns-clause-ok
 returns-clause-ok g c = λ p tracked.

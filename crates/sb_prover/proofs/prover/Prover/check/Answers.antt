@@ -1,4 +1,4 @@
-use Rattle.sb_prover.proofs.Words.{[], length, refl, sym, ap, subst, ◌∙◌, Backs, CountsTapeFault, Decided, HaveLevels, HaveRegexesBelow, IfOk-from_err, IsDecided, IsProved, IsTrue, IsVerdict, Knows, Proving, Said, Solution, asked_in, counts_on, err_from_is_err_and, false≢true, found, line, live_constants, question_in, state_of, text_of, verdict_in, verdict_line, verdict_of, with_bytes}
+use Rattle.sb_prover.proofs.Words.{[], length, refl, sym, ap, subst, ◌∙◌, Backs, CountsTapeFault, Decided, HasSpent, HaveLevels, HaveRegexesBelow, IfOk-from_err, IsDecided, IsProved, IsTrue, IsVerdict, Knows, Proving, Said, Solution, asked_in, counts_on, err_from_is_err_and, false≢true, found, line, live_constants, question_in, state_of, text_of, verdict_in, verdict_line, verdict_of, with_bytes}
 use Rattle.sb_stack.specs.declared.verdict.Verdict.{Verdict}
 use Rattle.sb_prover.proofs.Proved.{solved-proved}
 use Rattle.sb_prover.proofs.Solutions.{said-same, solved-verdict}
@@ -26,6 +26,7 @@ returns g c =
     record {
       proves = λ proves. absurd (false≢true (sym c.if-not-proves.true ∙ proves));
       verdict = (subst (λ (d : Decided). IsDecided c.args.decider.now s d) c.in-Dead.is c.requires.decided).1;
+      spent = tt;
       regexes = c.requires.regexes;
       knows = record { taken = knows.taken; words = knows.words; declared = knows.declared };
       rest = refl;
@@ -41,6 +42,7 @@ returns-in_err-begin g c =
     record {
       proves = IfOk-from_err x.result _ x.ensures.0;
       verdict = IfOk-from_err x.result _ x.ensures.0;
+      spent = IfOk-from_err x.result _ x.ensures.0;
       regexes = IfOk-from_err x.result _ x.ensures.0;
       knows = IfOk-from_err x.result _ x.ensures.0;
       rest = refl;
@@ -56,6 +58,7 @@ returns-in_err-solution g c =
     record {
       proves = IfOk-from_err x.result _ x.ensures.0;
       verdict = IfOk-from_err x.result _ x.ensures.0;
+      spent = IfOk-from_err x.result _ x.ensures.0;
       regexes = IfOk-from_err x.result _ x.ensures.0;
       knows = IfOk-from_err x.result _ x.ensures.0;
       rest = c.in_err-solution.ensures.rest;
@@ -73,6 +76,7 @@ returns-in_err-say_solution g c =
     record {
       proves = IfOk-from_err x.result _ x.ensures.0;
       verdict = IfOk-from_err x.result _ x.ensures.0;
+      spent = IfOk-from_err x.result _ x.ensures.0;
       regexes = IfOk-from_err x.result _ x.ensures.0;
       knows = IfOk-from_err x.result _ x.ensures.0;
       rest = c.in_ok-solution.ensures.rest;
@@ -115,6 +119,7 @@ returns-2 g c =
           (sym c.verdict_of.ensures)
           (solved-verdict c.empty_clause_refutes.ensures s c.requires.fit new.store c.solution.new.self.evidence r
           e.sound e.means);
+      spent = subst (HasSpent c.solution.new.budget) (sym c.verdict_of.ensures) e.spent;
       regexes = e.regexes;
       knows = subst (λ (v : Verdict). Knows new (found v c.solution.new.stack)) (sym c.verdict_of.ensures) e.knows;
       rest = e.rest;

@@ -1,6 +1,6 @@
-use Rattle.sb_prover.proofs.Words.{length, ap, refl, sym, subst, ◌∙◌, Backs, CountsTapeFault, Decided, HaveLevels, HaveRegexesBelow, IfOk-from_err, IsDecided, IsSolution, IsTrue, Proving, Solved, Store, asked_in, counts_none, counts_on, err_from_is_err_and, state_of}
+use Rattle.sb_prover.proofs.Words.{length, ap, refl, sym, subst, ◌∙◌, Backs, CountsTapeFault, Decided, HaveLevels, HaveRegexesBelow, IfOk-from_err, IsDecided, IsSolution, IsTrue, Proving, Solved, Spending, Store, asked_in, counts_none, counts_on, err_from_is_err_and, state_of}
 use Rattle.sb_prover.specs.declared.checking.Solution.TheVariants as solution
-use Rattle.sb_prover.proofs.Solutions.{inside-of, asked-of, empty-known, counts-none, ready-then, solved-again, solved-now, solved-true, says-true}
+use Rattle.sb_prover.proofs.Solutions.{inside-of, asked-of, empty-known, counts-none, ready-then, solved-again, solved-now, solved-true, says-true, spent-all}
 use Rattle.sb_prover.proofs.prover.Prover.solution.Goals as goal
 
 pub searched-requires : goal.searched-requires
@@ -39,6 +39,7 @@ returns-in-Outside g c =
       solved = λ proves before backs counted.
           solved-again s before old.store c.args.self.now.evidence solution.Outside (g.L.Tape.told c.args.tape.now)
           backs tt;
+      spent = tt;
       knows = record { taken = knows.taken; words = knows.words; declared = knows.declared };
       rest = refl;
       sound = c.requires.sound;
@@ -62,6 +63,7 @@ returns-in-Some g c =
       solved = λ proves before backs counted.
           solved-again s before old.store c.args.self.now.evidence
           (solution.Unsat c.in-Some.empty.clause) (g.L.Tape.told c.args.tape.now) backs tt;
+      spent = tt;
       knows = record { taken = knows.taken; words = knows.words; declared = knows.declared };
       rest = refl;
       sound = c.requires.sound;
@@ -78,6 +80,7 @@ returns-in_err-solved g c =
     record {
       means = IfOk-from_err x.result _ x.ensures.0;
       solved = IfOk-from_err x.result _ x.ensures.0;
+      spent = IfOk-from_err x.result _ x.ensures.0;
       knows = IfOk-from_err x.result _ x.ensures.0;
       rest = refl;
       sound = IfOk-from_err x.result _ x.ensures.0;
@@ -94,6 +97,7 @@ returns-in_err-solution g c =
     record {
       means = IfOk-from_err x.result _ x.ensures.0;
       solved = IfOk-from_err x.result _ x.ensures.0;
+      spent = IfOk-from_err x.result _ x.ensures.0;
       knows = IfOk-from_err x.result _ x.ensures.0;
       rest = c.in_err-solution.ensures.rest;
       sound = IfOk-from_err x.result _ x.ensures.0;
@@ -131,14 +135,16 @@ returns g c =
           subst (λ (x : Store). IsSolution s before x f c.in_ok-solution.solution told telling) stays
           (solved-now mid s before old.store mid.store e f budget c.in_ok-solved.solved c.in_ok-solution.solution told
           telling
-          (found.puts proves before kept (counts-none s before _ c.new-budget.ensures counted)) found.solved
+          (found.puts proves before kept (counts-none s before _ c.new.ensures counted)) found.solved
           done.completed);
+      spent = spent-all mid s old.store e f budget c.in_ok-solved.solved c.in_ok-solution.solution
+          (found.limit ∙ ap (λ (b : Spending). b.limit) c.new.ensures) found.solved done.completed;
       knows = done.knows;
       rest = done.rest;
       sound = subst (λ (x : Store). IsTrue (asked_in (state_of s)) x.arena x.graph.memo f) stays
           (solved-true c.follows_by_rule.ensures c.line_stays_sound.ensures c.counted_again_stays_sound.ensures s
           c.requires.terms c.args.proves old.store mid.store e f _ budget told telling t
-          (counts-none s t.kept _ c.new-budget.ensures t.counted) found.puts found.sound);
+          (counts-none s t.kept _ c.new.ensures t.counted) found.puts found.sound);
       regexes = subst (λ (x : Store). HaveRegexesBelow (length x.arena) f.atoms) stays found.regexes;
       begun = ap (λ (p : Proving). p.begun) c.self.view_is;
       levels = λ h.

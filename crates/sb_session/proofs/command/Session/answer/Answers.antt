@@ -1,4 +1,4 @@
-use Rattle.sb_session.proofs.Words.{ap, entry_of, proof_of, session_of, sym, ◌∙◌, SessionState}
+use Rattle.sb_session.proofs.Words.{ap, entry_of, err_from_is_err_and, is_proved, proof_of, session_of, sym, ◌∙◌, SessionState}
 use Rattle.sb_session.proofs.CheckLemmas.{is_kind}
 use Rattle.sb_session.proofs.CommandLemmas.{answers_regardless}
 use Rattle.sb_session.proofs.command.Session.answer.Goals as goal
@@ -16,3 +16,10 @@ returns-clause-ok g c = rw (← c.self.view_is) (record {
       (proof_of c.self.inside.proved c.answer_entry.new.prover)) _ _
       (g.W.World.outside c.args.world.now) (g.W.World.outside c.answer_entry.new.world) c.in_ok-went.ensures.ok.1;
 })
+
+pub returns-in_err-went-clause-spent : goal.returns-in_err-went-clause-spent
+returns-in_err-went-clause-spent g c =
+    let p = err_from_is_err_and c.from_residual.result c.from_residual.ensures.1 in
+    rw p.1
+    (λ h. ap (λ (s : SessionState). is_proved s) (sym c.self.view_is)
+    ∙ is_kind c.self.inside.proved c.self.inside.prover ∙ c.in_err-went.ensures.spent (sym p.2 ∙ h))
