@@ -2,9 +2,10 @@
 
 ghost use Rattle.std.specs.Prelude.{◌≡◌, [], true, false, length, IsSome, IfOk, OnOk};
 ghost use Rattle.std.specs.List.{list_all};
-ghost use Rattle.sb_script.specs.State.{live};
+ghost use Rattle.sb_script.specs.State.{live, live_terms};
 ghost use Rattle.sb_script.specs.Steps.{line};
 ghost use Rattle.sb_script.specs.Verdicts.{IsVerdict};
+ghost use Rattle.sb_script.specs.WellSorted.{is_well_sorted};
 ghost use Rattle.sb_fragment.specs.Rules.{is_decided};
 ghost use Rattle.sb_rulebook.specs.Accepted.{question_in, asked_in};
 ghost use Rattle.sb_rulebook.specs.Judging.{Progress};
@@ -80,6 +81,7 @@ impl Prover {
         requires knows { Knows decider.old stack.old }
         requires decided { IsDecided decider.old stack.old decided }
         requires fit { IsFit (state_of stack.old) }
+        requires sorted { list_all is_well_sorted (live_terms (state_of stack.old)) ≡ true }
         requires regexes { HaveRegexesBelow (length decider.old.store.arena) self.old.evidence.atoms }
         requires sound { IsTrue (asked_in (state_of stack.old)) decider.old.store.arena decider.old.store.graph.memo
             self.old.evidence }
@@ -126,6 +128,7 @@ impl Prover {
         requires knows { Knows decider.old stack.old }
         requires decided { IsDecided decider.old stack.old decided }
         requires terms { AreTerms (asked_in (state_of stack.old)) }
+        requires sorted { list_all is_well_sorted (live_terms (state_of stack.old)) ≡ true }
         requires regexes { HaveRegexesBelow (length decider.old.store.arena) self.old.evidence.atoms }
         requires sound { IsTrue (asked_in (state_of stack.old)) decider.old.store.arena decider.old.store.graph.memo
             self.old.evidence }
@@ -187,6 +190,7 @@ fn searched<L: Tape>(
     requires inside { list_all is_decided (live (state_of stack.now)) ≡ true }
     requires asked { IsAsked decider.old stack.now decided }
     requires terms { AreTerms (asked_in (state_of stack.now)) }
+    requires sorted { list_all is_well_sorted (live_terms (state_of stack.now)) ≡ true }
     requires regexes { HaveRegexesBelow (length decider.old.store.arena) evidence.old.atoms }
     requires sound { IsTrue (asked_in (state_of stack.now)) decider.old.store.arena decider.old.store.graph.memo
         evidence.old }

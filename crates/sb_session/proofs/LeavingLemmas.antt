@@ -1,20 +1,41 @@
 -- Where levels are left, what is known of the proof goes along.
-use Rattle.sb_session.proofs.Words.{◌≡◌, ◌≤◌, ℕ, Bool, true, false, List, [], ◌∷◌, ◌++◌, length, take, Option, Some, None, is_some, IfSome, refl, sym, ap, ◌∙◌, subst, AreLow, GoesDown, HasLevels, HasRegexes, HasTrue, HaveLevels, Holds, IsAbreast, IsFit, IsTracked, LeavesProof, LevelsStay, Phase, Progress, Proving, SessionState, Stacked, State, Store, Term, asked_in, assertion_in, at_check, at_end, at_rest, behind, behind_end, is_proved, leaving, length-map, live, met, progress_by, proof_of, state_of, stopped, HaveRegexesBelow, Continues, KnowsStays, Decider, TrueGoesOn, IsLonger, live_laid}
+use Rattle.sb_session.proofs.Words.{Entry, EntriesKeepSorts, IsStep, Step, is_sorted_behind, is_sorted_state, step_of, ◌≡◌, ◌≤◌, ℕ, Bool, true, false, List, [], ◌∷◌, ◌++◌, length, take, Option, Some, None, is_some, IfSome, refl, sym, ap, ◌∙◌, subst, AreLow, GoesDown, HasLevels, HasRegexes, HasTrue, HaveLevels, Holds, IsAbreast, IsFit, IsTracked, LeavesProof, LevelsStay, Phase, Progress, Proving, SessionState, Stacked, State, Store, Term, asked_in, assertion_in, at_check, at_end, at_rest, behind, behind_end, is_proved, leaving, length-map, live, met, progress_by, proof_of, state_of, stopped, HaveRegexesBelow, Continues, KnowsStays, Decider, TrueGoesOn, IsLonger, live_laid}
+use Rattle.sb_script.specs.Steps as meaning
 use Rattle.sb_term.specs.Numbered as table
+use Rattle.sb_stack.specs.declared.stack.Step.TheVariants as code
+
+-- An entry leaves everything well sorted.
+
+by_step : (x : meaning.Step) (old new : State) (step : Step) → IsStep x step old new → is_sorted_behind x ≡ true
+    → is_sorted_state old ≡ true → is_sorted_state new ≡ true
+by_step (meaning.leaves what text s) old new (code.Left bytes level) h behind sorted =
+    ap (λ (t : State). is_sorted_state t) h.1.1 ∙ behind
+by_step (meaning.answers text s) old new (code.Answer bytes) h behind sorted =
+    ap (λ (t : State). is_sorted_state t) h.1 ∙ behind
+by_step (meaning.checks []) old new code.Check h behind sorted = ap (λ (t : State). is_sorted_state t) h ∙ sorted
+by_step (meaning.exits text) old new (code.Exit bytes) h behind sorted =
+    ap (λ (t : State). is_sorted_state t) h.1 ∙ sorted
+by_step _ old new _ h behind sorted = absurd h
+
+pub sorted_on : EntriesKeepSorts → (entry : Entry) (old new : State) (step : Step)
+    → IsStep (step_of entry old) step old new → is_sorted_state old ≡ true → is_sorted_state new ≡ true
+sorted_on keep entry old new step is sorted =
+    by_step (step_of entry old) old new step is (keep entry old sorted) sorted
 
 -- no level is left
 pub held_on : KnowsStays → LevelsStay → TrueGoesOn → (old new : Stacked) (kept : Decider) (proving : Proving)
     → table.Extends old.table new.table → IsLonger old.assertions new.assertions → new.words ≡ old.words
     → length old.scope.sorts ≤ length new.scope.sorts
     → (more : List (Option Term × ℕ)) × ((asked_in (state_of new)).live ≡ (asked_in (state_of old)).live ++ more)
-    → IsFit (state_of new) × Continues (asked_in (state_of old)) (asked_in (state_of new)) → Holds old kept proving
-    → Holds new kept proving
-held_on knows levels on old new kept proving terms longer words sorts grows fits h = record {
+    → IsFit (state_of new) × Continues (asked_in (state_of old)) (asked_in (state_of new))
+    → is_sorted_state (state_of new) ≡ true → Holds old kept proving → Holds new kept proving
+held_on knows levels on old new kept proving terms longer words sorts grows fits sorted h = record {
   knows = knows kept old new terms longer words sorts h.knows;
   regexes = h.regexes;
   levels = subst (λ (live : List (Option Term × ℕ)). HaveLevels live proving.evidence) (sym grows.1)
       (levels (asked_in (state_of old)).live grows.0 proving.evidence h.levels);
   fit = fits.0;
+  sorted = sorted;
   sound = on (asked_in (state_of old)) (asked_in (state_of new)) kept.store proving.evidence fits.1 h.sound;
 }
 

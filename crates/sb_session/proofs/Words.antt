@@ -22,6 +22,7 @@ pub use Rattle.sb_reader.specs.declared.feed.Next.{Next}
 pub use Rattle.sb_meaning.specs.Terms.{Sort, Term}
 pub use Rattle.sb_script.specs.Replies.{is_exit, step_of}
 pub use Rattle.sb_script.specs.Scripts.{Along, unfinished_line}
+pub use Rattle.sb_script.specs.SortedStates.{EntriesKeepSorts, is_sorted_behind, is_sorted_state}
 pub use Rattle.sb_script.specs.State.{State, live, plain}
 pub use Rattle.sb_script.specs.Verdicts.{Finding, FindsUnproved, IsReply, IsVerdict, Verdict, is_outside, is_sat, is_unknown, is_unsat, settled, verdict_text}
 pub use Rattle.sb_rulebook.specs.Accepted.{asked_in, event_of_leaving, events_of, question_in}

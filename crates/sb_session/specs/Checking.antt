@@ -3,6 +3,7 @@ use Rattle.std.specs.Prelude.{◌≡◌, ℕ, Bool, true, false, List, [], ◌�
 use Rattle.sb_world.specs.Outside.{Outside}
 use Rattle.sb_world.specs.Moved.{moved_by, writing_all}
 use Rattle.sb_world.specs.declared.OutPort.TheVariants as out_port
+use Rattle.sb_script.specs.SortedStates.{is_sorted_state}
 use Rattle.sb_script.specs.State.{State}
 use Rattle.sb_script.specs.Verdicts.{Verdict, FindsUnproved, verdict_text, settled}
 use Rattle.sb_meaning.specs.Terms.{Term}
@@ -38,12 +39,13 @@ HasLevels s proving = HaveLevels (asked_in s).live proving.evidence
 abbrev pub HasTrue : State → Store → Proving → Type 0
 HasTrue s store proving = IsTrue (asked_in s) store.arena store.graph.memo proving.evidence
 
--- What is known while a session goes on: of the live assertions, that they fit, and of the evidence.
+-- What is known while a session goes on: of the live assertions, that they fit and are well sorted, and of the evidence.
 pub record Holds (stack : Stacked) (decider : Decider) (proving : Proving) : Type 0 where
   pub knows : Knows decider stack
   pub regexes : HasRegexes decider.store proving
   pub levels : HasLevels (state_of stack) proving
   pub fit : IsFit (state_of stack)
+  pub sorted : is_sorted_state (state_of stack) ≡ true
   pub sound : HasTrue (state_of stack) decider.store proving
 
 -- Where levels are left and so many assertions stay, what the prover knows goes along.

@@ -22,6 +22,7 @@ use sb_prover::{
     regexes_stay_below, true_stays,
 };
 use sb_reader::Next;
+use sb_script::laws::{entries_keep_sorts, live_are_well_sorted, start_is_sorted};
 use sb_sound::scripts::entries_lead_on;
 use sb_stack::{Stack, Step, Verdict};
 use sb_world::{OutPort, World, WorldError, write_all};
@@ -145,6 +146,7 @@ impl Session {
         ensures tracked { IsTracked result beginning }
     {
         entries_lead_on();
+        start_is_sorted();
         Session {
             alloc,
             stack: Stack::new(alloc),
@@ -276,6 +278,7 @@ fn answer_entry<W: World>(
     levels_stay();
     entries_move_live();
     entries_stay_fit();
+    entries_keep_sorts();
     true_stays();
     match stack.apply(entry)? {
         Step::Answer(text) => {
@@ -386,6 +389,7 @@ fn find_verdict<W: World>(
     ensures spent { IfErr result (λ stop. stop ≡ Stop.Spent → proved ≡ false) }
     ensures faults { CountsStop result (W.faults world.old) (W.faults world.new) }
 {
+    live_are_well_sorted();
     let mut budget = Budget::new(u64::MAX);
     if !proved {
         let Some(verdict) = find_unproved(stack, decider, prover, decided, &mut budget)? else {
@@ -419,6 +423,7 @@ fn find_unproved(
     ensures spent { IfOk result (λ answer. answer ≡ None → budget.new.spent ≡ 2 ^ 64 - 1) }
     ensures rest { without_words stack.new ≡ without_words stack.old }
 {
+    live_are_well_sorted();
     let Ok(verdict) = prover.check(decider, stack, decided, false, &mut NoTape, budget) else {
         return Err(AllocError);
     };

@@ -22,11 +22,13 @@ pub use Rattle.sb_lang.specs.Language.{language}
 pub use Rattle.sb_meaning.specs.Sorts.{is_same_sort}
 pub use Rattle.sb_meaning.specs.Terms.{Terms, apply, constant, integer, no_terms, numeral, parameter, reglan, with_term, word}
 pub use Rattle.sb_meaning.specs.Values.{Int, Text, Truth, Value, default_of, is_of, value_in}
-pub use Rattle.sb_script.specs.Brought.{is_brought_sort}
+pub use Rattle.sb_script.specs.Brought.{is_brought_sort, is_structure}
+pub use Rattle.sb_script.specs.Fragment.{fits}
 pub use Rattle.sb_script.specs.Models.{occurs, occurs_in_some}
 pub use Rattle.sb_script.specs.Pieces.{Piece, word_piece}
 pub use Rattle.sb_script.specs.Scopes.{Naming}
 pub use Rattle.sb_script.specs.State.{live_terms, terms_in}
+pub use Rattle.sb_script.specs.WellSorted.{is_well_sorted}
 pub use Rattle.sb_rulebook.specs.Accepted.{at_level, live_by_level, term_of}
 pub use Rattle.sb_rulebook.specs.AtomRules.{are_known}
 pub use Rattle.sb_rulebook.specs.Atoms.{le_atom, sum_atom}
@@ -35,7 +37,7 @@ pub use Rattle.sb_rulebook.specs.Gates.{gate}
 pub use Rattle.sb_rulebook.specs.Kept.{count_again}
 pub use Rattle.sb_rulebook.specs.Lines.{Line}
 pub use Rattle.sb_rulebook.specs.Refusals.{Refusal}
-pub use Rattle.sb_rulebook.specs.TranslationLaws.{TranslationStays}
+pub use Rattle.sb_rulebook.specs.TranslationLaws.{FittingIsTranslated, TranslationStays}
 pub use Rattle.sb_sound.proofs.CallerLemmas.{Contains-slice_get, IsTruthAt, all_in_front, any_holds-front, kept_at-up_to, length-truths_of, literal_holds-take, names_from, truth_at_place, truths_from-append, truths_from-front}
 pub use Rattle.sb_sound.specs.GateLaws.{GatesHold, all_hold, are_alike, is_as_it_says}
 pub use Rattle.sb_sound.specs.SoundLaws.{CountedAgainStaysSound, FollowsByRule, IsSound, LevelsHold, LineStaysSound, PlacesHold, StandsAt}
@@ -55,7 +57,7 @@ pub use Rattle.sb_search.specs.declared.found.Found.{Found}
 pub use Rattle.sb_atoms.proofs.CallerLemmas.{all_say, atoms_kept, atoms_more, earlier_table}
 pub use Rattle.sb_atoms.specs.GateClauses.{atom_at, gate_clauses}
 pub use Rattle.sb_atoms.specs.Numbered.{over}
-pub use Rattle.sb_atoms.specs.Translated.{brought_translation, has_declared, have_declared}
+pub use Rattle.sb_atoms.specs.Translated.{HasNoLiteral, brought_translation, has_declared, have_declared}
 pub use Rattle.sb_stack.proofs.CallerLemmas.{live_laid, same_sort, value_there}
 pub use Rattle.sb_stack.specs.Speaking.{is_one_of, speak_of, speaks_of}
 pub use Rattle.sb_stack.specs.Stacked.{HasNumberBelow, assertion_in, assertion_of, first_level, front_names, levels_above, value_at}

@@ -10,7 +10,8 @@ pub use Rattle.sb_meaning.specs.Terms.{Sort, Term, boolean, text}
 pub use Rattle.sb_meaning.specs.Truth.{holds}
 pub use Rattle.sb_meaning.specs.Values.{Valuation}
 pub use Rattle.sb_script.specs.Pieces.{constant_piece}
-pub use Rattle.sb_script.specs.State.{Assertion, a_mark, asserted, live}
+pub use Rattle.sb_script.specs.State.{Assertion, a_mark, asserted, live, live_terms}
+pub use Rattle.sb_script.specs.WellSorted.{is_well_sorted}
 pub use Rattle.sb_rulebook.specs.Accepted.{asked_in}
 pub use Rattle.sb_rulebook.specs.AtomRules.{is_declared}
 pub use Rattle.sb_rulebook.specs.Atoms.{Atom, AtomOver, and_atom, bool_atom, clause_holds, iff_atom, in_atom, literal_holds, truth_at, truths_of}

@@ -1,7 +1,7 @@
 //! The check of the live assertions.
 
 ghost use Rattle.std.specs.Prelude.{◌≡◌, ◌<◌, ◌≤◌, true, false, length, IfOk, OnOk};
-ghost use Rattle.sb_solve.specs.Words.{All, AllKept, AreTerms, Backs, CountsTapeFault, Evidences, Grows, HaveRegexesBelow, IsCounted, IsStoreOf, asked_in, is_decided, list_all, live, state_of};
+ghost use Rattle.sb_solve.specs.Words.{All, AllKept, AreTerms, Backs, CountsTapeFault, Evidences, Grows, HaveRegexesBelow, IsCounted, IsStoreOf, asked_in, is_decided, is_well_sorted, list_all, live, live_terms, state_of};
 ghost use Rattle.sb_solve.specs.Solved.{AreOfLevels, IsSolved};
 ghost use Rattle.sb_solve.specs.Truth.{IsTrue};
 
@@ -38,8 +38,8 @@ pub enum Solved {
 /// nothing: no regex is explored to its end for a lemma, and a step is spent for each lemma and each learned clause.
 ///
 /// The time is that of the search, which may be exponential in the atoms, and of what is explored of regexes.
-/// `NoMemory` also where a live assertion has no literal, or one that speaks of a constant of another sort than the
-/// atom's, as of well-sorted ones none has and does. After an error the evidence may be empty and the store too, and
+/// `NoMemory` also where the literal of a live assertion speaks of a constant of another sort than the atom's, as that of
+/// no well-sorted one does. After an error the evidence may be empty and the store too, and
 /// nothing more may be put.
 pub fn solve<L: Tape>(
     alloc: Global,
@@ -53,6 +53,7 @@ pub fn solve<L: Tape>(
 ) -> Result<Solved, TapeFault>
     requires places { All (λ place. place < length stack.now.assertions) places.now }
     requires decided { list_all is_decided (live (state_of stack.now)) ≡ true }
+    requires sorted { list_all is_well_sorted (live_terms (state_of stack.now)) ≡ true }
     requires store { IsStoreOf stack.now.table store.old }
     requires regexes { HaveRegexesBelow (length store.old.arena) evidence.old.atoms }
     ensures puts { OnOk result (proves ≡ true → (before : AllKept)

@@ -1,13 +1,13 @@
 //! The literals of live assertions.
 
 ghost use Rattle.std.specs.Prelude.{◌≡◌, ◌<◌, ◌∷◌, ◌++◌, [], true, length, IfOk, OnOk};
-ghost use Rattle.sb_solve.specs.Words.{All, CountsTapeFault, HaveRegexesBelow, IsStoreOf, is_decided, list_all, live, state_of};
+ghost use Rattle.sb_solve.specs.Words.{All, CountsTapeFault, HaveRegexesBelow, IsStoreOf, is_decided, is_well_sorted, list_all, live, live_terms, state_of};
 ghost use Rattle.sb_solve.specs.Stating.{IsAssertionAt, States, AreStated};
 
 use sb_lit::Lit;
 use sb_proof::{Tape, TapeFault};
 use sb_refute::Evidence;
-use sb_rulebook::laws::translation_stays;
+use sb_rulebook::laws::{fitting_is_translated, translation_stays};
 use sb_stack::Stack;
 use sb_store::Store;
 use sb_term::TermId;
@@ -21,7 +21,7 @@ struct Stated {
 }
 
 /// The literals of the live assertions at these places, in order. The clause of each stands in the proof then, with the
-/// lines that it lacked. `NoMemory` also where one has no literal, as no well-sorted term of them has none.
+/// lines that it lacked.
 pub(crate) fn literals<L: Tape>(
     alloc: Global,
     evidence: &mut Evidence,
@@ -32,6 +32,7 @@ pub(crate) fn literals<L: Tape>(
 ) -> Result<Vec<Lit>, TapeFault>
     requires places { All (λ place. place < length stack.now.assertions) places.now }
     requires decided { list_all is_decided (live (state_of stack.now)) ≡ true }
+    requires sorted { list_all is_well_sorted (live_terms (state_of stack.now)) ≡ true }
     requires store { IsStoreOf stack.now.table store.old }
     requires regexes { HaveRegexesBelow (length store.old.arena) evidence.old.atoms }
     ensures stated { IfOk result (λ literals. AreStated stack.now places.now store.old store.new evidence.old
@@ -65,17 +66,19 @@ fn state<L: Tape>(
 ) -> Result<Lit, TapeFault>
     requires there { place < length stack.now.assertions }
     requires decided { list_all is_decided (live (state_of stack.now)) ≡ true }
+    requires sorted { list_all is_well_sorted (live_terms (state_of stack.now)) ≡ true }
     requires store { IsStoreOf stack.now.table store.old }
     requires regexes { HaveRegexesBelow (length store.old.arena) evidence.old.atoms }
     ensures states { IfOk result (States stack.now place store.old store.new evidence.old evidence.new
         (L.Tape.told tape.old) (L.Tape.told tape.new)) }
     ensures counts { CountsTapeFault result (L.Tape.faults tape.old) (L.Tape.faults tape.new) }
 {
+    fitting_is_translated();
     let stated = assertion_at(stack, place);
     let found = evidence.statement(store, stack.table(), place, stated.term, stated.level, tape)?;
     match found {
         Some(asserted) => Ok(asserted.literal),
-        None => Err(TapeFault::NoMemory),
+        None => unreachable!(),
     }
 }
 

@@ -14,6 +14,7 @@ solve-requires g c =
           (asked-below old.others.items s c.args.decided c.in_ok-places.places.items
           (c.in_ok-places.ensures s c.requires.knows c.requires.asked));
       decided = c.requires.inside;
+      sorted = c.requires.sorted;
       store = c.requires.knows.taken.store;
       regexes = c.requires.regexes;
     }

@@ -17,6 +17,7 @@ find_verdict-requires g c =
             h.regexes;
         levels = h.levels;
         fit = h.fit;
+        sorted = h.sorted;
         sound = c.true_stays.ensures.grown (asked_in (state_of s)) s.table old new c.args.prover.now.evidence e.store
             h.regexes h.sound;
       };

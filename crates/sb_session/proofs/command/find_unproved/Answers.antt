@@ -6,7 +6,14 @@ use Rattle.sb_session.proofs.command.find_unproved.Goals as goal
 pub check-requires : goal.check-requires
 check-requires c =
     let h = c.requires.held in
-    record { knows = h.knows; decided = c.requires.decided; fit = h.fit; regexes = h.regexes; sound = h.sound }
+    record {
+      knows = h.knows;
+      decided = c.requires.decided;
+      fit = h.fit;
+      sorted = c.live_are_well_sorted.ensures (state_of c.args.stack.now) h.sorted;
+      regexes = h.regexes;
+      sound = h.sound;
+    }
 
 pub returns-clause-finds : goal.returns-clause-finds
 returns-clause-finds c =
@@ -25,7 +32,7 @@ returns-clause-held c =
     (λ v known.
     subst (λ (w : Verdict). Holds (found w c.check.new.stack) c.check.new.decider c.check.new.self) (sym known.0)
     (held_found c.in-Ok.verdict c.args.stack.now c.check.new.stack c.check.new.decider c.check.new.self e.rest e.knows
-    e.regexes (e.levels h.levels) h.fit e.sound))
+    e.regexes (e.levels h.levels) h.fit h.sorted e.sound))
     c.if_known.ensures.some
 
 pub returns-clause-spent : goal.returns-clause-spent

@@ -1,4 +1,4 @@
-use Rattle.sb_session.proofs.Words.{refl, inr, err_from_is_err_and, live_constants, verdict_in}
+use Rattle.sb_session.proofs.Words.{refl, inr, err_from_is_err_and, live_constants, state_of, verdict_in}
 use Rattle.sb_session.proofs.CheckLemmas.{check_proved, check_cut, check_unwritten, held_found, never_spent}
 use Rattle.sb_session.proofs.command.find_verdict.Goals as goal
 
@@ -8,14 +8,21 @@ find_unproved-requires g c = record { held = c.requires.held; decided = c.requir
 pub check-requires : goal.check-requires
 check-requires g c =
     let h = c.requires.held in
-    record { knows = h.knows; decided = c.requires.decided; fit = h.fit; regexes = h.regexes; sound = h.sound }
+    record {
+      knows = h.knows;
+      decided = c.requires.decided;
+      fit = h.fit;
+      sorted = c.live_are_well_sorted.ensures (state_of c.args.stack.now) h.sorted;
+      regexes = h.regexes;
+      sound = h.sound;
+    }
 
 pub returns-clause-held : goal.returns-clause-held
 returns-clause-held g c =
     let e = c.in-Ok.ensures in
     let h = c.requires.held in
     held_found c.in-Ok.verdict c.args.stack.now c.check.new.stack c.check.new.decider c.check.new.self e.rest e.knows
-    e.regexes (e.levels h.levels) h.fit e.sound
+    e.regexes (e.levels h.levels) h.fit h.sorted e.sound
 
 pub returns-then-not-proved-clause-ok : goal.returns-then-not-proved-clause-ok
 returns-then-not-proved-clause-ok g c = λ p tracked.

@@ -18,6 +18,7 @@ state-requires g c =
     record {
       there = c.requires.places c.loop-place.place-index _ c.loop-place-test.true;
       decided = c.requires.decided;
+      sorted = c.requires.sorted;
       store = stated.store.right c.requires.store;
       regexes = stated.regexes;
     }

@@ -1,5 +1,6 @@
-use Rattle.sb_solve.proofs.Words.{◌≡◌, ◌<◌, ℕ, List, length, Option, Some, refl, sym, ap, subst, ◌∙◌, option_map, IfSome, IfOk-from_err, err_from_is_err_and, Term, term_at, asked_in, state_of, atoms_in, brought_translation, Asserted, EvidencesUncounted, Grows, IsStatement, IsStoreOf, structure-is, counts_on}
+use Rattle.sb_solve.proofs.Words.{◌≡◌, ◌<◌, ℕ, List, length, Option, Some, refl, sym, ap, subst, ◌∙◌, option_map, IfSome, IfOk-from_err, err_from_is_err_and, Term, term_at, asked_in, state_of, atoms_in, brought_translation, Asserted, EvidencesUncounted, Grows, HasNoLiteral, IsStatement, IsStoreOf, live, structure-is, counts_on}
 use Rattle.sb_graph.specs.Findings.{Findings}
+use Rattle.sb_solve.proofs.LiveRows.{has_literal}
 use Rattle.sb_solve.proofs.stating.state.Goals as goal
 
 pub statement-requires : goal.statement-requires
@@ -11,6 +12,15 @@ statement-requires g c =
       store = subst (λ (ts : List Term). IsStoreOf ts c.args.store.now) same c.requires.store;
       regexes = c.requires.regexes;
     }
+
+pub unreachable-requires : goal.unreachable-requires
+unreachable-requires g c =
+    let s = c.args.stack.now in
+    let is = c.assertion_at-stated.ensures in
+    let id = c.assertion_at-stated.result.term in
+    has_literal c.fitting_is_translated.ensures (live (state_of s)) c.args.place (term_at s.table id) c.requires.decided
+    c.requires.sorted is.stands
+    (subst (λ (ts : List Term). HasNoLiteral (term_at ts id)) c.table.ensures (c.in_ok-found.ensures.none c.in-None.is))
 
 pub returns-in-Some : goal.returns-in-Some
 returns-in-Some g c =

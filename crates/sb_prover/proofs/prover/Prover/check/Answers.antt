@@ -13,6 +13,7 @@ solution-requires g c =
       knows = c.requires.knows;
       decided = c.requires.decided;
       terms = c.entries_lead_on.ensures.terms (state_of s) c.requires.fit;
+      sorted = c.requires.sorted;
       regexes = subst (λ (p : Proving). HaveRegexesBelow (length old.store.arena) p.evidence.atoms) first
           c.requires.regexes;
       sound = subst (λ (p : Proving). IsTrue (asked_in (state_of s)) old.store.arena old.store.graph.memo p.evidence)

@@ -14,6 +14,7 @@ searched-requires g c =
           ∙ inside-of c.fragment_is_of_each.ensures old s c.args.decided c.requires.decided c.in_default.not-Outside;
       asked = asked-of old s c.args.decided c.requires.decided c.in_default.not-Outside;
       terms = c.requires.terms;
+      sorted = c.requires.sorted;
       regexes = subst (λ (p : Proving). HaveRegexesBelow (length old.store.arena) p.evidence.atoms) same
           c.requires.regexes;
       sound = subst (λ (p : Proving). IsTrue (asked_in (state_of s)) old.store.arena old.store.graph.memo p.evidence)

@@ -1,4 +1,4 @@
-use Rattle.sb_session.proofs.Words.{length, refl, sym, subst, IsFit, asked_in, beginning, proof_of, session_of, state_of}
+use Rattle.sb_session.proofs.Words.{[], ap, ◌∙◌, length, refl, sym, subst, IsFit, State, is_sorted_state, asked_in, beginning, proof_of, session_of, state_of}
 use Rattle.sb_session.proofs.CheckLemmas.{is_kind, tracked_if}
 use Rattle.sb_session.proofs.command.Session.new.Goals as goal
 
@@ -16,5 +16,6 @@ invariant_of-result c = λ goes. record {
   regexes = c.new-3.ensures.regexes (length c.new-2.result.store.arena);
   levels = c.new-3.ensures.levels (asked_in (state_of c.new.result)).live;
   fit = subst IsFit (sym c.new.ensures.state) c.entries_lead_on.ensures.start;
+  sorted = ap (λ (s : State). is_sorted_state s) c.new.ensures.state ∙ c.start_is_sorted.ensures [];
   sound = c.new-3.ensures.sound (asked_in (state_of c.new.result)) c.new-2.result.store;
 }
