@@ -23,13 +23,15 @@ use Rattle.sb_rules.specs.Kept.{kept_in}
 use Rattle.sb_check.specs.declared.judge.Judge.{Judge}
 use Rattle.sb_check.specs.declared.reason.JudgeFault.{JudgeFault}
 use Rattle.sb_check.specs.declared.reason.JudgeFault.TheVariants as judge_fault
+use Rattle.sb_check.specs.declared.reason.TakeFault.{TakeFault}
+use Rattle.sb_check.specs.declared.reason.TakeFault.TheVariants as take_fault
 use Rattle.sb_check.specs.declared.reason.Reason.TheVariants as reason
 use Rattle.sb_check.specs.Reasons.{reason_in}
-use Rattle.sb_check.specs.Standing.{IsAt, IsRefusal, Took, waiting_in}
+use Rattle.sb_check.specs.Standing.{IsAt, IsNotTaken, IsRefusal, Took, waiting_in}
 use Rattle.sb_check.specs.Entering.{behind}
 use Rattle.sb_check.specs.declared.checker.CheckerFault.{CheckerFault}
 use Rattle.sb_check.specs.declared.checker.CheckerFault.TheVariants as fault
-use Rattle.sb_check.specs.Going.{Goes, Fails, IsRefusedAlong, WaitsAlong, fault_of_judge, fault_of_lines}
+use Rattle.sb_check.specs.Going.{Goes, Fails, IsRefusedAlong, WaitsAlong, fault_of_judge, fault_of_take, fault_of_lines}
 use Rattle.sb_check.specs.Through.{goes_through, phase_behind, verdicts_of, CameThrough, GoesThrough, WaitsThrough, StopsThrough}
 use Rattle.sb_check.proofs.LineFacts.{with_feed, line_whole, line_in_front, line_split}
 use Rattle.sb_check.proofs.ThroughFacts.{none_due, line_due, leaving_due, said_at_leaving, asked_due, check_due, missing_at_check, refused_at_check, never_unended}
@@ -108,13 +110,21 @@ turn_stops (judge_fault.Refused n reason) ended j text s t o q final a line refu
 )
 turn_stops judge_fault.NoMemory ended j text s t o q final a line refuses = proof_of a.count s t o q a.reads
 
-pub turn_refused : {T : Type 0} (r : Result T CheckerFault) (e : CheckerFault) (f : JudgeFault) (found : Found)
-    (ended : Bool) (j : Judge) (text : List ℕ) (s t : LinesState) (o q : Outside) → r ≡ Err e → e ≡ fault_of_judge f
+take_stops : (f : TakeFault) (ended : Bool) (j : Judge) (text : List ℕ) (s t : LinesState) (o q : Outside)
+    → RefusalIsFinal → Advances (Line ended) s t o q → text ≡ t.line
+    → ((p : Progress) → IsAt (waiting_in (state_of j.stack)) j p → IsNotTaken f p (takes (text, ended) p))
+    → StopsThrough (fault_of_take f) j s t o q
+take_stops (take_fault.Judged f) ended j text s t o q final a line refuses =
+    turn_stops f ended j text s t o q final a line refuses
+take_stops take_fault.PastNumbers ended j text s t o q final a line refuses = proof_of a.count s t o q a.reads
+
+pub turn_refused : {T : Type 0} (r : Result T CheckerFault) (e : CheckerFault) (f : TakeFault) (found : Found)
+    (ended : Bool) (j : Judge) (text : List ℕ) (s t : LinesState) (o q : Outside) → r ≡ Err e → e ≡ fault_of_take f
     → RefusalIsFinal → found ≡ Line ended → Advances found s t o q → text ≡ t.line
-    → ((p : Progress) → IsAt (waiting_in (state_of j.stack)) j p → IsRefusal f p (takes (text, ended) p))
+    → ((p : Progress) → IsAt (waiting_in (state_of j.stack)) j p → IsNotTaken f p (takes (text, ended) p))
     → IfErr r (λ fault. StopsThrough fault j s t o q)
 turn_refused r e f found ended j text s t o q err same final is advances line refuses = rw (err, same)
-    (turn_stops f ended j text s t o q final (subst (λ (f : Found). Advances f s t o q) is advances) line refuses)
+    (take_stops f ended j text s t o q final (subst (λ (f : Found). Advances f s t o q) is advances) line refuses)
 
 pub turn_ended : (e : CheckerFault) (found : Found) (j : Judge) (s t : LinesState) (o q : Outside)
     → e ≡ fault.Refused j.next reason.MissingLine → found ≡ End → Advances found s t o q → StopsThrough e j s t o q
@@ -231,6 +241,7 @@ stops_behind fault.Limit i j s t u o p q first h = record {
 }
 stops_behind fault.Fault i j s t u o p q first h = proof_more first.count s t o p q first.reads h
 stops_behind fault.NoMemory i j s t u o p q first h = proof_more first.count s t o p q first.reads h
+stops_behind fault.PastNumbers i j s t u o p q first h = proof_more first.count s t o p q first.reads h
 
 pub verdict_stops : {T : Type 0} (r : Result T CheckerFault) (e f : CheckerFault) (i j : Judge) (s t u : LinesState)
     (o p q : Outside) → r ≡ Err e → e ≡ f → GoesThrough None i j s t o p → StopsThrough f j t u p q
@@ -367,6 +378,7 @@ entry_fails fault.Limit old mid s t o q es one same h = record {
 }
 entry_fails fault.Fault old mid s t o q es one same h = h
 entry_fails fault.NoMemory old mid s t o q es one same h = h
+entry_fails fault.PastNumbers old mid s t o q es one same h = h
 
 pub entry_stops : {T : Type 0} (r : Result T CheckerFault) (e f : CheckerFault) (old mid : Judge) (s t : LinesState)
     (o q : Outside) (es : List Event) → r ≡ Err e → e ≡ f

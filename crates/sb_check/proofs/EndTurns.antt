@@ -15,13 +15,15 @@ use Rattle.sb_sound.proofs.CallerLemmas.{whole_none, whole_both}
 use Rattle.sb_check.specs.declared.judge.Judge.{Judge}
 use Rattle.sb_check.specs.declared.reason.JudgeFault.{JudgeFault}
 use Rattle.sb_check.specs.declared.reason.JudgeFault.TheVariants as judge_fault
+use Rattle.sb_check.specs.declared.reason.TakeFault.{TakeFault}
+use Rattle.sb_check.specs.declared.reason.TakeFault.TheVariants as take_fault
 use Rattle.sb_check.specs.declared.reason.Reason.TheVariants as reason
 use Rattle.sb_check.specs.Reasons.{reason_in}
-use Rattle.sb_check.specs.Standing.{IsAt, IsRefusal, TookLast, behind_line}
+use Rattle.sb_check.specs.Standing.{IsAt, IsNotTaken, IsRefusal, TookLast, behind_line}
 use Rattle.sb_check.specs.declared.checker.CheckerFault.{CheckerFault}
 use Rattle.sb_check.specs.declared.checker.CheckerFault.TheVariants as fault
 use Rattle.sb_check.specs.Running.{is_at_end}
-use Rattle.sb_check.specs.Going.{Fails, Finishes, IsRefusedAtEnd, WaitsAtEnd, fault_of_judge, fault_of_lines}
+use Rattle.sb_check.specs.Going.{Fails, Finishes, IsRefusedAtEnd, WaitsAtEnd, fault_of_judge, fault_of_take, fault_of_lines}
 use Rattle.sb_check.specs.Through.{CameLast, GoesLast, WaitsLast, StopsLast, IsBehindEnd}
 use Rattle.sb_check.proofs.LineFacts.{with_feed, line_whole, line_in_front, line_split}
 use Rattle.sb_check.proofs.ThroughFacts.{end_due, missing_at_end, accepted_behind_end, refused_at_end, never_unended}
@@ -88,13 +90,21 @@ line_stops (judge_fault.Refused n reason) phase ended j text s t o q a line refu
 )
 line_stops judge_fault.NoMemory phase ended j text s t o q a line refuses = proof_of a.count s t o q a.reads
 
-pub last_refused : {T : Type 0} (r : Result T CheckerFault) (e : CheckerFault) (f : JudgeFault) (found : Found)
-    (ended : Bool) (j : Judge) (text : List ℕ) (s t : LinesState) (o q : Outside) → r ≡ Err e → e ≡ fault_of_judge f
+take_stops : (f : TakeFault) (ended : Bool) (j : Judge) (text : List ℕ) (s t : LinesState) (o q : Outside)
+    → Advances (Line ended) s t o q → text ≡ t.line
+    → ((p : Progress) → IsAt at_end j p → IsNotTaken f p (takes (text, ended) p))
+    → StopsLast (fault_of_take f) at_end j s t o q
+take_stops (take_fault.Judged f) ended j text s t o q a line refuses =
+    line_stops f at_end ended j text s t o q a line refuses
+take_stops take_fault.PastNumbers ended j text s t o q a line refuses = proof_of a.count s t o q a.reads
+
+pub last_refused : {T : Type 0} (r : Result T CheckerFault) (e : CheckerFault) (f : TakeFault) (found : Found)
+    (ended : Bool) (j : Judge) (text : List ℕ) (s t : LinesState) (o q : Outside) → r ≡ Err e → e ≡ fault_of_take f
     → found ≡ Line ended → Advances found s t o q → text ≡ t.line
-    → ((p : Progress) → IsAt at_end j p → IsRefusal f p (takes (text, ended) p))
+    → ((p : Progress) → IsAt at_end j p → IsNotTaken f p (takes (text, ended) p))
     → IfErr r (λ fault. StopsLast fault at_end j s t o q)
 last_refused r e f found ended j text s t o q err same is advances line refuses = rw (err, same)
-    (line_stops f at_end ended j text s t o q (subst (λ (f : Found). Advances f s t o q) is advances) line refuses)
+    (take_stops f ended j text s t o q (subst (λ (f : Found). Advances f s t o q) is advances) line refuses)
 
 pub behind_refused : (e : CheckerFault) (f : JudgeFault) (found : Found) (ended : Bool) (j : Judge) (text : List ℕ)
     (s t : LinesState) (o q : Outside) → e ≡ fault_of_judge f → found ≡ Line ended → Advances found s t o q
@@ -221,6 +231,7 @@ stops_behind fault.Limit last i j s t u o p q first h = record {
 }
 stops_behind fault.Fault last i j s t u o p q first h = proof_more first.count s t o p q first.reads h
 stops_behind fault.NoMemory last i j s t u o p q first h = proof_more first.count s t o p q first.reads h
+stops_behind fault.PastNumbers last i j s t u o p q first h = proof_more first.count s t o p q first.reads h
 
 pub last_stops : {T : Type 0} (r : Result T CheckerFault) (e f : CheckerFault) (i j : Judge) (s t u : LinesState)
     (o p q : Outside) → r ≡ Err e → e ≡ f → GoesLast false i j s t o p → StopsLast f at_end j t u p q
@@ -266,6 +277,7 @@ end_fails fault.Limit j s t o q h = record {
 }
 end_fails fault.Fault j s t o q h = h
 end_fails fault.NoMemory j s t o q h = h
+end_fails fault.PastNumbers j s t o q h = h
 
 pub end_stops : {T : Type 0} (r : Result T CheckerFault) (e f : CheckerFault) (j : Judge) (s t : LinesState)
     (o q : Outside) → r ≡ Err e → e ≡ f → StopsLast f at_end j s t o q

@@ -110,6 +110,8 @@ run_stops fault.Fault run new_lines now after fails limit script proof old ended
     cut_in_proof ended.0 [] limit script proof run old now ended.1 after fails
 run_stops fault.NoMemory run new_lines now after fails limit script proof old ended =
     cut_in_proof ended.0 [] limit script proof run old now ended.1 after fails
+run_stops fault.PastNumbers run new_lines now after fails limit script proof old ended =
+    cut_in_proof ended.0 [] limit script proof run old now ended.1 after fails
 
 -- by the answer of what was called
 

@@ -8,6 +8,7 @@ mod GoingLemmas
 mod LineFacts
 mod Growing
 mod MoveLemmas
+mod Numbers
 mod Opening
 mod ReadingOn
 mod RunFacts

@@ -218,6 +218,8 @@ entry_stops fault.Fault entry run new_lines now after fails limit script proof o
     cut_in_proof (Some (state_of run.checker.judge.stack)) (entry ∷ []) limit script proof run old now sofar after fails
 entry_stops fault.NoMemory entry run new_lines now after fails limit script proof old sofar =
     cut_in_proof (Some (state_of run.checker.judge.stack)) (entry ∷ []) limit script proof run old now sofar after fails
+entry_stops fault.PastNumbers entry run new_lines now after fails limit script proof old sofar =
+    cut_in_proof (Some (state_of run.checker.judge.stack)) (entry ∷ []) limit script proof run old now sofar after fails
 
 -- the fault says no more than that the run was cut short
 pub stops_cut : (f : CheckerFault) (limit : ℕ) (script proof : List ℕ) (old after : Outside) → is_cut f
@@ -226,6 +228,7 @@ stops_cut (fault.Refused n reason) limit script proof old after is cut = absurd 
 stops_cut fault.Limit limit script proof old after is cut = absurd is
 stops_cut fault.Fault limit script proof old after is cut = cut
 stops_cut fault.NoMemory limit script proof old after is cut = cut
+stops_cut fault.PastNumbers limit script proof old after is cut = cut
 
 -- the verdict was not written, or not all of it
 verdict_cut : (entry : Entry) (said : Said) (run : Run) (judge : Judge) (new_lines : lines.LinesState)

@@ -1,5 +1,5 @@
 -- What an entry of a script, or its end, does to a proof that is read along with it.
-use Rattle.std.specs.Prelude.{◌≡◌, ℕ, ◌+◌, ◌<◌, ◌≤◌, true, List, [], ◌∷◌, ◌++◌, length, drop, Option, Some, None, Result, Ok, Err}
+use Rattle.std.specs.Prelude.{◌≡◌, ℕ, ◌+◌, ◌-◌, ◌^◌, ◌<◌, ◌≤◌, true, List, [], ◌∷◌, ◌++◌, length, drop, Option, Some, None, Result, Ok, Err}
 use Rattle.sb_world.specs.Outside.{Outside, Rose}
 use Rattle.sb_world.specs.Moved.{moved_by, reading}
 use Rattle.sb_world.specs.declared.InPort.TheVariants as in_port
@@ -9,6 +9,8 @@ use Rattle.sb_input.specs.declared.lines.LinesFault.{LinesFault}
 use Rattle.sb_input.specs.declared.lines.LinesFault.TheVariants as lines_fault
 use Rattle.sb_check.specs.declared.reason.JudgeFault.{JudgeFault}
 use Rattle.sb_check.specs.declared.reason.JudgeFault.TheVariants as judge_fault
+use Rattle.sb_check.specs.declared.reason.TakeFault.{TakeFault}
+use Rattle.sb_check.specs.declared.reason.TakeFault.TheVariants as take_fault
 use Rattle.sb_script.specs.State.{State}
 use Rattle.sb_rulebook.specs.Refusals.{Refusal}
 use Rattle.sb_rulebook.specs.Lines as lines
@@ -134,6 +136,12 @@ Fails (fault.Refused n reason) refuses Takes old lines lines' before after =
 Fails fault.Limit refuses Takes old lines lines' before after = IsPast Takes at_rest old lines lines' before after
 Fails fault.Fault refuses Takes old lines lines' before after = ReadsProof lines before after
 Fails fault.NoMemory refuses Takes old lines lines' before after = ReadsProof lines before after
+Fails fault.PastNumbers refuses Takes old lines lines' before after = ReadsProof lines before after
+
+-- where numbers run out, they reach so far
+abbrev pub HasRunOut : CheckerFault → ℕ → Type 0
+HasRunOut fault.PastNumbers n = 2 ^ 64 - 1 ≤ n
+HasRunOut _ n = Unit {0}
 
 -- The last lines were taken: the proof is accepted. All of it was read, and its end stands below the limit.
 pub record Finishes (old : Judge) (lines lines' : LinesState) (before after : Outside) : Type 0 where
@@ -151,6 +159,7 @@ CountsCheckerFault (Err (fault.Refused n reason)) old new = new ≡ old
 CountsCheckerFault (Err fault.Limit) old new = new ≡ old
 CountsCheckerFault (Err fault.Fault) old new = Rose old new
 CountsCheckerFault (Err fault.NoMemory) old new = new ≡ old
+CountsCheckerFault (Err fault.PastNumbers) old new = new ≡ old
 
 -- the fault by that of what was called
 
@@ -165,3 +174,7 @@ fault_of_lines lines_fault.NoMemory = fault.NoMemory
 abbrev pub fault_of_judge : JudgeFault → CheckerFault
 fault_of_judge (judge_fault.Refused n reason) = fault.Refused n reason
 fault_of_judge judge_fault.NoMemory = fault.NoMemory
+
+abbrev pub fault_of_take : TakeFault → CheckerFault
+fault_of_take (take_fault.Judged f) = fault_of_judge f
+fault_of_take take_fault.PastNumbers = fault.PastNumbers

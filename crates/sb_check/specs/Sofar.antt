@@ -98,14 +98,16 @@ Stops (fault.Refused n reason) limit script proof old now = (said : List Said)
 Stops fault.Limit limit script proof old now = PastLimit limit script proof old now
 Stops fault.Fault limit script proof old now = CutShort limit script proof old now
 Stops fault.NoMemory limit script proof old now = CutShort limit script proof old now
+Stops fault.PastNumbers limit script proof old now = CutShort limit script proof old now
 
 abbrev pub Concludes : Result (Unit {0}) CheckerFault → ℕ → List ℕ → List ℕ → Outside → Outside → Type 0
 Concludes (Ok _) limit script proof old now = HasAccepted limit script proof old now
 Concludes (Err fault) limit script proof old now = Stops fault limit script proof old now
 
--- the fault is the outside's, or want of memory
+-- the fault is the outside's, or want of memory or of numbers
 abbrev pub is_cut : CheckerFault → Type 0
 is_cut fault.Fault = Unit {0}
 is_cut fault.NoMemory = Unit {0}
+is_cut fault.PastNumbers = Unit {0}
 is_cut fault.Limit = ⊥
 is_cut (fault.Refused n reason) = ⊥

@@ -1,5 +1,5 @@
 -- How far a proof has come along a script, as far as the judge knows.
-use Rattle.std.specs.Prelude.{◌≡◌, ℕ, Bool, true, false, List, [], ◌∷◌, ◌++◌, Option, Some, None}
+use Rattle.std.specs.Prelude.{◌≡◌, ◌^◌, ◌-◌, ℕ, Bool, true, false, List, [], ◌∷◌, ◌++◌, Option, Some, None}
 use Rattle.sb_lit.specs.declared.clause.Lit.{Lit}
 use Rattle.sb_sound.specs.SimpleStates.{is_simple_state}
 use Rattle.sb_script.specs.State.{State}
@@ -17,6 +17,8 @@ use Rattle.sb_rules.specs.Kept.{IsOver, kept_in}
 use Rattle.sb_check.specs.declared.judge.Judge.{Judge}
 use Rattle.sb_check.specs.declared.reason.JudgeFault.{JudgeFault}
 use Rattle.sb_check.specs.declared.reason.JudgeFault.TheVariants as fault
+use Rattle.sb_check.specs.declared.reason.TakeFault.{TakeFault}
+use Rattle.sb_check.specs.declared.reason.TakeFault.TheVariants as take_fault
 use Rattle.sb_check.specs.Reasons.{reason_in}
 
 -- What is kept of the script and of the proof belongs to the state.
@@ -63,6 +65,15 @@ TookLast last j said p = IsAt (behind_line last) j p × (p.said ≡ said)
 abbrev pub IsRefusal : JudgeFault → Progress → Progress → Type 0
 IsRefusal (fault.Refused line reason) p after = (line ≡ p.next) × (after ≡ stop (reason_in reason) p)
 IsRefusal fault.NoMemory p after = Unit {0}
+
+-- A line was not taken: it was refused, or memory was wanted, or its number is the last one of 64 bits.
+abbrev pub IsNotTaken : TakeFault → Progress → Progress → Type 0
+IsNotTaken (take_fault.Judged f) p after = IsRefusal f p after
+IsNotTaken take_fault.PastNumbers p after = Unit {0}
+
+abbrev pub IsAtLast : TakeFault → ℕ → Type 0
+IsAtLast (take_fault.Judged f) n = Unit {0}
+IsAtLast take_fault.PastNumbers n = n ≡ 2 ^ 64 - 1
 
 -- the script's state, and how far the proof has come, are the same
 pub record IsSame (old new : Judge) : Type 0 where

@@ -72,6 +72,7 @@ StopsThrough fault.Limit old lines lines' before after =
     IsPast WaitsThrough (waiting_in (state_of old.stack)) old lines lines' before after
 StopsThrough fault.Fault old lines lines' before after = ReadsProof lines before after
 StopsThrough fault.NoMemory old lines lines' before after = ReadsProof lines before after
+StopsThrough fault.PastNumbers old lines lines' before after = ReadsProof lines before after
 
 -- Where these bytes of the proof are left: these whole lines were taken, and whatever stands behind them is taken from
 -- there.
@@ -106,6 +107,7 @@ StopsLast (fault.Refused n reason) phase old lines lines' before after = ReadsPr
 StopsLast fault.Limit phase old lines lines' before after = IsPast WaitsLast phase old lines lines' before after
 StopsLast fault.Fault phase old lines lines' before after = ReadsProof lines before after
 StopsLast fault.NoMemory phase old lines lines' before after = ReadsProof lines before after
+StopsLast fault.PastNumbers phase old lines lines' before after = ReadsProof lines before after
 
 -- Nothing is left of the proof, whose end stands below the limit.
 pub record IsBehindEnd (lines lines' : LinesState) (before after : Outside) : Type 0 where

@@ -10,7 +10,7 @@ ghost use Rattle.sb_input.specs.TakingEntries as entries;
 ghost use Rattle.sb_input.specs.TakingEntries.{Advances, IsCutShort};
 ghost use Rattle.sb_words.specs.CheckerWords.{are_taken};
 ghost use Rattle.sb_check.specs.Standing.{IsStanding};
-ghost use Rattle.sb_check.specs.Going.{CountsCheckerFault};
+ghost use Rattle.sb_check.specs.Going.{CountsCheckerFault, HasRunOut};
 ghost use Rattle.sb_check.specs.Running.{Asked, AreHeld, AreLeft, IsAsked, IsBounded, IsOpened, Run as RunBy, RunOf, WrongWords, CountsFaults, MeansSo, asked_for, status_by};
 ghost use Rattle.sb_check.specs.Texts.{verdict_line};
 ghost use Rattle.sb_check.specs.Sofar.{GoesOn, HasEnded, FindsEntry, Turns, HasAccepted, Stops, Concludes, is_cut};
@@ -39,7 +39,7 @@ pub enum CheckStatus {
     Usage,
     /// The outside failed.
     Fault,
-    /// There was not enough memory.
+    /// There was not enough memory; or 2^64 - 2 bytes may be read, and the numbers of lines or of checks ran out.
     NoMemory,
     /// So many bytes as the limit were read, of the script before its end and `(exit)`, or of the proof before its end.
     InputLimit,
@@ -214,7 +214,7 @@ fn check_entry<W: World>(entry: &Next, run: &mut Run, world: &mut W) -> Result<b
     }
 }
 
-/// Writes the verdict of a check. One whose number is the last one of 64 bits is want of memory.
+/// Writes the verdict of a check, unless its number is the last one of 64 bits.
 fn write_verdict<W: World>(said: &Said, run: &mut Run, world: &mut W) -> Result<(), CheckerFault>
     ensures run { OnOk result (run.new ≡ record run.old { next_check = run.old.next_check + 1 }) }
     ensures ok { OnOk result
@@ -225,9 +225,10 @@ fn write_verdict<W: World>(said: &Said, run: &mut Run, world: &mut W) -> Result<
         (W.outside world.old))) }
     ensures faults { CountsCheckerFault result (W.faults world.old) (W.faults world.new) }
     ensures kind { IfErr result is_cut }
+    ensures numbers { IfErr result (λ fault. HasRunOut fault run.old.next_check) }
 {
     if run.next_check == u64::MAX {
-        return Err(CheckerFault::NoMemory);
+        return Err(CheckerFault::PastNumbers);
     }
     let text = text::verdict_line(run.alloc, run.next_check, said)?;
     write_all(world, OutPort::Answers, text.as_bytes())?;
@@ -322,6 +323,7 @@ fn conclude<W: World>(
         Err(CheckerFault::Limit) => CheckStatus::InputLimit,
         Err(CheckerFault::Fault) => CheckStatus::Fault,
         Err(CheckerFault::NoMemory) => CheckStatus::NoMemory,
+        Err(CheckerFault::PastNumbers) => CheckStatus::NoMemory,
     }
 }
 

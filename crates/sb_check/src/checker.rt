@@ -10,12 +10,12 @@ ghost use Rattle.sb_stack.specs.Stacked.{state_of};
 ghost use Rattle.sb_stack.specs.Steps.{IsEntry, entry_of};
 ghost use Rattle.sb_input.specs.TakingLines.{most_to_come};
 ghost use Rattle.sb_check.specs.Standing.{IsStanding, IsAt};
-ghost use Rattle.sb_check.specs.Going.{said_by, LeadsTo, Goes, Fails, Finishes, IsRefusedAlong, IsRefusedAtEnd, WaitsAlong, WaitsAtEnd, CountsCheckerFault};
+ghost use Rattle.sb_check.specs.Going.{said_by, LeadsTo, Goes, Fails, Finishes, IsRefusedAlong, IsRefusedAtEnd, WaitsAlong, WaitsAtEnd, HasRunOut, CountsCheckerFault};
 ghost use Rattle.sb_check.specs.Through.{GoesThrough, StopsThrough, GoesLast, StopsLast, IsBehindEnd};
 
 use crate::entry::Entered;
 use crate::judge::Judge;
-use crate::reason::{JudgeFault, Reason};
+use crate::reason::{JudgeFault, Reason, TakeFault};
 use sb_input::{Found, Lines, LinesFault};
 use sb_proof::Said;
 use sb_reader::Next;
@@ -44,6 +44,8 @@ pub enum CheckerFault {
     /// The outside failed.
     Fault,
     NoMemory,
+    /// A line or a check has the last number of 64 bits, behind which there is no other.
+    PastNumbers,
 }
 
 /// A script and its proof, as far as they were gone through.
@@ -68,8 +70,9 @@ impl Checker {
     /// Takes the next entry of the script, and at a check the lines of the proof up to its verdict. `Refused` comes
     /// where a line is refused by the rules of proofs, whatever entries come behind this one; `Limit` where as many
     /// bytes of the proof as the limit of `lines` were read, and not its end, the whole lines among them are taken, and
-    /// the check waits for more; `Fault` only where the world's count of faults rose. After an error nothing more may
-    /// be checked. The cost is that of `Judge::enter`, and that of each line.
+    /// the check waits for more; `Fault` only where the world's count of faults rose; `PastNumbers` only where the number
+    /// of the next line, and as many as bytes may come, reach 2^64 - 1. After an error nothing more may be checked. The
+    /// cost is that of `Judge::enter`, and that of each line.
     pub fn command<W: World>(
         &mut self,
         entry: &Next,
@@ -93,6 +96,7 @@ impl Checker {
             (WaitsAlong
             (events_of (step_of (entry_of entry.now) (state_of self.old.judge.stack)) (state_of self.old.judge.stack)))
             self.old.judge lines.old lines.new (W.outside world.old) (W.outside world.new)) }
+        ensures numbers { IfErr result (λ fault. HasRunOut fault (self.old.judge.next + most_to_come lines.old)) }
         ensures faults { CountsCheckerFault result (W.faults world.old) (W.faults world.new) }
     {
         match self.judge.enter(entry)? {
@@ -111,6 +115,7 @@ impl Checker {
             (Finishes self.old.judge lines.old lines.new (W.outside world.old) (W.outside world.new)) }
         ensures err { IfErr result (λ fault. Fails fault IsRefusedAtEnd WaitsAtEnd self.old.judge lines.old lines.new
             (W.outside world.old) (W.outside world.new)) }
+        ensures numbers { IfErr result (λ fault. HasRunOut fault (self.old.judge.next + most_to_come lines.old)) }
         ensures faults { CountsCheckerFault result (W.faults world.old) (W.faults world.new) }
     {
         self.last_line(lines, world)?;
@@ -128,6 +133,7 @@ impl Checker {
             (self.new.judge.next + most_to_come lines.new ≤ self.old.judge.next + most_to_come lines.old) }
         ensures err { IfErr result (λ fault. StopsThrough fault self.old.judge lines.old lines.new
             (W.outside world.old) (W.outside world.new)) }
+        ensures numbers { IfErr result (λ fault. HasRunOut fault (self.old.judge.next + most_to_come lines.old)) }
         ensures faults { CountsCheckerFault result (W.faults world.old) (W.faults world.new) }
     {
         loop {
@@ -153,6 +159,7 @@ impl Checker {
         ensures fewer { OnOk result (most_to_come lines.new < most_to_come lines.old) }
         ensures err { IfErr result (λ fault. StopsThrough fault self.old.judge lines.old lines.new
             (W.outside world.old) (W.outside world.new)) }
+        ensures numbers { IfErr result (λ fault. HasRunOut fault (self.old.judge.next + most_to_come lines.old)) }
         ensures faults { CountsCheckerFault result (W.faults world.old) (W.faults world.new) }
     {
         refusal_is_final();
@@ -177,6 +184,7 @@ impl Checker {
             (W.outside world.old) (W.outside world.new)) }
         ensures err { IfErr result (λ fault. StopsLast fault at_end self.old.judge lines.old lines.new
             (W.outside world.old) (W.outside world.new)) }
+        ensures numbers { IfErr result (λ fault. HasRunOut fault (self.old.judge.next + most_to_come lines.old)) }
         ensures faults { CountsCheckerFault result (W.faults world.old) (W.faults world.new) }
     {
         loop {
@@ -196,9 +204,12 @@ impl Checker {
         ensures ok { IfOk result (λ last. GoesLast last self.old.judge self.new.judge lines.old lines.new
             (W.outside world.old) (W.outside world.new)) }
         ensures standing { OnOk result (IsStanding self.new.judge) }
+        ensures room { OnOk result
+            (self.new.judge.next + most_to_come lines.new ≤ self.old.judge.next + most_to_come lines.old) }
         ensures fewer { OnOk result (most_to_come lines.new < most_to_come lines.old) }
         ensures err { IfErr result (λ fault. StopsLast fault at_end self.old.judge lines.old lines.new
             (W.outside world.old) (W.outside world.new)) }
+        ensures numbers { IfErr result (λ fault. HasRunOut fault (self.old.judge.next + most_to_come lines.old)) }
         ensures faults { CountsCheckerFault result (W.faults world.old) (W.faults world.new) }
     {
         match lines.advance(world)? {
@@ -213,6 +224,7 @@ impl Checker {
         ensures ok { OnOk result (IsBehindEnd lines.old lines.new (W.outside world.old) (W.outside world.new)) }
         ensures err { IfErr result (λ fault. StopsLast fault behind_end self.now.judge lines.old lines.new
             (W.outside world.old) (W.outside world.new)) }
+        ensures numbers { IfErr result (λ fault. HasRunOut fault 0) }
         ensures faults { CountsCheckerFault result (W.faults world.old) (W.faults world.new) }
     {
         match lines.advance(world)? {
@@ -257,6 +269,19 @@ impl From<LinesFault> for CheckerFault {
         match error {
             LinesFault::Fault => CheckerFault::Fault,
             LinesFault::NoMemory => CheckerFault::NoMemory,
+        }
+    }
+}
+
+impl From<TakeFault> for CheckerFault {
+    ghost use Rattle.sb_check.specs.Going.{fault_of_take};
+
+    ghost from_gives = { λ error fault. fault ≡ fault_of_take error };
+
+    fn from(error: TakeFault) -> CheckerFault {
+        match error {
+            TakeFault::Judged(fault) => CheckerFault::from(fault),
+            TakeFault::PastNumbers => CheckerFault::PastNumbers,
         }
     }
 }

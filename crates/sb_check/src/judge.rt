@@ -13,9 +13,9 @@ ghost use Rattle.sb_proof.specs.Lines.{line_in, said_in, value_in};
 ghost use Rattle.sb_stack.specs.Stacked.{state_of};
 ghost use Rattle.sb_rules.specs.Kept.{kept_in};
 ghost use Rattle.sb_check.specs.Reasons.{reason_in};
-ghost use Rattle.sb_check.specs.Standing.{IsStanding, IsAt, IsSame, IsRefusal, Took, TookLast, said_when, is_bare, waiting_in};
+ghost use Rattle.sb_check.specs.Standing.{IsStanding, IsAt, IsSame, IsAtLast, IsNotTaken, IsRefusal, Took, TookLast, said_when, is_bare, waiting_in};
 
-use crate::reason::{JudgeFault, Reason, of_refusal, of_text};
+use crate::reason::{JudgeFault, Reason, TakeFault, of_refusal, of_text};
 use sb_lit::Lit;
 use sb_models::Models;
 use sb_plain::right_stays;
@@ -58,10 +58,29 @@ impl Judge {
 
     /// Judges a line where a check waits: the text in front of a line feed, or, where the proof ends without one, what
     /// stands behind the last line feed, and `ended` is false. Answers the verdict, where the line is one. Its cost is
-    /// that of the line's kind. After an error nothing more may be judged. A line whose number is the last one of 64
-    /// bits is want of memory.
-    pub fn take(&mut self, text: &[u8], ended: bool) -> Result<Option<Said>, JudgeFault>
+    /// that of the line's kind. After an error nothing more may be judged.
+    pub fn take(&mut self, text: &[u8], ended: bool) -> Result<Option<Said>, TakeFault>
         requires { IsStanding self.old }
+        ensures ok { IfOk result (λ said. (p : Progress) → IsAt (waiting_in (state_of self.old.stack)) self.old p
+            → Took said self.new p.said (takes (text.now, ended) p)) }
+        ensures err { IfErr result (λ fault. (p : Progress) → IsAt (waiting_in (state_of self.old.stack)) self.old p
+            → IsNotTaken fault p (takes (text.now, ended) p)) }
+        ensures numbers { IfErr result (λ fault. IsAtLast fault self.old.next) }
+        ensures stack { self.new.stack ≡ self.old.stack }
+        ensures next { OnOk result (self.new.next ≡ self.old.next + 1) }
+        ensures standing { IsStanding self.new }
+    {
+        if self.next == u64::MAX {
+            return Err(TakeFault::PastNumbers);
+        }
+        let said = self.take_numbered(text, ended)?;
+        Ok(said)
+    }
+
+    /// Judges a line where a check waits, whose number is not the last one.
+    fn take_numbered(&mut self, text: &[u8], ended: bool) -> Result<Option<Said>, JudgeFault>
+        requires standing { IsStanding self.old }
+        requires room { self.old.next + 1 < 2 ^ 64 }
         ensures ok { IfOk result (λ said. (p : Progress) → IsAt (waiting_in (state_of self.old.stack)) self.old p
             → Took said self.new p.said (takes (text.now, ended) p)) }
         ensures err { IfErr result (λ fault. (p : Progress) → IsAt (waiting_in (state_of self.old.stack)) self.old p
@@ -70,9 +89,6 @@ impl Judge {
         ensures next { OnOk result (self.new.next ≡ self.old.next + 1) }
         ensures standing { IsStanding self.new }
     {
-        if self.next == u64::MAX {
-            return Err(JudgeFault::NoMemory);
-        }
         match read_line(self.alloc, text, ended)? {
             Ok(line) => {
                 if self.take_line(&line)? {
@@ -86,8 +102,28 @@ impl Judge {
 
     /// Judges a line where the end of the proof is due, and says whether it is the last line. The text is as `take` has
     /// it. After an error nothing more may be judged.
-    pub fn take_last(&mut self, text: &[u8], ended: bool) -> Result<bool, JudgeFault>
+    pub fn take_last(&mut self, text: &[u8], ended: bool) -> Result<bool, TakeFault>
         requires { IsStanding self.old }
+        ensures ok { IfOk result (λ last. (p : Progress) → IsAt at_end self.old p
+            → TookLast last self.new p.said (takes (text.now, ended) p)) }
+        ensures err { IfErr result (λ fault. (p : Progress) → IsAt at_end self.old p
+            → IsNotTaken fault p (takes (text.now, ended) p)) }
+        ensures numbers { IfErr result (λ fault. IsAtLast fault self.old.next) }
+        ensures stack { self.new.stack ≡ self.old.stack }
+        ensures next { OnOk result (self.new.next ≡ self.old.next + 1) }
+        ensures standing { IsStanding self.new }
+    {
+        if self.next == u64::MAX {
+            return Err(TakeFault::PastNumbers);
+        }
+        let last = self.take_last_numbered(text, ended)?;
+        Ok(last)
+    }
+
+    /// Judges a line where the end of the proof is due, whose number is not the last one.
+    fn take_last_numbered(&mut self, text: &[u8], ended: bool) -> Result<bool, JudgeFault>
+        requires standing { IsStanding self.old }
+        requires room { self.old.next + 1 < 2 ^ 64 }
         ensures ok { IfOk result (λ last. (p : Progress) → IsAt at_end self.old p
             → TookLast last self.new p.said (takes (text.now, ended) p)) }
         ensures err { IfErr result (λ fault. (p : Progress) → IsAt at_end self.old p
@@ -96,9 +132,6 @@ impl Judge {
         ensures next { OnOk result (self.new.next ≡ self.old.next + 1) }
         ensures standing { IsStanding self.new }
     {
-        if self.next == u64::MAX {
-            return Err(JudgeFault::NoMemory);
-        }
         match read_line(self.alloc, text, ended)? {
             Ok(line) => self.take_end(&line),
             Err(fault) => Err(JudgeFault::Refused(self.next, of_text(fault))),

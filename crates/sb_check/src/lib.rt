@@ -19,4 +19,4 @@ pub use check::{CheckStatus, check_top, check_within};
 pub use checker::{Checked, Checker, CheckerFault};
 pub use entry::Entered;
 pub use judge::Judge;
-pub use reason::{JudgeFault, Reason};
+pub use reason::{JudgeFault, Reason, TakeFault};

@@ -89,3 +89,22 @@ impl From<AllocError> for JudgeFault {
         JudgeFault::NoMemory
     }
 }
+
+/// Why a line whose number was asked for was not taken.
+#[derive(Clone, Copy)]
+pub enum TakeFault {
+    /// It was judged.
+    Judged(JudgeFault),
+    /// Its number is the last one of 64 bits, behind which there is no other.
+    PastNumbers,
+}
+
+impl From<JudgeFault> for TakeFault {
+    ghost use Rattle.sb_check.specs.declared.reason.TakeFault.TheVariants.{Judged};
+
+    ghost from_gives = { λ error fault. fault ≡ Judged error };
+
+    fn from(error: JudgeFault) -> TakeFault {
+        TakeFault::Judged(error)
+    }
+}

@@ -1,10 +1,11 @@
-use Rattle.std.proofs.Common.{Some, sym, ap, ◌∙◌}
+use Rattle.std.proofs.Common.{Some, sym, ap, ◌∙◌, arith}
 use Rattle.std.proofs.lemmas.Result.{err_from_is_err_and}
 use Rattle.sb_script.specs.Replies.{step_of}
 use Rattle.sb_rulebook.specs.Accepted.{events_of}
 use Rattle.sb_stack.specs.Stacked.{state_of}
 use Rattle.sb_stack.specs.Steps.{entry_of}
 use Rattle.sb_check.proofs.CheckTurns.{entry_goes, entry_left, entry_said, entry_stops, entry_wants_memory}
+use Rattle.sb_check.proofs.Numbers.{out_at}
 use Rattle.sb_check.proofs.checker.Checker.command.Goals as goal
 
 pub returns-in_err-enter-clause-err : goal.returns-in_err-enter-clause-err
@@ -55,3 +56,14 @@ returns-in-Ends-clause-leads g c = (rw c.in-Ends.is at c.in_ok-enter.ensures.ok)
 pub returns-in_ok-verdict-in-Waits-clause-leads : goal.returns-in_ok-verdict-in-Waits-clause-leads
 returns-in_ok-verdict-in-Waits-clause-leads g c =
     (rw c.in-Waits.is at c.in_ok-enter.ensures.ok).1 ∙ ap (λ s. Some (state_of s)) (sym c.verdict.ensures.stack)
+
+pub returns-in_err-enter-clause-numbers : goal.returns-in_err-enter-clause-numbers
+returns-in_err-enter-clause-numbers g c =
+    let e = err_from_is_err_and c.from_residual.result c.from_residual.ensures.1 in
+    rw (e.1, e.2) tt
+
+pub returns-in_err-verdict-in-Waits-clause-numbers : goal.returns-in_err-verdict-in-Waits-clause-numbers
+returns-in_err-verdict-in-Waits-clause-numbers g c =
+    let x = c.from_residual-in_err-verdict-in-Waits in
+    let e = err_from_is_err_and x.result x.ensures.1 in
+    out_at x.result e.0 _ _ _ e.1 e.2 (omega (arith, c.enter.ensures.next)) c.in_err-verdict-in-Waits.ensures.numbers

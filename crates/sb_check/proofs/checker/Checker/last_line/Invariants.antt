@@ -1,5 +1,5 @@
 -- the last line is still due behind the lines so far
-use Rattle.std.proofs.Common.{◌≡◌, false}
+use Rattle.std.proofs.Common.{◌≡◌, ◌+◌, ◌≤◌, false}
 use Rattle.sb_input.specs.TakingLines.{most_to_come}
 use Rattle.sb_check.specs.Standing.{IsStanding}
 use Rattle.sb_check.specs.Through.{GoesLast}
@@ -11,6 +11,7 @@ invariant-loop g l =
       goes : GoesLast false l.fn.self.judge l.self.judge l.fn.lines l.lines (g.W.World.outside l.fn.world)
           (g.W.World.outside l.world);
       standing : IsStanding l.self.judge;
+      room : l.self.judge.next + most_to_come l.lines ≤ l.fn.self.judge.next + most_to_come l.fn.lines;
       faults : g.W.World.faults l.world ≡ g.W.World.faults l.fn.world;
     }
 

@@ -2,6 +2,7 @@ use Rattle.std.proofs.Common.{refl}
 use Rattle.std.proofs.lemmas.Result.{err_from_is_err_and}
 use Rattle.sb_rulebook.specs.Judging.{at_end}
 use Rattle.sb_check.proofs.EndTurns.{last_taken, last_refused, last_missing, last_limit, last_cut}
+use Rattle.sb_check.proofs.Numbers.{at_last, lines_never}
 use Rattle.sb_check.proofs.checker.Checker.last_turn.Goals as goal
 
 pub returns-in_err-ended-clause-err : goal.returns-in_err-ended-clause-err
@@ -27,3 +28,17 @@ returns-in_ok-take_last-in-Line-clause-ok g c =
 pub returns-in-End-clause-err : goal.returns-in-End-clause-err
 returns-in-End-clause-err g c =
     last_missing c.missing_line.result _ _ _ _ _ _ c.missing_line.ensures c.in-End.is c.in_ok-ended.ensures.ok
+
+pub returns-in_err-ended-clause-numbers : goal.returns-in_err-ended-clause-numbers
+returns-in_err-ended-clause-numbers g c =
+    let e = err_from_is_err_and c.from_residual.result c.from_residual.ensures.1 in
+    rw (e.1, e.2) (lines_never _ _)
+
+pub returns-in_err-take_last-in-Line-clause-numbers : goal.returns-in_err-take_last-in-Line-clause-numbers
+returns-in_err-take_last-in-Line-clause-numbers g c =
+    let x = c.from_residual-in_err-take_last-in-Line in
+    let e = err_from_is_err_and x.result x.ensures.1 in
+    rw (e.1, e.2) (at_last _ _ _ c.in_err-take_last-in-Line.ensures.numbers)
+
+pub returns-in-End-clause-numbers : goal.returns-in-End-clause-numbers
+returns-in-End-clause-numbers g c = rw c.missing_line.ensures tt

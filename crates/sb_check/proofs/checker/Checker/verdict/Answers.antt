@@ -1,6 +1,7 @@
 use Rattle.std.proofs.Common.{Some, refl, ◌∙◌, arith}
 use Rattle.std.proofs.lemmas.Result.{err_from_is_err_and}
 use Rattle.sb_check.proofs.CheckTurns.{through_none, through_more, waits_on, verdict_stops}
+use Rattle.sb_check.proofs.Numbers.{out_at}
 use Rattle.sb_check.proofs.checker.Checker.verdict.Goals as goal
 
 pub returns-in_err-said-clause-err : goal.returns-in_err-said-clause-err
@@ -32,3 +33,8 @@ loop-said-preserved g c = record {
   room = omega (arith, c.in_ok-said.ensures.room, c.loop-said.invariant.room);
   faults = c.in_ok-said.ensures.faults ∙ c.loop-said.invariant.faults;
 }
+
+pub returns-in_err-said-clause-numbers : goal.returns-in_err-said-clause-numbers
+returns-in_err-said-clause-numbers g c =
+    let e = err_from_is_err_and c.from_residual.result c.from_residual.ensures.1 in
+    out_at c.from_residual.result e.0 _ _ _ e.1 e.2 c.loop-said.invariant.room c.in_err-said.ensures.numbers
