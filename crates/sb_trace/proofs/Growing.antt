@@ -10,7 +10,7 @@ use Rattle.sb_deriv.specs.Faithful.{Memo, KeepsEntries}
 use Rattle.sb_graph.specs.Findings.{Findings, IsGraph, is_marked}
 use Rattle.sb_rulebook.specs.Kept.{AllKept, Asked}
 use Rattle.sb_trace.specs.Putting.{IsCounted, KeepsClauses}
-use Rattle.sb_trace.specs.Tracking.{Traced, number_in, IsExpandedTo, Tracks, Traces, TracesUncounted, IsExpandedIn, is_dead_in, is_expanded_in, StaysNumbered}
+use Rattle.sb_trace.specs.Tracking.{Traced, number_in, IsExpandedTo, Tracks, Traces, TracesUncounted, IsExpandedIn, is_dead_in, is_expanded_in, StaysNumbered, OnlyNumbers}
 use Rattle.sb_trace.specs.Closing.{GoesOn}
 use Rattle.sb_trace.proofs.Positions.{number-stays}
 use Rattle.sb_trace.proofs.Numbering.{number_later, marked_in}
@@ -92,6 +92,17 @@ traces_both asked before rs new memo more t u budget left a b c p next =
 
 pub stays_same : (t : Traced) → StaysNumbered t t
 stays_same t = ([], sym (append-nil t.order))
+
+-- regexes that get numbers, step behind step
+pub only_numbers_same : (t : Traced) → OnlyNumbers t t
+only_numbers_same t = record { stays = stays_same t; expanded = λ n. refl; dead = λ n. refl }
+
+pub only_numbers_both : (a b c : Traced) → OnlyNumbers a b → OnlyNumbers b c → OnlyNumbers a c
+only_numbers_both a b c p q = record {
+  stays = stays_both a b c p.stays q.stays;
+  expanded = λ n. q.expanded n ∙ p.expanded n;
+  dead = λ n. q.dead n ∙ p.dead n;
+}
 
 pub number_kept : (t u : Traced) (n k : ℕ) → StaysNumbered t u → number_in t.order n ≡ Some k
     → number_in u.order n ≡ Some k

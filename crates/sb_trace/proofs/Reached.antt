@@ -1,5 +1,5 @@
 -- Regexes that some word reaches, and those to which they lead.
-use Rattle.std.proofs.Common.{◌≡◌, ℕ, suc, ◌<◌, ◌≤◌, nat_eq, Bool, true, false, ◌||◌, ◌⊎◌, inl, inr, List, [], ◌∷◌, ◌++◌, length, get_or, refl, sym, ap, subst, ◌∙◌, arith}
+use Rattle.std.proofs.Common.{◌≡◌, ℕ, suc, ◌<◌, ◌≤◌, nat_eq, Bool, true, false, ◌||◌, ◌⊎◌, inl, inr, List, [], ◌∷◌, ◌++◌, length, get_or, refl, sym, ap, ap₂, subst, ◌∙◌, arith}
 use Rattle.std.proofs.lemmas.Bool.{and_from, le-leb, false≢true}
 use Rattle.std.proofs.lemmas.List.Folds.{list_all-append}
 use Rattle.sb_word.specs.Words.{is_character, IsWord}
@@ -11,7 +11,7 @@ use Rattle.sb_deriv.specs.Faithful.{IsKnown}
 use Rattle.sb_deriv.specs.Pieces.{value_from, rises, end_of_characters, targets_of}
 use Rattle.sb_deriv.proofs.CallerLemmas.{rises_head, rises_rest, rises_le, covers_rises}
 use Rattle.sb_trace.specs.Tracking.{Traced, is_expanded_in}
-use Rattle.sb_trace.specs.Reaching.{is_member, IsReached, AreReached}
+use Rattle.sb_trace.specs.Reaching.{is_member, IsReached, AreReached, ExpandsReached}
 use Rattle.sb_trace.proofs.Positions.{nat_same}
 use Rattle.sb_trace.proofs.Closures.{value_of_first, value_passes}
 
@@ -100,11 +100,18 @@ reached_alone rs n members is l t h = step (nat_eq t n) refl (sym (ap (λ (ms : 
 
 -- what is expanded was so before, or is reached
 pub reached_or_before : (rs : List Regex) (r : Regex) (members : List ℕ) (t u : Traced) → AreReached rs r members
-    → ((n : ℕ) → is_expanded_in u n ≡ true → (is_member members n || is_expanded_in t n) ≡ true) → (n : ℕ)
-    → is_expanded_in u n ≡ true → (is_expanded_in t n ≡ true) ⊎ IsReached rs r n
-reached_or_before rs r members t u reached only n h = step (is_member members n) refl (only n h)
+    → ((n : ℕ) → is_expanded_in u n ≡ true → (is_member members n || is_expanded_in t n) ≡ true)
+    → ExpandsReached rs r t u
+reached_or_before rs r members t u reached only = λ n h. step n (is_member members n) refl (only n h)
   where
-    step : (b : Bool) → is_member members n ≡ b → (b || is_expanded_in t n) ≡ true
+    step : (n : ℕ) (b : Bool) → is_member members n ≡ b → (b || is_expanded_in t n) ≡ true
         → (is_expanded_in t n ≡ true) ⊎ IsReached rs r n
-    step true is h = inr (reached n is)
-    step false is h = inl h
+    step n true is h = inr (reached n is)
+    step n false is h = inl h
+
+-- also where other marks are put behind that
+pub reached_behind : (rs : List Regex) (r : Regex) (t u v : Traced) → v.order ≡ u.order → v.expanded ≡ u.expanded
+    → ExpandsReached rs r t u → ExpandsReached rs r t v
+reached_behind rs r t u v order marks only = λ n h.
+    only n (sym (ap₂ (λ (ns : List ℕ) (ms : List Bool). is_expanded_in (record v { order = ns; expanded = ms }) n) order
+    marks) ∙ h)

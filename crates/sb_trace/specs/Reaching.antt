@@ -1,5 +1,5 @@
 -- Regexes to which derivatives lead.
-use Rattle.std.specs.Prelude.{◌≡◌, ℕ, Bool, true, not, nat_eq, List, Some}
+use Rattle.std.specs.Prelude.{◌≡◌, ◌⊎◌, ℕ, Bool, true, not, nat_eq, List, Some}
 use Rattle.std.specs.List.{list_all, list_any}
 use Rattle.sb_lang.specs.Regex.{Regex}
 use Rattle.sb_deriv.specs.Faithful.{Memo, entry_of}
@@ -31,6 +31,11 @@ IsReached rs r n = IsReachedBy rs r (λ v. Unit {0}) n
 
 abbrev pub AreReached : List Regex → Regex → List ℕ → Type 0
 AreReached rs r members = (n : ℕ) → is_member members n ≡ true → IsReached rs r n
+
+-- each regex that is expanded now was so before, or some word leads to it
+abbrev pub ExpandsReached : List Regex → Regex → Traced → Traced → Type 0
+ExpandsReached rs r old new =
+    (n : ℕ) → is_expanded_in new n ≡ true → (is_expanded_in old n ≡ true) ⊎ IsReached rs r n
 
 -- what is said of the list of regexes, where there is one
 abbrev pub IfClosed : Closure → (List ℕ → Type 0) → Type 0

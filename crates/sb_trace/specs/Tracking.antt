@@ -117,3 +117,9 @@ IfAlive explore.Spent P = Unit {0}
 -- the old numbers stay
 abbrev pub StaysNumbered : Traced → Traced → Type 0
 StaysNumbered old new = (more : List ℕ) × (new.order ≡ old.order ++ more)
+
+-- Regexes get numbers, and no more is known of any: none is expanded that was not, and none is dead.
+pub record OnlyNumbers (old new : Traced) : Type 0 where
+  pub stays : StaysNumbered old new
+  pub expanded : (n : ℕ) → is_marked new.expanded n ≡ is_marked old.expanded n
+  pub dead : (n : ℕ) → is_marked new.dead n ≡ is_marked old.dead n

@@ -15,6 +15,7 @@ ghost use Rattle.sb_rulebook.specs.Kept.{AllKept, Asked, nothing_kept};
 ghost use Rattle.sb_trace.specs.Putting.{IsCounted, CountsTapeFault, SpendsWithin};
 ghost use Rattle.sb_trace.specs.Tracking.{Tracks, Traces, TracesUncounted, StaysNumbered, IsExpandedIn, is_dead_in, is_expanded_in, is_put, Spends, IsExploring, IfAlive, number_in};
 ghost use Rattle.sb_trace.specs.Defining.{IsNumbered, AreClassesOf};
+ghost use Rattle.sb_trace.specs.Reaching.{ExpandsReached};
 ghost use Rattle.sb_trace.specs.Closing.{is_unburied, is_settled_in, IsClosedIn, AreClosedUpTo, GrewTo, GoesOn};
 ghost use Rattle.sb_script.specs.Steps.{line as ended};
 ghost use Rattle.sb_rulebook.specs.Lines.{text_of};
@@ -317,6 +318,7 @@ impl Trace {
             (λ e. IfAlive e ((self.new ≡ self.old) × (budget.new ≡ budget.old) × (tape.new ≡ tape.old))) }
         ensures dead { IfOk result (λ e. e ≡ Explore.Dead → is_dead_in self.new root ≡ true) }
         ensures spent { IfOk result (λ e. e ≡ Explore.Spent → budget.new.spent ≡ budget.new.limit) }
+        ensures only { OnOk result (ExpandsReached arena.new (regex_at arena.old root) self.old self.new) }
         ensures stays { StaysNumbered self.old self.new }
         ensures extends { Extends arena.old arena.new }
         ensures graph { IsGraph arena.new graph.new }
@@ -355,6 +357,7 @@ impl Trace {
             (λ e. IfAlive e ((self.new ≡ self.old) × (budget.new ≡ budget.old) × (tape.new ≡ tape.old))) }
         ensures dead { IfOk result (λ e. e ≡ Explore.Dead → is_dead_in self.new root ≡ true) }
         ensures spent { IfOk result (λ e. e ≡ Explore.Spent → budget.new.spent ≡ budget.new.limit) }
+        ensures only { OnOk result (ExpandsReached arena.new (regex_at arena.old root) self.old self.new) }
         ensures stays { StaysNumbered self.old self.new }
         ensures extends { Extends arena.old arena.new }
         ensures graph { IsGraph arena.new graph.new }
@@ -396,6 +399,7 @@ impl Trace {
             (λ e. IfAlive e ((self.new ≡ self.old) × (budget.new ≡ budget.old) × (tape.new ≡ tape.old))) }
         ensures dead { IfOk result (λ e. e ≡ Explore.Dead → is_dead_in self.new root ≡ true) }
         ensures spent { IfOk result (λ e. e ≡ Explore.Spent → budget.new.spent ≡ budget.new.limit) }
+        ensures only { OnOk result (ExpandsReached arena.new (regex_at arena.old root) self.old self.new) }
         ensures stays { StaysNumbered self.old self.new }
         ensures extends { Extends arena.old arena.new }
         ensures graph { IsGraph arena.new graph.new }
@@ -433,6 +437,7 @@ impl Trace {
             (L.Tape.told tape.new)) }
         ensures dead { IfOk result (λ done. done ≡ true → is_dead_in self.new root ≡ true) }
         ensures spent { IfOk result (λ done. done ≡ false → budget.new.spent ≡ budget.new.limit) }
+        ensures only { OnOk result (ExpandsReached arena.new (regex_at arena.old root) self.old self.new) }
         ensures stays { StaysNumbered self.old self.new }
         ensures extends { Extends arena.old arena.new }
         ensures graph { IsGraph arena.new graph.new }
@@ -467,6 +472,7 @@ impl Trace {
             → TracesUncounted asked before rs memo self.new (L.Tape.told tape.old) (L.Tape.told tape.new)) }
         ensures dead { OnOk result (list_all (is_dead_in self.new) members.now.keys ≡ true) }
         ensures order { self.new.order ≡ self.old.order }
+        ensures expanded { self.new.expanded ≡ self.old.expanded }
         ensures counts { CountsTapeFault result (L.Tape.faults tape.old) (L.Tape.faults tape.new) }
     {
         let regexes = members.as_slice();

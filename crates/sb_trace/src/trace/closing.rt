@@ -1,6 +1,6 @@
 //! Regexes that are closed under derivatives, and expanded.
 
-ghost use Rattle.std.specs.Prelude.{◌≡◌, ◌<◌, ◌≤◌, ◌+◌, ◌||◌, ◌⊎◌, ℕ, Bool, true, false, cond, nat_eq, Some, List, length, slice_get, IfOk, IfSome, IfNone, OnOk};
+ghost use Rattle.std.specs.Prelude.{◌≡◌, ◌<◌, ◌≤◌, ◌+◌, ◌||◌, ℕ, Bool, true, false, cond, nat_eq, Some, List, length, slice_get, IfOk, IfSome, IfNone, OnOk};
 ghost use Rattle.std.specs.List.{list_all, count_by, IsDistinct};
 ghost use Rattle.sb_lang.specs.Regex.{Regex};
 ghost use Rattle.sb_regex.specs.Numbered.{regex_at, AllNumbers, Extends};
@@ -10,7 +10,7 @@ ghost use Rattle.sb_graph.specs.Findings.{IsGraph, is_marked};
 ghost use Rattle.sb_rulebook.specs.Kept.{AllKept, Asked};
 ghost use Rattle.sb_trace.specs.Putting.{IsCounted, CountsTapeFault, SpendsWithin};
 ghost use Rattle.sb_trace.specs.Tracking.{Tracks, Traces, StaysNumbered, is_dead_in, is_expanded_in};
-ghost use Rattle.sb_trace.specs.Reaching.{is_member, is_unexpanded, IsClosed, IfClosed, IsReached, AreReached};
+ghost use Rattle.sb_trace.specs.Reaching.{is_member, is_unexpanded, IsClosed, IfClosed, IsReached, AreReached, ExpandsReached};
 ghost use Rattle.sb_trace.specs.Closing.{is_met, is_unburied, IsLed, AreLedUpTo, HasSpent, GrewTo, GoesOn};
 
 use super::{Expand, Trace, add, alone};
@@ -56,8 +56,7 @@ impl Trace {
         ensures expanded { IfOk result
             (λ c. IfClosed c
             (λ members. (n : ℕ) → is_expanded_in self.new n ≡ (is_member members n || is_expanded_in self.old n))) }
-        ensures only { OnOk result ((n : ℕ) → is_expanded_in self.new n ≡ true
-            → (is_expanded_in self.old n ≡ true) ⊎ IsReached arena.new (regex_at arena.old regex) n) }
+        ensures only { OnOk result (ExpandsReached arena.new (regex_at arena.old regex) self.old self.new) }
         ensures spends { IfOk result
             (λ c. IfClosed c
             (λ members. budget.new.spent ≡ budget.old.spent + count_by (is_unexpanded self.old) members)) }

@@ -1,9 +1,11 @@
-use Rattle.std.proofs.Common.{refl, sym, ◌∙◌, subst, Bool}
+use Rattle.std.proofs.Common.{inl, refl, sym, ◌∙◌, subst, Bool}
 use Rattle.std.proofs.lemmas.Result.{IfOk-from_err, err_from_is_err_and}
 use Rattle.std.proofs.lemmas.Bool.{true≢false, false≢true}
 use Rattle.sb_trace.proofs.Growing.{traces_both, traces_uncounted, traces_none, stays_same}
 use Rattle.sb_trace.proofs.Closures.{closed_in, closed_numbered, members_expanded, numbers_alone, unburied_alone, first_dead}
 use Rattle.sb_trace.proofs.Spent.{spent_none}
+use Rattle.sb_trace.proofs.Reached.{reached_alone, reached_behind, reached_or_before}
+use Rattle.sb_regex.specs.Numbered.{regex_at}
 use Rattle.sb_regex.proofs.CallerLemmas.{extends_same}
 use Rattle.sb_trace.specs.Putting.{CountsTapeFault}
 use Rattle.sb_trace.proofs.Exits.{counts_none, counts_on}
@@ -57,6 +59,12 @@ returns g c =
           first_dead c.put_dead.new.self c.args.root c.in_ok-members.members.keys c.close.new.members.keys
           c.in_ok-members.ensures c.in_ok-close.ensures.grew c.in_ok-put_dead.ensures.dead;
       spent = λ stopped. absurd (true≢false stopped);
+      only = let r = regex_at c.args.arena.now c.args.root in
+          reached_behind c.close.new.arena r c.args.self.now c.close.new.self c.put_dead.new.self p_order
+          c.put_dead.ensures.expanded
+          (reached_or_before c.close.new.arena r c.close.new.members.keys c.args.self.now c.close.new.self
+          (h.reached r (reached_alone c.args.arena.now c.args.root c.in_ok-members.members.keys c.in_ok-members.ensures
+          c.requires.known)) h.only);
       stays = (h.goes.stays.0, p_order ∙ h.goes.stays.1);
       extends = h.goes.extends;
       graph = h.goes.graph;
@@ -74,6 +82,7 @@ returns-then-is_dead g c =
           (g.L.Tape.told c.args.tape.now) tracks counts;
       dead = λ done. sym c.is_dead.ensures ∙ c.if-is_dead.true;
       spent = λ stopped. absurd (true≢false stopped);
+      only = λ n h. inl h;
       stays = stays_same c.args.self.now;
       extends = extends_same c.args.arena.now;
       graph = c.requires.graph;
@@ -91,6 +100,7 @@ returns-in_err-members g c =
       puts = IfOk-from_err x.result _ x.ensures.0;
       dead = IfOk-from_err x.result _ x.ensures.0;
       spent = IfOk-from_err x.result _ x.ensures.0;
+      only = IfOk-from_err x.result _ x.ensures.0;
       stays = stays_same c.args.self.now;
       extends = extends_same c.args.arena.now;
       graph = c.requires.graph;
@@ -109,6 +119,7 @@ returns-in_err-close g c =
       puts = IfOk-from_err x.result _ x.ensures.0;
       dead = IfOk-from_err x.result _ x.ensures.0;
       spent = IfOk-from_err x.result _ x.ensures.0;
+      only = IfOk-from_err x.result _ x.ensures.0;
       stays = h.goes.stays;
       extends = h.goes.extends;
       graph = h.goes.graph;
@@ -125,6 +136,10 @@ returns-then-not-branch g c =
       puts = h.puts;
       dead = λ done. absurd (false≢true done);
       spent = λ stopped. h.spent c.if-not-branch.true;
+      only = let r = regex_at c.args.arena.now c.args.root in
+          reached_or_before c.close.new.arena r c.close.new.members.keys c.args.self.now c.close.new.self
+          (h.reached r (reached_alone c.args.arena.now c.args.root c.in_ok-members.members.keys c.in_ok-members.ensures
+          c.requires.known)) h.only;
       stays = h.goes.stays;
       extends = h.goes.extends;
       graph = h.goes.graph;
@@ -144,6 +159,7 @@ returns-in_err-put_dead g c =
       puts = IfOk-from_err x.result _ x.ensures.0;
       dead = IfOk-from_err x.result _ x.ensures.0;
       spent = IfOk-from_err x.result _ x.ensures.0;
+      only = IfOk-from_err x.result _ x.ensures.0;
       stays = (h.goes.stays.0, p_order ∙ h.goes.stays.1);
       extends = h.goes.extends;
       graph = h.goes.graph;

@@ -1,10 +1,12 @@
 use Rattle.std.proofs.Common.{IfOk, sym, subst, ap, ◌∙◌}
 use Rattle.std.proofs.lemmas.Result.{IfOk-from_err, err_from_is_err_and}
+use Rattle.std.specs.Result.{OnOk}
 use Rattle.sb_lang.specs.Language.{language}
 use Rattle.sb_regex.proofs.CallerLemmas.{at_kept, number_kept, extends_more}
 use Rattle.sb_regex.specs.Numbered.{regex_at}
 use Rattle.sb_graph.specs.Witness.{IsFinding, IfFound}
 use Rattle.sb_trace.specs.Tracking.{IsExploring}
+use Rattle.sb_trace.specs.Reaching.{ExpandsReached}
 use Rattle.sb_trace.proofs.Growing.{traces_grown, stays_same}
 use Rattle.sb_trace.proofs.Exits.{on_ok_more, counts_none}
 use Rattle.sb_trace.proofs.Spent.{spent_none}
@@ -72,6 +74,7 @@ returns-in_err-explored g c =
       alive = IfOk-from_err x.result _ x.ensures.0;
       dead = IfOk-from_err x.result _ x.ensures.0;
       spent = IfOk-from_err x.result _ x.ensures.0;
+      only = IfOk-from_err x.result _ x.ensures.0;
       stays = stays_same c.args.self.now;
       extends = h.extends;
       graph = h.graph;
@@ -89,6 +92,12 @@ returns-in-Found-clause-dead g c = c.show.ensures.dead
 
 pub returns-in-Found-clause-spent : goal.returns-in-Found-clause-spent
 returns-in-Found-clause-spent g c = c.show.ensures.spent
+
+pub returns-in-Found-clause-only : goal.returns-in-Found-clause-only
+returns-in-Found-clause-only g c =
+    subst (λ r. OnOk c.show.result (ExpandsReached c.show.new.arena r c.args.self.now c.show.new.self))
+    (at_kept c.args.arena.now c.answer_within.new.arena c.args.root c.in_ok-explored.ensures.extends c.requires.known)
+    c.show.ensures.only
 
 pub returns-in-Found-clause-stays : goal.returns-in-Found-clause-stays
 returns-in-Found-clause-stays g c = c.show.ensures.stays
@@ -123,6 +132,13 @@ returns-in-Limit-clause-dead g c = c.explore_front.ensures.dead
 
 pub returns-in-Limit-clause-spent : goal.returns-in-Limit-clause-spent
 returns-in-Limit-clause-spent g c = c.explore_front.ensures.spent
+
+pub returns-in-Limit-clause-only : goal.returns-in-Limit-clause-only
+returns-in-Limit-clause-only g c =
+    subst (λ r. OnOk c.explore_front.result
+    (ExpandsReached c.explore_front.new.arena r c.args.self.now c.explore_front.new.self))
+    (at_kept c.args.arena.now c.answer_within.new.arena c.args.root c.in_ok-explored.ensures.extends c.requires.known)
+    c.explore_front.ensures.only
 
 pub returns-in-Limit-clause-stays : goal.returns-in-Limit-clause-stays
 returns-in-Limit-clause-stays g c = c.explore_front.ensures.stays

@@ -1,17 +1,19 @@
-use Rattle.std.proofs.Common.{◌-◌, ℕ, nat_eq, List, IfOk, sym, subst, ap₂, ◌∙◌, ap, Bool}
+use Rattle.std.proofs.Common.{◌-◌, ◌||◌, ℕ, nat_eq, List, IfOk, sym, subst, ap₂, ◌∙◌, ap, Bool}
 use Rattle.std.proofs.lemmas.Result.{IfOk-from_err, err_from_is_err_and}
 use Rattle.std.specs.List.{count_by, IsDistinct}
+use Rattle.std.specs.Result.{OnOk}
 use Rattle.sb_lang.specs.Language.{language}
-use Rattle.sb_regex.specs.Numbered.{AllNumbers}
+use Rattle.sb_regex.specs.Numbered.{AllNumbers, regex_at}
 use Rattle.sb_regex.proofs.CallerLemmas.{at_kept, extends_more, number_kept, extends_same}
 use Rattle.sb_graph.specs.Witness.{IsFinding}
-use Rattle.sb_trace.specs.Tracking.{IsExploring}
-use Rattle.sb_trace.specs.Reaching.{is_unexpanded}
+use Rattle.sb_trace.specs.Tracking.{IsExploring, is_expanded_in}
+use Rattle.sb_trace.specs.Reaching.{is_member, is_unexpanded, ExpandsReached}
 use Rattle.sb_trace.specs.Closing.{HasSpent}
 use Rattle.sb_trace.proofs.Growing.{traces_grown, stays_same}
 use Rattle.sb_trace.proofs.Exits.{on_ok_more, counts_none, counts_on}
 use Rattle.sb_trace.proofs.Closures.{numbers_alone}
 use Rattle.sb_trace.proofs.Counts.{spent_out}
+use Rattle.sb_trace.proofs.Reached.{reached_alone, reached_grows, reached_or_before}
 use Rattle.sb_trace.proofs.Spent.{spent_none}
 use Rattle.sb_graph.specs.Findings.{is_marked}
 use Rattle.sb_trace.proofs.trace.Trace.explore_front.Goals as goal
@@ -101,6 +103,7 @@ returns-in_err-members g c =
       alive = IfOk-from_err x.result _ x.ensures.0;
       dead = IfOk-from_err x.result _ x.ensures.0;
       spent = IfOk-from_err x.result _ x.ensures.0;
+      only = IfOk-from_err x.result _ x.ensures.0;
       stays = stays_same c.args.self.now;
       extends = extends_same c.args.arena.now;
       graph = c.requires.graph;
@@ -121,6 +124,7 @@ returns-in_err-gather g c =
       alive = IfOk-from_err x.result _ x.ensures.0;
       dead = IfOk-from_err x.result _ x.ensures.0;
       spent = IfOk-from_err x.result _ x.ensures.0;
+      only = IfOk-from_err x.result _ x.ensures.0;
       stays = stays_same c.args.self.now;
       extends = first.extends;
       graph = first.graph;
@@ -142,6 +146,7 @@ returns-in_err-explored g c =
       alive = IfOk-from_err x.result _ x.ensures.0;
       dead = IfOk-from_err x.result _ x.ensures.0;
       spent = IfOk-from_err x.result _ x.ensures.0;
+      only = IfOk-from_err x.result _ x.ensures.0;
       stays = stays_same c.args.self.now;
       extends = extends_more c.args.arena.now c.gather.new.arena c.answer.new.arena first.extends next.extends;
       graph = next.graph;
@@ -163,6 +168,7 @@ returns-in_err-_done g c =
       alive = IfOk-from_err x.result _ x.ensures.0;
       dead = IfOk-from_err x.result _ x.ensures.0;
       spent = IfOk-from_err x.result _ x.ensures.0;
+      only = IfOk-from_err x.result _ x.ensures.0;
       stays = done.goes.stays;
       extends = extends_more c.args.arena.now c.gather.new.arena c.expand_each.new.arena first.extends
           done.goes.extends;
@@ -182,6 +188,15 @@ returns-then-branch-clause-dead g c = c.show.ensures.dead
 
 pub returns-then-branch-clause-spent : goal.returns-then-branch-clause-spent
 returns-then-branch-clause-spent g c = c.show.ensures.spent
+
+pub returns-then-branch-clause-only : goal.returns-then-branch-clause-only
+returns-then-branch-clause-only g c =
+    let first = c.in_ok-gather.ensures.goes.extends in
+    let next = c.in_ok-explored.ensures.extends in
+    subst (λ r. OnOk c.show.result (ExpandsReached c.show.new.arena r c.args.self.now c.show.new.self))
+    (at_kept c.args.arena.now c.answer.new.arena c.args.root
+    (extends_more c.args.arena.now c.gather.new.arena c.answer.new.arena first next) c.requires.known)
+    c.show.ensures.only
 
 pub returns-then-branch-clause-stays : goal.returns-then-branch-clause-stays
 returns-then-branch-clause-stays g c = c.show.ensures.stays
@@ -216,6 +231,19 @@ show-requires-clause-dead g c = c.in_ok-explored.ensures.dead
 
 pub expand_each-requires-clause-graph : goal.expand_each-requires-clause-graph
 expand_each-requires-clause-graph g c = c.in_ok-gather.ensures.goes.graph
+
+pub returns-clause-only : goal.returns-clause-only
+returns-clause-only g c =
+    let first = c.in_ok-gather.ensures in
+    let done = c.in_ok-_done.ensures in
+    let r = regex_at c.args.arena.now c.args.root in
+    let reached = first.reached r
+    (reached_alone c.args.arena.now c.args.root c.in_ok-members.members.keys c.in_ok-members.ensures
+    c.requires.known) in
+    reached_or_before c.expand_each.new.arena r c.gather.new.members.keys c.args.self.now c.expand_each.new.self
+    (λ n is. reached_grows c.gather.new.arena c.expand_each.new.arena r n done.goes.extends (reached n is))
+    (λ n h. ap (λ (ms : List ℕ). is_member ms n || is_expanded_in c.args.self.now n) (sym c.as_slice.ensures.keys)
+    ∙ done.only n h)
 
 pub returns-clause-stays : goal.returns-clause-stays
 returns-clause-stays g c = c.in_ok-_done.ensures.goes.stays

@@ -1,4 +1,4 @@
-use Rattle.std.proofs.Common.{Bool}
+use Rattle.std.proofs.Common.{Bool, inl}
 use Rattle.std.proofs.lemmas.Result.{IfOk-from_err, err_from_is_err_and}
 use Rattle.sb_trace.proofs.Growing.{traces_none}
 use Rattle.sb_trace.proofs.Spent.{spent_none}
@@ -9,6 +9,9 @@ pub returns-in-Alive-clause-puts : goal.returns-in-Alive-clause-puts
 returns-in-Alive-clause-puts g c = λ asked before tracks counts.
     traces_none asked before c.args.arena.now c.args.graph.now.memo c.args.self.now c.args.budget.now
     (g.L.Tape.told c.args.tape.now) tracks counts
+
+pub returns-in-Alive-clause-only : goal.returns-in-Alive-clause-only
+returns-in-Alive-clause-only g c = λ n h. inl h
 
 pub returns-in-Alive-clause-steps : goal.returns-in-Alive-clause-steps
 returns-in-Alive-clause-steps g c = spent_none c.args.budget.now
@@ -24,6 +27,7 @@ returns-in_err-bury-in-Dead g c =
       alive = IfOk-from_err x.result _ x.ensures.0;
       dead = IfOk-from_err x.result _ x.ensures.0;
       spent = IfOk-from_err x.result _ x.ensures.0;
+      only = IfOk-from_err x.result _ x.ensures.0;
       stays = b.stays;
       extends = b.extends;
       graph = b.graph;
@@ -35,6 +39,9 @@ returns-in_err-bury-in-Dead g c =
 
 pub returns-then-branch-clause-puts : goal.returns-then-branch-clause-puts
 returns-then-branch-clause-puts g c = c.in_ok-bury-in-Dead.ensures.puts
+
+pub returns-then-branch-clause-only : goal.returns-then-branch-clause-only
+returns-then-branch-clause-only g c = c.in_ok-bury-in-Dead.ensures.only
 
 pub returns-then-branch-clause-stays : goal.returns-then-branch-clause-stays
 returns-then-branch-clause-stays g c = c.in_ok-bury-in-Dead.ensures.stays
@@ -59,6 +66,9 @@ returns-then-branch-clause-counts g c = c.in_ok-bury-in-Dead.ensures.counts
 
 pub returns-else-branch-clause-puts : goal.returns-else-branch-clause-puts
 returns-else-branch-clause-puts g c = c.in_ok-bury-in-Dead.ensures.puts
+
+pub returns-else-branch-clause-only : goal.returns-else-branch-clause-only
+returns-else-branch-clause-only g c = c.in_ok-bury-in-Dead.ensures.only
 
 pub returns-else-branch-clause-stays : goal.returns-else-branch-clause-stays
 returns-else-branch-clause-stays g c = c.in_ok-bury-in-Dead.ensures.stays
