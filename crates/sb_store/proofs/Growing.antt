@@ -13,8 +13,7 @@ use Rattle.sb_store.specs.Stores.{ArenaGrows, RegexesGrow, RegexesGrowAlone}
 pub arena_grows : GraphStays → RightStays → ArenaGrows
 arena_grows graph plain = λ x y e is.
     subst (RegexesGrow x) (sym is) (record {
-      extends = e;
-      derivatives = λ n pieces h. h;
+      more = record { extends = e; derivatives = λ n pieces h. h; marks = λ n h. h };
       right = λ h. record {
         graph = graph x.arena y.arena x.graph e h.graph;
         plain = plain x.arena y.arena x.plain e h.plain;
@@ -25,12 +24,11 @@ arena_grows graph plain = λ x y e is.
 
 pub grows_alone : NormalsStay → RegexesGrowAlone
 grows_alone normals = λ ts x y g. record {
-  extends = g.extends;
-  derivatives = g.derivatives;
+  more = g.more;
   right = λ h. record {
     regexes = g.right h.regexes;
     normals = subst (λ (ks : List Known). AreNormals ts y.arena ks) (sym g.normals)
-        (normals ts ts x.arena y.arena x.normals (extends_same ts) g.extends h.normals);
+        (normals ts ts x.arena y.arena x.normals (extends_same ts) g.more.extends h.normals);
     measures = subst (λ (ms : List Measure). AreMeasures ts ms) (sym g.measures) h.measures;
   };
 }
