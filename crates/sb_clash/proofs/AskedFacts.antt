@@ -34,6 +34,13 @@ pub meet_grown : (rs more most : List Regex) (atoms : List (AtomOver ℕ)) (x : 
 meet_grown rs more most atoms x ls e f below about =
     ap mkand (all_grown more most atoms x ls f (regexes_kept rs more atoms e below) about)
 
+-- so a number that the intersection got has it then too
+pub root_asked : (rs more most : List Regex) (atoms : List (AtomOver ℕ)) (x root : ℕ) (ls : List Lit)
+    → Extends rs more → Extends more most → HaveRegexesBelow (length rs) atoms → AreAbout atoms x ls
+    → Names more root (asked_by_all more atoms ls) → regex_at more root ≡ asked_by_all most atoms ls
+root_asked rs more most atoms x root ls e f below about names =
+    names_at more root _ names ∙ sym (meet_grown rs more most atoms x ls e f below about)
+
 -- literals that clash go on clashing
 pub clash_grown : (rs more : List Regex) (atoms : List (AtomOver ℕ)) (x : ℕ) (ls : List Lit) → Extends rs more
     → HaveRegexesBelow (length rs) atoms → AreAbout atoms x ls → AreClashing rs atoms ls → AreClashing more atoms ls

@@ -1,6 +1,6 @@
 -- The clause that some literals are not all true, and its line.
-use Rattle.sb_clash.proofs.Words.{[], if◌then◌else◌, ◌+◌, ◌<◌, ◌∙◌, ◌∷◌, ◌≡◌, ◌≤◌, Bool, List, None, Option, Some, ap, ap₂, arith, false, get_or, length, map, not, option_map, refl, slice_get, subst, sym, true, ℕ, All-head, All-map, All-tail, AreAbout, AreClashing, AreSingle, Ascend, AtomOver, CanBeDenied, Denying, Extends, Findings, HasNoSubset, HaveRegexesBelow, IsAbout, IsDenial, IsPermutation, IsSorted, Lit, MkandKeepsLanguage, Names, Regex, Sofar, Spending, Ticks, Traced, Tracks, asked_by, asked_by_all, at_kept, atoms_in, atoms_kept, bool_atom, count_by, empty, false_from_ne_true, false≢true, is_dead_in, is_same_literal, is_small_literal, language, line, list_all, mknot, names_at, names_below, negation, number-there, number_in, puts_both, puts_none, puts_one, regex_at, rule_line, sofar, text_of, true≢false, with_bytes, with_denial, or-false, length-map, All-permutation, IsPermutation-map, IsPermutation-sym, AllPass-from_list_all, list_all-from_AllPass, slice_get-map, slice_get_within, mark_there, among_negated, negation_twice, literal_order, Kept, IsShortestLeast, Memo, is_marked, Atom, AllKept, Asked, with_clause, ascend_form, AreDefined, RuleLinesAreExact, AreDeniedIn, IsDeniedIn, over, IsCounted, Traces, ascending_from_sort}
-use Rattle.sb_clash.proofs.AskedFacts.{clash_grown, in_all, meet_grown, number_at}
+use Rattle.sb_clash.proofs.Words.{[], if◌then◌else◌, ◌+◌, ◌<◌, ◌∙◌, ◌∷◌, ◌≡◌, ◌≤◌, Bool, List, None, Option, Some, ap, ap₂, arith, false, get_or, length, map, not, option_map, refl, slice_get, subst, sym, true, ℕ, All-head, All-map, All-tail, AreAbout, AreClashing, AreSingle, Ascend, AtomOver, CanBeDenied, Denying, Extends, Findings, HasNoSubset, HaveRegexesBelow, IsAbout, IsDenial, IsPermutation, IsSorted, Lit, MkandKeepsLanguage, Names, Regex, Sofar, Spending, Ticks, Traced, Tracks, asked_by, asked_by_all, at_kept, atoms_in, atoms_kept, bool_atom, count_by, denied_by, empty, false_from_ne_true, false≢true, is_dead_in, is_same_literal, is_small_literal, language, line, list_all, mknot, names_at, names_below, negation, number-there, number_in, puts_both, puts_none, puts_one, regex_at, rule_line, sofar, text_of, true≢false, with_bytes, with_denial, or-false, length-map, All-permutation, IsPermutation-map, IsPermutation-sym, AllPass-from_list_all, list_all-from_AllPass, slice_get-map, slice_get_within, mark_there, among_negated, negation_twice, literal_order, Kept, IsShortestLeast, Memo, is_marked, Atom, AllKept, Asked, with_clause, ascend_form, AreDefined, RuleLinesAreExact, AreDeniedIn, IsDeniedIn, over, IsCounted, Traces, ascending_from_sort}
+use Rattle.sb_clash.proofs.AskedFacts.{clash_grown, in_all, number_at, root_asked}
 use Rattle.sb_clash.proofs.FewerFacts.{count_cons, one_if}
 use Rattle.sb_trace.specs.Tracking as tracking
 
@@ -233,7 +233,7 @@ never_alive rs more atoms x root clause w e below d names least =
 -- the intersection is dead in the proof
 pub can_be_denied : (rs more most : List Regex) (t : Traced) (atoms : List (AtomOver ℕ)) (x root : ℕ)
     (clause : List Lit) → Extends rs more → Extends more most → HaveRegexesBelow (length rs) atoms
-    → IsDenial rs atoms x clause → Names more root (asked_by_all more atoms (map negation clause))
+    → IsDenial rs atoms x clause → Names more root (denied_by more atoms clause)
     → is_dead_in t root ≡ true → CanBeDenied most t atoms clause
 can_be_denied rs more most t atoms x root clause e f below d names dead = record {
   constant = x;
@@ -241,8 +241,9 @@ can_be_denied rs more most t atoms x root clause e f below d names dead = record
   some = d.some;
   ascend = d.ascend;
   meet = root;
-  meets = at_kept more most root f (names_below more root _ names) ∙ names_at more root _ names
-      ∙ sym (meet_grown rs more most atoms x (map negation clause) e f below (about_negations atoms x clause d.about));
+  meets = at_kept more most root f (names_below more root _ names)
+      ∙ root_asked rs more most atoms x root (map negation clause) e f below (about_negations atoms x clause d.about)
+      names;
   dead = dead;
 }
 

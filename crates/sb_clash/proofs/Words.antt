@@ -1,5 +1,5 @@
 -- The words of the crates below, and of this one, that its proofs speak of.
-pub use Rattle.std.proofs.Common.{Bool, List, None, Option, Some, [], ap, ap₂, arith, drop, false, get_or, if◌then◌else◌, length, map, not, option_map, refl, slice_get, subst, suc, sym, take, true, zero, ℕ, ◌&&◌, ◌++◌, ◌+◌, ◌-◌, ◌<◌, ◌∙◌, ◌∷◌, ◌≡◌, ◌≤◌}
+pub use Rattle.std.proofs.Common.{Bool, IfOk, List, None, Option, Some, [], ap, ap₂, arith, drop, false, get_or, if◌then◌else◌, inl, inr, length, map, not, option_map, refl, slice_get, subst, suc, sym, take, true, zero, ℕ, ◌&&◌, ◌++◌, ◌+◌, ◌-◌, ◌<◌, ◌∙◌, ◌∷◌, ◌≡◌, ◌≤◌}
 pub use Rattle.std.proofs.Math.Bool.{or-false}
 pub use Rattle.std.proofs.lemmas.Bool.{false_from_ne_true, false≢true, true≢false}
 pub use Rattle.std.proofs.lemmas.List.{length-map, map-append, take_all, take_more}
@@ -40,11 +40,12 @@ pub use Rattle.sb_atoms.specs.Numbered.{over}
 pub use Rattle.sb_graph.specs.Findings.{is_marked}
 pub use Rattle.sb_graph.specs.Laws.{GraphStays}
 pub use Rattle.sb_graph.specs.Witness.{IsFinding}
-pub use Rattle.sb_trace.proofs.CallerLemmas.{counts_none, counts_on, number-there, puts_both, puts_none, puts_one, spent_both, spent_none, spent_one, spent_same, stays_same, tracks_grow}
+pub use Rattle.sb_trace.proofs.CallerLemmas.{counts_none, counts_on, number-there, puts_both, puts_none, puts_one, reached_grows, spent_both, spent_none, spent_one, spent_same, stays_same, tracks_grow}
 pub use Rattle.sb_trace.specs.Putting.{CountsTapeFault, IsCounted}
-pub use Rattle.sb_trace.specs.Tracking.{IsExploring, Traces}
+pub use Rattle.sb_trace.specs.Reaching.{ExpandsReached, IsReached}
+pub use Rattle.sb_trace.specs.Tracking.{IsExploring, Traces, is_expanded_in}
 pub use Rattle.sb_trace.specs.declared.trace.Explore.{Explore}
 pub use Rattle.sb_clash.specs.Asked.{CanBeAsked, Explores, IsCore, LeavesOut}
-pub use Rattle.sb_clash.specs.Denials.{CanBeDenied, Denying, IsDenial, Sofar, Ticks, sofar, with_denial}
+pub use Rattle.sb_clash.specs.Denials.{CanBeDenied, Denying, ExpandsDenied, IsDenial, IsOfDenial, Sofar, Ticks, denied_by, sofar, with_denial}
 pub use Rattle.sb_clash.specs.Literals.{AreAbout, AreClashing, AreFewer, AreSingle, IsAbout, asked_by, asked_by_all, number_in}
 pub use Rattle.sb_clash.specs.Words.{Ascend, AtomOver, Extends, Findings, HasNoSubset, HaveRegexesBelow, IsGraph, Lit, Regex, Traced, Tracks, atoms_in, bool_atom, is_dead_in, is_same_literal, negation, regex_at}

@@ -6,10 +6,11 @@ ghost use Rattle.std.specs.List.Sorted.{IsPermutation};
 ghost use Rattle.sb_clash.specs.Words.{Ascend, AtomOver, Findings, HaveRegexesBelow, IsGraph, Regex, Traced, negation};
 ghost use Rattle.sb_rulebook.specs.LineLaws.{is_small_literal};
 ghost use Rattle.sb_trace.specs.Putting.{CountsTapeFault, SpendsWithin};
+ghost use Rattle.sb_trace.specs.Reaching.{ExpandsReached};
 ghost use Rattle.sb_trace.specs.Tracking.{StaysNumbered};
 ghost use Rattle.sb_clash.specs.Literals.{AreSingle};
 ghost use Rattle.sb_clash.specs.Asked.{Explores};
-ghost use Rattle.sb_clash.specs.Denials.{IsDenial, CanBeDenied, Denying, Ticks, sofar};
+ghost use Rattle.sb_clash.specs.Denials.{IsDenial, CanBeDenied, Denying, Ticks, denied_by, sofar};
 
 use crate::asking::meet;
 use sb_atoms::Atoms;
@@ -49,9 +50,10 @@ fn opposite(alloc: Global, literals: &[Lit]) -> Result<Vec<Lit>, AllocError>
 }
 
 /// Puts the line of a clause of one constant's memberships that no word makes false, behind the lines that show the
-/// intersection of what its negations ask for dead. The budget is asked before each line that counts; where it is
-/// spent, the lines that were put stay, and the answer is false. Its cost is that of the exploration. After an error
-/// the tape may have a line of which nothing is known here, so nothing more may be put.
+/// intersection of what its negations ask for dead; no regex is expanded for it to which no word leads from there. The
+/// budget is asked before each line that counts; where it is spent, the lines that were put stay, and the answer is
+/// false. Its cost is that of the exploration. After an error the tape may have a line of which nothing is known here,
+/// so nothing more may be put.
 pub fn put_denial<L: Tape>(
     alloc: Global,
     trace: &mut Trace,
@@ -72,6 +74,8 @@ pub fn put_denial<L: Tape>(
     ensures ticks { IfOk result (Ticks budget.old budget.new) }
     ensures steps { SpendsWithin budget.old budget.new }
     ensures stays { StaysNumbered trace.old trace.new }
+    ensures only { OnOk result
+        (ExpandsReached arena.new (denied_by arena.new atoms.now clause.now) trace.old trace.new) }
     ensures explores { Explores arena.old arena.new graph.old graph.new }
     ensures counts { CountsTapeFault result (L.Tape.faults tape.old) (L.Tape.faults tape.new) }
 {

@@ -1,5 +1,5 @@
-use Rattle.sb_clash.proofs.Words.{◌∙◌, subst, sym, IfOk-from_err, IfOk-weaker, Regex, language, names_at, names_below, IsFinding}
-use Rattle.sb_clash.proofs.AskedFacts.{explores_arena, explores_both, meet_grown}
+use Rattle.sb_clash.proofs.Words.{subst, IfOk, IfOk-from_err, Regex, language, names_below, IsFinding}
+use Rattle.sb_clash.proofs.AskedFacts.{explores_arena, explores_both, root_asked}
 use Rattle.sb_clash.proofs.asking.least_word.Goals as goal
 
 pub least_word-requires : goal.least_word-requires
@@ -31,11 +31,9 @@ returns-then-marks c =
     let e = c.in_ok-root.ensures in
     let w = c.answer.ensures in
     record {
-      found = IfOk-weaker c.answer.result _ _
-          (λ found is. subst (λ (r : Regex). IsFinding (language r) found)
-          (names_at c.meet.new.arena c.in_ok-root.root _ e.ok
-          ∙ sym (meet_grown c.args.arena.now c.meet.new.arena c.answer.new.arena c.args.atoms.now c.args.serial.0
-          c.args.literals.now e.extends w.extends c.requires.regexes c.requires.about)) is) w.found;
+      found = subst (λ (r : Regex). IfOk c.answer.result (IsFinding (language r)))
+          (root_asked c.args.arena.now c.meet.new.arena c.answer.new.arena c.args.atoms.now c.args.serial.0
+          c.in_ok-root.root c.args.literals.now e.extends w.extends c.requires.regexes c.requires.about e.ok) w.found;
       explores = explores_both (explores_arena c.graph_stays.ensures e.extends c.requires.graph)
           (record { extends = w.extends; graph = w.graph; derivatives = w.derivatives_stay; marks = w.marks_stay });
     }
@@ -45,11 +43,9 @@ returns c =
     let e = c.in_ok-root.ensures in
     let w = c.least_word.ensures in
     record {
-      found = IfOk-weaker c.least_word.result _ _
-          (λ found is. subst (λ (r : Regex). IsFinding (language r) found)
-          (names_at c.meet.new.arena c.in_ok-root.root _ e.ok
-          ∙ sym (meet_grown c.args.arena.now c.meet.new.arena c.least_word.new.arena c.args.atoms.now c.args.serial.0
-          c.args.literals.now e.extends w.extends c.requires.regexes c.requires.about)) is) w.found;
+      found = subst (λ (r : Regex). IfOk c.least_word.result (IsFinding (language r)))
+          (root_asked c.args.arena.now c.meet.new.arena c.least_word.new.arena c.args.atoms.now c.args.serial.0
+          c.in_ok-root.root c.args.literals.now e.extends w.extends c.requires.regexes c.requires.about e.ok) w.found;
       explores = explores_both (explores_arena c.graph_stays.ensures e.extends c.requires.graph)
           (record { extends = w.extends; graph = w.graph; derivatives = w.derivatives_stay; marks = w.marks_stay });
     }

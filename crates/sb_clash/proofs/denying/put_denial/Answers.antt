@@ -1,6 +1,7 @@
 use Rattle.sb_clash.proofs.Words.{◌∙◌, ap, false, map, refl, subst, sym, AreAbout, IfOk-from_err, IfOk-weaker, Names, asked_by_all, counts_none, counts_on, err_from_is_err_and, extends_more, false≢true, language, names_below, negation, regex_at, sofar, spent_both, spent_none, stays_same, tracks_grow, CountsTapeFault, IsExploring, Explore}
 use Rattle.sb_clash.proofs.AskedFacts.{explores_arena, explores_both, explores_none}
 use Rattle.sb_clash.proofs.DenialFacts.{about_negations, behind_traces, can_be_denied, denial_waits, never_alive, ticks_later}
+use Rattle.sb_clash.proofs.ExpandedFacts.{expands_asked}
 use Rattle.sb_clash.proofs.denying.put_denial.Goals as goal
 
 pub meet-requires : goal.meet-requires
@@ -26,6 +27,7 @@ returns-in_err-literals g c =
     record {
       puts = IfOk-from_err r.result _ r.ensures.0;
       ticks = IfOk-from_err r.result _ r.ensures.0;
+      only = IfOk-from_err r.result _ r.ensures.0;
       steps = spent_none c.args.budget.now;
       stays = stays_same c.args.trace.now;
       explores = explores_none c.requires.graph;
@@ -39,6 +41,7 @@ returns-in_err-root g c =
     record {
       puts = IfOk-from_err r.result _ r.ensures.0;
       ticks = IfOk-from_err r.result _ r.ensures.0;
+      only = IfOk-from_err r.result _ r.ensures.0;
       steps = spent_none c.args.budget.now;
       stays = stays_same c.args.trace.now;
       explores = explores_arena c.graph_stays.ensures c.in_err-root.ensures.extends c.requires.graph;
@@ -53,6 +56,7 @@ returns-in_err-explore g c =
     record {
       puts = IfOk-from_err r.result _ r.ensures.0;
       ticks = IfOk-from_err r.result _ r.ensures.0;
+      only = IfOk-from_err r.result _ r.ensures.0;
       steps = h.steps;
       stays = h.stays;
       explores = explores_both (explores_arena c.graph_stays.ensures c.in_ok-root.ensures.extends c.requires.graph)
@@ -87,6 +91,10 @@ returns-in-Dead g c =
           (λ done. ticks_later c.args.budget.now c.explore.new.budget c.put_line.new.budget done h.steps.spent) line.ticks;
       steps = spent_both c.args.budget.now c.explore.new.budget c.put_line.new.budget h.steps line.steps;
       stays = h.stays;
+      only = IfOk-weaker c.put_line.result _ _
+          (λ done ticks. expands_asked c.args.arena.now c.meet.new.arena c.explore.new.arena c.args.trace.now
+          c.explore.new.self c.args.atoms.now c.args.serial.0 c.in_ok-root.root c.args.clause.now root.extends h.extends
+          c.requires.regexes c.requires.denial.about names h.only) line.ticks;
       explores = explores_both (explores_arena c.graph_stays.ensures root.extends c.requires.graph)
           (record { extends = h.extends; graph = h.graph; derivatives = h.derivatives_stay; marks = h.marks_stay });
       counts = subst (λ old. CountsTapeFault c.put_line.result old (g.L.Tape.faults c.put_line.new.tape)) h.counts
@@ -99,6 +107,8 @@ returns-in-Spent g c =
     let h = c.in_ok-explore.ensures in
     let now = sofar c.explore.new.arena c.explore.new.graph c.explore.new.self c.explore.new.budget
     (g.L.Tape.told c.explore.new.tape) in
+    let names = subst (λ ls. Names c.meet.new.arena c.in_ok-root.root (asked_by_all c.meet.new.arena c.args.atoms.now ls))
+    (c.deref.ensures.value ∙ c.in_ok-literals.ensures ∙ ap (map negation) c.literals.ensures) root.ok in
     record {
       puts = behind_traces
           (sofar c.args.arena.now c.args.graph.now c.args.trace.now c.args.budget.now (g.L.Tape.told c.args.tape.now)) now
@@ -112,6 +122,9 @@ returns-in-Spent g c =
       ticks = record { more = λ done. absurd (false≢true done); spent = λ waits. h.spent c.in-Spent.is };
       steps = h.steps;
       stays = h.stays;
+      only = expands_asked c.args.arena.now c.meet.new.arena c.explore.new.arena c.args.trace.now c.explore.new.self
+          c.args.atoms.now c.args.serial.0 c.in_ok-root.root c.args.clause.now root.extends h.extends
+          c.requires.regexes c.requires.denial.about names h.only;
       explores = explores_both (explores_arena c.graph_stays.ensures root.extends c.requires.graph)
           (record { extends = h.extends; graph = h.graph; derivatives = h.derivatives_stay; marks = h.marks_stay });
       counts = h.counts;
