@@ -38,11 +38,11 @@ taken_known : (kept : Decider) (store : Store) (roots : Vec (Option ℕ) Global)
     IsTaken (record kept { store = store; roots = roots; found = fs }) ts xs
 taken_known kept store roots fs ts xs grows rooted t = record {
   store = grows.right t.store;
-  members = members_moved kept.store.arena store.arena ts ts kept.members.items xs grows.extends
+  members = members_moved kept.store.arena store.arena ts ts kept.members.items xs grows.more.extends
       (table_facts.extends_same ts) t.members;
   rooted = rooted;
   counted = t.counted;
-  dead = dead_kept kept.store.arena store.arena kept.members.items kept.dead grows.extends t.rooted.numbers t.dead;
+  dead = dead_kept kept.store.arena store.arena kept.members.items kept.dead grows.more.extends t.rooted.numbers t.dead;
   heard = t.heard;
 }
 
@@ -51,7 +51,7 @@ pub knows_known : (kept : Decider) (store : Store) (roots : Vec (Option ℕ) Glo
     Knows kept stack → Knows (record kept { store = store; roots = roots; found = fs }) stack
 knows_known kept store roots fs stack grows rooted k = record {
   taken = taken_known kept store roots fs stack.table stack.assertions grows rooted k.taken;
-  words = kept_grown kept.store.arena store.arena kept.members.items kept.constants.items stack.words grows.extends
+  words = kept_grown kept.store.arena store.arena kept.members.items kept.constants.items stack.words grows.more.extends
       k.taken.rooted.numbers k.words;
   declared = k.declared;
 }
@@ -61,12 +61,12 @@ pub taken_grown : (kept : Decider) (store : Store) (ts : List Term) (xs : List c
     → Grows ts kept.store store → IsTaken kept ts xs → IsTaken (record kept { store = store }) ts xs
 taken_grown kept store ts xs grows t =
     taken_known kept store kept.roots kept.found ts xs grows
-    (rooted_grown kept.store.arena store.arena kept.members.items kept.roots.items grows.extends t.rooted) t
+    (rooted_grown kept.store.arena store.arena kept.members.items kept.roots.items grows.more.extends t.rooted) t
 
 pub knows_grown : KnowsGrown
 knows_grown kept store stack grows k =
     knows_known kept store kept.roots kept.found stack grows
-    (rooted_grown kept.store.arena store.arena kept.members.items kept.roots.items grows.extends k.taken.rooted) k
+    (rooted_grown kept.store.arena store.arena kept.members.items kept.roots.items grows.more.extends k.taken.rooted) k
 
 -- there is room for more constants
 serial_more : (n k : ℕ) (o : Option Member) → n ≤ k → HasSerialBelow n o → HasSerialBelow k o

@@ -1,5 +1,5 @@
 -- What was found of constants is taken over, and a verdict given.
-use Rattle.sb_decide.proofs.Words.{◌≡◌, ◌≢◌, ℕ, ◌+◌, ◌<◌, true, false, List, [], ◌∷◌, ◌++◌, length, get_or, set, map, take, refl, sym, ap, ap₂, ◌∙◌, arith, Option, None, Some, IfSome, is_some, unwrap_or, vec_len, subst, All, All-pop, All-push, AreConjuncts, AreFilled, AreFound, AreKept, AreRooted, AreSpoken, ArenaGrows, Conjoined, Decider, Extends, Findings, Fit, Found, FragmentIsOfEach, Global, HasAll, HasRegexBelow, IntersectionIsOfEach, IsChangedAt, IsEmptyAt, IsFoundAt, IsFoundOf, IsGraph, IsLeastOf, IsReady, IsRootOf, IsShortestLeast, IsSofar, IsSpoken, IsTakingOver, IsVerdict, IsWord, KeepsEntries, Knows, Member, MkandKeepsLanguage, Names, NormalHasTermsWords, ReadyGrown, Regex, RegexesGrow, RegexesGrowAlone, RestSettled, Searches, Serial, Stacked, Store, Term, Vec, all_known, assertion_in, blank, conjoined_at, eq-eqb, extends_more, false≢true, get_or-set_other, get_or-set_same, get_or_read, ids_in, is_decided, is_listed, is_member, is_plain, is_plain_assertion, is_settled, is_unsat, language, length-set, list_all, live, live_constants, live_laid, live_terms, map-append, map_push, mkand, names_below, nil_from_length, places_in, regex_at, regexes_at, regexes_both, same_Some, speaks_of, state_of, take_all, take_more, with_items, with_items_is, with_place, with_word, without_place, word_at, word_of, words_in}
+use Rattle.sb_decide.proofs.Words.{◌≡◌, ◌≢◌, ℕ, ◌+◌, ◌<◌, true, false, List, [], ◌∷◌, ◌++◌, length, get_or, set, map, take, refl, sym, ap, ap₂, ◌∙◌, arith, Option, None, Some, IfSome, is_some, unwrap_or, vec_len, subst, All, All-pop, All-push, AreConjuncts, AreFilled, AreFound, AreKept, AreRooted, AreSpoken, ArenaGrows, Conjoined, Decider, Extends, Findings, Fit, Found, FragmentIsOfEach, Global, HasAll, HasRegexBelow, IntersectionIsOfEach, IsChangedAt, IsEmptyAt, IsFoundAt, IsFoundOf, IsGraph, IsLeastOf, IsReady, IsRootOf, IsShortestLeast, IsSofar, IsSpoken, IsTakingOver, IsVerdict, IsWord, KeepsEntries, KeepsMarks, Knows, Member, MkandKeepsLanguage, Names, NormalHasTermsWords, ReadyGrown, Regex, RegexesGrow, RegexesGrowAlone, RestSettled, Searches, Serial, Stacked, Store, Term, Vec, all_known, assertion_in, blank, conjoined_at, eq-eqb, extends_more, false≢true, get_or-set_other, get_or-set_same, get_or_read, ids_in, is_decided, is_listed, is_member, is_plain, is_plain_assertion, is_settled, is_unsat, language, length-set, list_all, live, live_constants, live_laid, live_terms, map-append, map_push, mkand, names_below, nil_from_length, places_in, regex_at, regexes_at, regexes_both, same_Some, speaks_of, state_of, take_all, take_more, with_items, with_items_is, with_place, with_word, without_place, word_at, word_of, words_in}
 use Rattle.sb_term.specs.declared.assertion.Assertion as code
 use Rattle.sb_decide.proofs.Conjunctions.{same_least, in_root}
 use Rattle.sb_decide.proofs.Constants.{listed_last}
@@ -266,7 +266,7 @@ root_words mid new ms n root is e known w c = words_grown mid new ms n w e known
 pub searches_grown : {ms : List (Option Member)} {x y : Store} {roots : List (Option ℕ)} → RegexesGrow x y
     → AreRooted x.arena ms roots → Searches ms x y roots
 searches_grown {ms} {x} {y} {roots} grows rooted =
-    record { store = grows; rooted = rooted_grown x.arena y.arena ms roots grows.extends rooted }
+    record { store = grows; rooted = rooted_grown x.arena y.arena ms roots grows.more.extends rooted }
 
 pub searches_behind : {ms : List (Option Member)} {x y z : Store} {roots : List (Option ℕ)} → RegexesGrow x y
     → Searches ms y z roots → Searches ms x z roots
@@ -274,9 +274,10 @@ searches_behind {ms} {x} {y} {z} grows s = record { store = regexes_both x y z g
 
 pub searches_asked : {ms : List (Option Member)} {mid new : List Regex} {g : Findings} {roots : List (Option ℕ)}
     → ArenaGrows → (x : Store) → Extends x.arena mid → AreRooted mid ms roots → Extends mid new → IsGraph new g
-    → KeepsEntries x.graph.memo g.memo → Searches ms x (record x { arena = new; graph = g }) roots
-searches_asked {ms} {mid} {new} {g} {roots} law x e rooted more graph entries = record {
-  store = explored law x new g (extends_more x.arena mid new e more) graph entries;
+    → KeepsEntries x.graph.memo g.memo → KeepsMarks x.graph.dead g.dead
+    → Searches ms x (record x { arena = new; graph = g }) roots
+searches_asked {ms} {mid} {new} {g} {roots} law x e rooted more graph entries marks = record {
+  store = explored law x new g (extends_more x.arena mid new e more) graph entries marks;
   rooted = rooted_grown mid new ms roots more rooted;
 }
 
@@ -355,7 +356,7 @@ ready_grown kept store stack grows r = record {
   knows = knows_grown kept store stack grows r.knows;
   found = record {
     each = λ k d l. found_grown kept.store.arena store.arena kept.members.items kept.constants.items stack.words
-        (get_or kept.found.items k d) grows.extends r.knows.taken.rooted.numbers (r.found.each k d l);
+        (get_or kept.found.items k d) grows.more.extends r.knows.taken.rooted.numbers (r.found.each k d l);
     serials = r.found.serials;
   };
   spoken = r.spoken;

@@ -70,7 +70,7 @@ pub use Rattle.sb_stack.proofs.CallerLemmas.{live_laid, same_sort, value_there}
 pub use Rattle.sb_stack.specs.Speaking.{is_one_of, speak_of, speaks_of}
 pub use Rattle.sb_stack.specs.Stacked.{HasNumberBelow, IsLonger, Stacked, are_words, assertion_in, assertion_of, live_constants, state_of, value_at, values_at, without_words}
 pub use Rattle.sb_stack.specs.declared.stack.Mode.{Mode}
-pub use Rattle.sb_graph.specs.Findings.{Findings, IsGraph}
+pub use Rattle.sb_graph.specs.Findings.{Findings, IsGraph, KeepsMarks}
 pub use Rattle.sb_store.proofs.CallerLemmas.{grows_both, grows_same, regexes_both, regexes_same}
 pub use Rattle.sb_store.specs.Stores.{ArenaGrows, Grows, IsStoreOf, RegexesGrow, RegexesGrowAlone}
 pub use Rattle.sb_store.specs.declared.store.Store.{Store}

@@ -28,7 +28,7 @@ pub least_word-requires : goal.least_word-requires
 least_word-requires c =
     let e = c.in_ok-stays.ensures in
     record {
-      rooted = rooted_grown _ _ _ _ e.store.extends c.requires.rooted;
+      rooted = rooted_grown _ _ _ _ e.store.more.extends c.requires.rooted;
       places = c.places-places.ensures ∙ c.requires.places;
       store = e.store.right c.requires.store;
     }

@@ -30,7 +30,7 @@ returns-in_err-word c =
     record {
       found = IfOk-from_err x.result _ x.ensures.0;
       searches = searches_asked c.regexes_grow.ensures.arena c.args.store.now e.extends e.rooted asked.extends
-          asked.graph asked.derivatives_stay;
+          asked.graph asked.derivatives_stay asked.marks_stay;
     }
 
 pub returns-in-Alive : goal.returns-in-Alive
@@ -43,7 +43,7 @@ returns-in-Alive c =
           (root_words c.root_of.new.arena c.least_word.new.arena c.args.members.now c.args.serial.0 c.in_ok-root.root
           e.root asked.extends e.rooted.numbers) (rw c.in-Alive.is at asked.found);
       searches = searches_asked c.regexes_grow.ensures.arena c.args.store.now e.extends e.rooted asked.extends
-          asked.graph asked.derivatives_stay;
+          asked.graph asked.derivatives_stay asked.marks_stay;
     }
 
 pub returns-in-Dead : goal.returns-in-Dead
@@ -56,5 +56,5 @@ returns-in-Dead c =
           (root_words c.root_of.new.arena c.least_word.new.arena c.args.members.now c.args.serial.0 c.in_ok-root.root
           e.root asked.extends e.rooted.numbers) (rw c.in-Dead.is at asked.found);
       searches = searches_asked c.regexes_grow.ensures.arena c.args.store.now e.extends e.rooted asked.extends
-          asked.graph asked.derivatives_stay;
+          asked.graph asked.derivatives_stay asked.marks_stay;
     }

@@ -21,7 +21,7 @@ find_word-requires c =
           c.index-constants-place.is;
       kept = kept_listed c.args.store.now.arena c.loop-serial.store.arena c.args.members.now c.args.constants.now
           c.args.words.now c.args.changed.now c.loop-serial.serial-index _ c.index-constants-place.result
-          s.store.extends c.requires.rooted.numbers c.requires.kept c.requires.listed c.loop-serial-test.true
+          s.store.more.extends c.requires.rooted.numbers c.requires.kept c.requires.listed c.loop-serial-test.true
           c.index-constants-place.is;
       store = s.store.right c.requires.store;
     }
@@ -32,7 +32,7 @@ loop-serial-preserved c =
     let e = c.in_ok-one.ensures in (
       found_next c.loop-serial.store.arena c.find_word.new.store.arena c.args.members.now c.args.constants.now
           c.args.words.now c.args.changed.now c.loop-serial.serial-index _ c.loop-serial.found.items
-          c.push.new.self.items c.in-Some.one before.0 e.searches.store.extends before.1.rooted.numbers
+          c.push.new.self.items c.in-Some.one before.0 e.searches.store.more.extends before.1.rooted.numbers
           c.loop-serial-test.true c.requires.listed (rw c.in-Some.is at e.found) c.in_ok-push.ensures.items,
       searches_behind before.1.store e.searches,
     )

@@ -21,7 +21,7 @@ matches-requires c =
     let within = c.requires.within c.loop-place.place-index _ c.loop-place-test.true in
     let low = number_there c.args.store.now.arena c.args.members.now _ _ c.in-Some.member c.requires.numbers within
     c.in-Some.is in
-    record { known = number_kept _ _ _ grows.extends low; right = (grows.right c.requires.store).plain }
+    record { known = number_kept _ _ _ grows.more.extends low; right = (grows.right c.requires.store).plain }
 
 pub returns-in_err-matches : goal.returns-in_err-matches
 returns-in_err-matches c =
@@ -51,7 +51,7 @@ loop-place-preserved c =
     c.in-Some.is in (
       matched_next c.loop-place.store.arena c.matches.new.arena c.args.members.now c.args.places.now c.args.word.now
           c.loop-place.place-index _ _ c.in-Some.member e.extends c.loop-place.invariant.0 c.loop-place-test.true within
-          c.in-Some.is (number_kept _ _ _ grows.extends low) (sym (sym c.if-not-branch.false ∙ e.ok)),
+          c.in-Some.is (number_kept _ _ _ grows.more.extends low) (sym (sym c.if-not-branch.false ∙ e.ok)),
       regexes_both _ _ _ grows (walked c.regexes_grow.ensures.arena c.loop-place.store _ _ e.extends e.right),
     )
 

@@ -44,7 +44,7 @@ returns c =
     record {
       least = λ all. word_stands c.args.store.now.arena c.is_in_each.new.store.arena c.args.members.now c.args.serial.0
           c.in-Some.known c.places-places.result.now c.places_behind-behind.result.now
-          (word_at c.args.words.now c.args.serial.0) c.in-Some-get.word.now e.store.extends c.requires.numbers
+          (word_at c.args.words.now c.args.serial.0) c.in-Some-get.word.now e.store.more.extends c.requires.numbers
           (c.places-places.ensures ∙ c.requires.places) c.places_behind-behind.ensures
           (get_or_read c.args.words.now c.args.serial.0 c.in-Some-get.word.now here.3.0 here.1 [])
           (c.requires.kept c.in-Some.known (sym c.in-Some.ensures)) (e.all all);

@@ -93,7 +93,7 @@ returns-in_default-2 c =
       taken = taken_grown c.args.self.now _ _ _ grows c.requires.taken;
       words = λ words kept. (
         refl,
-        stay_grown c.args.self.now _ _ _ e.store.extends c.requires.taken words kept,
+        stay_grown c.args.self.now _ _ _ e.store.more.extends c.requires.taken words kept,
       );
       store = grows;
       further = λ t. absurd (false≢true t);
@@ -151,7 +151,7 @@ returns c =
             changed = c.put.new.changed;
           })
           (Some member) (length c.args.self.now.members.items) c.in_ok-push.ensures.items put
-          (stay_grown c.args.self.now _ _ _ e.store.extends c.requires.taken);
+          (stay_grown c.args.self.now _ _ _ e.store.more.extends c.requires.taken);
       store = grows;
       further = λ _. omega (arith, ap length c.in_ok-push.ensures.items, one);
       outside = λ t. absurd (false≢true (sym t));
