@@ -46,9 +46,9 @@ pub use Rattle.sb_atoms.proofs.CallerLemmas.{atoms_kept, earlier_more, earlier_n
 pub use Rattle.sb_atoms.specs.GateClauses.{atom_at, clause_of, gate_clauses, is_trivial}
 pub use Rattle.sb_atoms.specs.Numbered.{AreDistinct, Extends, HasRegexBelow, HaveRegexesBelow, NameEarlier, Names, atom_in, atoms_in, over}
 pub use Rattle.sb_atoms.specs.Translated.{AreDefined, brought_translation}
-pub use Rattle.sb_trace.proofs.CallerLemmas.{counts_none, counts_on, puts_both, puts_none, puts_one, stays_both, stays_same, tracks_grow}
+pub use Rattle.sb_trace.proofs.CallerLemmas.{counts_none, counts_on, puts_both, puts_none, puts_one, only_numbers_both, only_numbers_same, tracks_grow}
 pub use Rattle.sb_trace.specs.Putting.{CountsTapeFault}
-pub use Rattle.sb_trace.specs.Tracking.{StaysNumbered, Traced, TracesUncounted, Tracks}
+pub use Rattle.sb_trace.specs.Tracking.{OnlyNumbers, Traced, TracesUncounted, Tracks}
 pub use Rattle.sb_refute.specs.Backing.{AreUpTo, Backing, Backs, EvidencesUncounted, HasGates, HasGatesOf, IsLowestEmpty, IsStatement, KeepsAsserted, asserted_at, backing_of, empty_at, left_above, left_all, refuted_up_to, unit_at}
 pub use Rattle.sb_refute.specs.Lines.{AreDue, Becomes, Called, IsAssertion, IsClaimed, IsEmptyOf, IsLineOf, IsOfGates, IsStanding, IsWritten, Leads, LeadsAlways, LeadsClaimed, at_bottom, lower_of, placed}
 pub use Rattle.sb_refute.specs.Standing.{Stand}

@@ -13,7 +13,7 @@ ghost use Rattle.sb_rulebook.specs.Lines.{text_of};
 ghost use Rattle.sb_rulebook.specs.LineLaws.{is_small_literal};
 ghost use Rattle.sb_atoms.specs.Numbered.{atom_in, HasRegexBelow, HaveRegexesBelow};
 ghost use Rattle.sb_trace.specs.Putting.{CountsTapeFault};
-ghost use Rattle.sb_trace.specs.Tracking.{StaysNumbered, Tracks};
+ghost use Rattle.sb_trace.specs.Tracking.{OnlyNumbers, Tracks};
 ghost use Rattle.sb_refute.specs.Backing.{Backing};
 ghost use Rattle.sb_refute.specs.Lines.{AreDue, Called, IsLineOf, IsWritten, Leads};
 
@@ -40,7 +40,7 @@ pub(crate) fn define_atoms<L: Tape>(
         (λ _. (asked : Asked) (memo : Memo) (e : Backing) → AreDue asked known atoms.now
         → Leads asked arena.now memo (record e { trace = trace.old; atoms = take known atoms.now })
         (record e { trace = trace.new; atoms = atoms.now }) (L.Tape.told tape.old) (L.Tape.told tape.new))
-        (StaysNumbered trace.old trace.new) (L.Tape.faults tape.old) (L.Tape.faults tape.new) }
+        (OnlyNumbers trace.old trace.new) (L.Tape.faults tape.old) (L.Tape.faults tape.new) }
 {
     let mut number = known;
     while number < atoms.len() {
@@ -66,7 +66,7 @@ fn define_atom<L: Tape>(
         → Leads asked arena.now memo (record e { trace = trace.old; atoms = take number atoms.now })
         (record e { trace = trace.new; atoms = take (number + 1) atoms.now }) (L.Tape.told tape.old)
         (L.Tape.told tape.new))
-        (StaysNumbered trace.old trace.new) (L.Tape.faults tape.old) (L.Tape.faults tape.new) }
+        (OnlyNumbers trace.old trace.new) (L.Tape.faults tape.old) (L.Tape.faults tape.new) }
 {
     order_tells_apart();
     arena.normal_regexes_each_once();
@@ -101,7 +101,7 @@ fn line_of<L: Tape>(
         (λ line. (asked : Asked) (memo : Memo) (before : AllKept) → Tracks arena.now memo trace.old before
         → IsLineOf asked before arena.now memo trace.new (atom_in atom.now) (line_atom line) (L.Tape.told tape.old)
         (L.Tape.told tape.new))
-        (StaysNumbered trace.old trace.new) (L.Tape.faults tape.old) (L.Tape.faults tape.new) }
+        (OnlyNumbers trace.old trace.new) (L.Tape.faults tape.old) (L.Tape.faults tape.new) }
 {
     match atom {
         Atom::Bool(serial) => Ok(constant_line(*serial)),
@@ -125,7 +125,7 @@ fn member_line<L: Tape>(
         (λ line. (asked : Asked) (memo : Memo) (before : AllKept) → Tracks arena.now memo trace.old before
         → IsLineOf asked before arena.now memo trace.new (in_atom (constant_piece serial.0 ∷ []) regex)
         (line_atom line) (L.Tape.told tape.old) (L.Tape.told tape.new))
-        (StaysNumbered trace.old trace.new) (L.Tape.faults tape.old) (L.Tape.faults tape.new) }
+        (OnlyNumbers trace.old trace.new) (L.Tape.faults tape.old) (L.Tape.faults tape.new) }
 {
     let number = trace.number(arena, regex, tape)?;
     let pieces = constant(alloc, serial)?;

@@ -11,7 +11,7 @@ ghost use Rattle.sb_rulebook.specs.Kept.{AllKept, Asked, nothing_kept, dropped_a
 ghost use Rattle.sb_atoms.specs.Numbered.{atoms_in, HaveRegexesBelow, Extends};
 ghost use Rattle.sb_atoms.specs.Translated.{brought_translation, HasNoLiteral};
 ghost use Rattle.sb_trace.specs.Putting.{CountsTapeFault};
-ghost use Rattle.sb_trace.specs.Tracking.{StaysNumbered};
+ghost use Rattle.sb_trace.specs.Tracking.{OnlyNumbers};
 ghost use Rattle.sb_refute.specs.Backing.{backing_of, IsLowestEmpty, HasGates, Backs, EvidencesUncounted, IsStatement, KeepsAsserted, AreUpTo, asserted_at, empty_at, left_above, refuted_up_to, left_all};
 ghost use Rattle.sb_refute.specs.Lines.{AreDue, Becomes, Called, IsClaimed, IsStanding, Leads, LeadsClaimed, LeadsFrom, placed, IsEmptyOf, lower_of};
 ghost use Rattle.sb_refute.specs.Standing.{Stand};
@@ -229,7 +229,7 @@ impl Evidence {
             → KeepsAsserted self.old self.new) }
         ensures others { OnOk result ((other : ℕ) → other ≢ place
             → asserted_at self.new.asserted other ≡ asserted_at self.old.asserted other) }
-        ensures numbers_stay { StaysNumbered self.old.trace self.new.trace }
+        ensures only { OnlyNumbers self.old.trace self.new.trace }
         ensures extends { Extends self.old.atoms self.new.atoms }
         ensures regexes { HaveRegexesBelow (length store.new.arena) self.new.atoms }
         ensures store { Grows table.now store.old store.new }
@@ -266,7 +266,7 @@ impl Evidence {
             (λ found. IsClaimed (LeadsFrom arena.now known place literal level self.old self.new
             (L.Tape.told tape.old) (L.Tape.told tape.new)) place literal level self.old self.new found
             × (self.new.gates ≡ length self.new.atoms))
-            (StaysNumbered self.old.trace self.new.trace × (self.new.atoms ≡ self.old.atoms)) (L.Tape.faults tape.old)
+            (OnlyNumbers self.old.trace self.new.trace × (self.new.atoms ≡ self.old.atoms)) (L.Tape.faults tape.old)
             (L.Tape.faults tape.new) }
     {
         self.define(arena, known, tape)?;
@@ -325,7 +325,7 @@ impl Evidence {
             (λ _. (asked : Asked) (memo : Memo) → AreDue asked known self.old.atoms
             → Leads asked arena.now memo (record self.old { atoms = take known self.old.atoms }) self.new
             (L.Tape.told tape.old) (L.Tape.told tape.new))
-            (StaysNumbered self.old.trace self.new.trace × (self.new ≡ record self.old { trace = self.new.trace }))
+            (OnlyNumbers self.old.trace self.new.trace × (self.new ≡ record self.old { trace = self.new.trace }))
             (L.Tape.faults tape.old) (L.Tape.faults tape.new) }
     {
         let parts = &mut self.parts;

@@ -1,4 +1,4 @@
-use Rattle.sb_refute.proofs.Words.{◌+◌, ℕ, List, arith, take, refl, subst, ◌∙◌, take_all, AtomOver, stays_same, stays_both, Leads}
+use Rattle.sb_refute.proofs.Words.{◌+◌, ℕ, List, arith, take, refl, subst, ◌∙◌, take_all, AtomOver, only_numbers_same, only_numbers_both, Leads}
 use Rattle.sb_refute.proofs.Asserting.{leads-none, leads-both}
 use Rattle.sb_refute.proofs.Exits.{called-on}
 use Rattle.sb_refute.proofs.defining.define_atoms.Goals as goal
@@ -6,7 +6,7 @@ use Rattle.sb_refute.proofs.defining.define_atoms.Goals as goal
 pub loop-number-init : goal.loop-number-init
 loop-number-init g c = record {
   behind = omega arith;
-  stays = stays_same c.args.trace.now;
+  stays = only_numbers_same c.args.trace.now;
   faults = refl;
   puts = λ asked memo e due.
       leads-none asked c.args.arena.now memo
@@ -21,7 +21,7 @@ loop-number-preserved g c =
     let h = c.loop-number.invariant in
     record {
       behind = omega (arith, h.behind);
-      stays = stays_both c.args.trace.now c.loop-number.trace c.define_atom.new.trace h.stays
+      stays = only_numbers_both c.args.trace.now c.loop-number.trace c.define_atom.new.trace h.stays
           c.define_atom.ensures.rest;
       faults = c.in_ok-define_atom.ensures.counts ∙ h.faults;
       puts = λ asked memo e due.
@@ -53,4 +53,4 @@ returns-in_err-define_atom g c =
     let x = c.from_residual in
     let h = c.loop-number.invariant in
     called-on (Unit {0}) _ x.result _ _ _ _ x.ensures.0 x.ensures.1 h.faults c.in_err-define_atom.ensures.counts
-    (stays_both c.args.trace.now c.loop-number.trace c.define_atom.new.trace h.stays c.define_atom.ensures.rest)
+    (only_numbers_both c.args.trace.now c.loop-number.trace c.define_atom.new.trace h.stays c.define_atom.ensures.rest)

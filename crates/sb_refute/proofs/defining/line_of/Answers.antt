@@ -1,4 +1,4 @@
-use Rattle.sb_refute.proofs.Words.{ℕ, length, refl, sym, ap, subst, ◌∙◌, Memo, AtomOver, bool_atom, and_atom, iff_atom, AllKept, Asked, atom_in, HasRegexBelow, StaysNumbered, Tracks, stays_same, Called, IsLineOf}
+use Rattle.sb_refute.proofs.Words.{ℕ, length, refl, sym, ap, subst, ◌∙◌, Memo, AtomOver, bool_atom, and_atom, iff_atom, AllKept, Asked, atom_in, HasRegexBelow, OnlyNumbers, Tracks, only_numbers_same, Called, IsLineOf}
 use Rattle.sb_proof.specs.Lines.{atom_in as line_atom}
 use Rattle.sb_refute.proofs.DefinedAtoms.{plain-line}
 use Rattle.sb_refute.proofs.Exits.{called-none}
@@ -9,7 +9,7 @@ returns-in-Bool g c = record {
   ok = λ asked memo before tracks.
       plain-line asked before c.args.arena.now memo c.args.trace.now _ _ (bool_atom c.in-Bool.serial.0)
       (g.L.Tape.told c.args.tape.now) (ap atom_in c.in-Bool.is) c.constant_line.ensures refl (λ known. refl) tracks;
-  rest = stays_same c.args.trace.now;
+  rest = only_numbers_same c.args.trace.now;
   counts = refl;
 }
 
@@ -22,7 +22,7 @@ returns-in-In g c =
     (λ line. (asked : Asked) (memo : Memo) (before : AllKept) → Tracks c.args.arena.now memo c.args.trace.now before
     → IsLineOf asked before c.args.arena.now memo c.member_line.new.trace a (line_atom line)
     (g.L.Tape.told c.args.tape.now) (g.L.Tape.told c.member_line.new.tape))
-    (StaysNumbered c.args.trace.now c.member_line.new.trace) (g.L.Tape.faults c.args.tape.now)
+    (OnlyNumbers c.args.trace.now c.member_line.new.trace) (g.L.Tape.faults c.args.tape.now)
     (g.L.Tape.faults c.member_line.new.tape)) (sym (ap atom_in c.in-In.is)) c.member_line.ensures
 
 pub returns-in_ok-conjunction_line-in-And : goal.returns-in_ok-conjunction_line-in-And
@@ -31,7 +31,7 @@ returns-in_ok-conjunction_line-in-And g c = record {
       plain-line asked before c.args.arena.now memo c.args.trace.now _ _ (and_atom c.as_slice.result.now)
       (g.L.Tape.told c.args.tape.now) (ap atom_in c.in-And.is ∙ ap and_atom (sym c.as_slice.ensures))
       c.in_ok-conjunction_line-in-And.ensures refl (λ known. refl) tracks;
-  rest = stays_same c.args.trace.now;
+  rest = only_numbers_same c.args.trace.now;
   counts = refl;
 }
 
@@ -40,11 +40,11 @@ returns-in-Iff g c = record {
   ok = λ asked memo before tracks.
       plain-line asked before c.args.arena.now memo c.args.trace.now _ _ (iff_atom c.in-Iff.one c.in-Iff.other)
       (g.L.Tape.told c.args.tape.now) (ap atom_in c.in-Iff.is) c.equivalence_line.ensures refl (λ known. refl) tracks;
-  rest = stays_same c.args.trace.now;
+  rest = only_numbers_same c.args.trace.now;
   counts = refl;
 }
 
 pub returns-in_err-conjunction_line-in-And : goal.returns-in_err-conjunction_line-in-And
 returns-in_err-conjunction_line-in-And g c =
     let x = c.from_residual in
-    called-none _ x.result _ _ x.ensures.0 x.ensures.1 refl (stays_same c.args.trace.now)
+    called-none _ x.result _ _ x.ensures.0 x.ensures.1 refl (only_numbers_same c.args.trace.now)

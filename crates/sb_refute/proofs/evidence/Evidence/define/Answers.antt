@@ -1,4 +1,4 @@
-use Rattle.sb_refute.proofs.Words.{◌≡◌, take, refl, subst, on_ok_weaker, Memo, Asked, StaysNumbered, Backing, backing_of, AreDue, Called, Leads}
+use Rattle.sb_refute.proofs.Words.{◌≡◌, take, refl, subst, on_ok_weaker, Memo, Asked, OnlyNumbers, Backing, backing_of, AreDue, Called, Leads}
 use Rattle.sb_refute.proofs.evidence.Evidence.define.Goals as goal
 
 pub returns : goal.returns
@@ -9,7 +9,7 @@ returns g c =
     (λ _. (asked : Asked) (memo : Memo) → AreDue asked c.args.known e.atoms
     → Leads asked c.args.arena.now memo (record e { atoms = take c.args.known e.atoms }) now
     (g.L.Tape.told c.args.tape.now) (g.L.Tape.told c.define_atoms.new.tape))
-    (StaysNumbered e.trace now.trace × (now ≡ record e { trace = now.trace })) (g.L.Tape.faults c.args.tape.now)
+    (OnlyNumbers e.trace now.trace × (now ≡ record e { trace = now.trace })) (g.L.Tape.faults c.args.tape.now)
     (g.L.Tape.faults c.define_atoms.new.tape)) c.self.view_is
     (record {
       ok = on_ok_weaker c.define_atoms.result (λ put asked memo due. put asked memo v due) c.define_atoms.ensures.ok;

@@ -1,4 +1,4 @@
-use Rattle.sb_refute.proofs.Words.{ℕ, ap, refl, sym, subst, take, IfSome, List, length, ◌<◌, ◌∙◌, IfOk-weaker, AtomOver, atoms_in, CountsTapeFault, StaysNumbered, Backing, IsAssertion}
+use Rattle.sb_refute.proofs.Words.{ℕ, ap, refl, sym, subst, take, IfSome, List, length, ◌<◌, ◌∙◌, IfOk-weaker, AtomOver, atoms_in, CountsTapeFault, OnlyNumbers, Backing, IsAssertion}
 use Rattle.sb_refute.proofs.Asserting.{claimed-after, leads-both}
 use Rattle.sb_refute.proofs.Exits.{called-on}
 use Rattle.sb_refute.proofs.evidence.Evidence.lines.Goals as goal
@@ -39,7 +39,7 @@ returns g c =
           ))
           c.stated.ensures.ok;
       rest = (
-        subst (StaysNumbered e.trace) (sym trace) c.define.ensures.rest.0,
+        subst (OnlyNumbers e.trace) (sym trace) c.define.ensures.rest.0,
         ap (λ (f : Backing). f.atoms) c.stated.ensures.rest ∙ atoms,
       );
       counts = subst (λ old. CountsTapeFault c.stated.result old (g.L.Tape.faults c.stated.new.tape))
@@ -60,6 +60,6 @@ returns-in_err-put_gates g c =
     let second = c.put_gates.ensures.rest in
     called-on (Unit {0}) _ x.result _ _ _ _ x.ensures.0 x.ensures.1 c.in_ok-define.ensures.counts
     c.in_err-put_gates.ensures.counts (
-      subst (StaysNumbered c.args.self.now.trace) (sym (ap (λ (f : Backing). f.trace) second)) first.0,
+      subst (OnlyNumbers c.args.self.now.trace) (sym (ap (λ (f : Backing). f.trace) second)) first.0,
       ap (λ (f : Backing). f.atoms) second ∙ ap (λ (f : Backing). f.atoms) first.1,
     )

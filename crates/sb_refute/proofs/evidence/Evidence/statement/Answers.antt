@@ -1,5 +1,5 @@
 use Rattle.sb_store.proofs.CallerLemmas.{termed}
-use Rattle.sb_refute.proofs.Words.{◌≡◌, length, ℕ, Some, IfSome, List, option_map, refl, sym, ap, subst, ◌∙◌, IfOk-weaker, IfOk-from_err, err_from_is_err_and, AtomOver, atoms_in, Extends, HaveRegexesBelow, brought_translation, StaysNumbered, stays_same, counts_none, Asserted, Backing, Backs, HasGates, asserted_at, backing_of, term_at}
+use Rattle.sb_refute.proofs.Words.{◌≡◌, length, ℕ, Some, IfSome, List, option_map, refl, sym, ap, subst, ◌∙◌, IfOk-weaker, IfOk-from_err, err_from_is_err_and, AtomOver, atoms_in, Extends, HaveRegexesBelow, brought_translation, OnlyNumbers, only_numbers_same, counts_none, Asserted, Backing, Backs, HasGates, asserted_at, backing_of, term_at}
 use Rattle.sb_refute.proofs.Backs.{backs-grown}
 use Rattle.sb_refute.proofs.Holding.{stand-atoms}
 use Rattle.sb_refute.proofs.Asserting.{due-stated, is-statement}
@@ -70,7 +70,7 @@ returns g c =
       others = IfOk-weaker r _ _
           (λ found h other apart.
           h.0.others other apart ∙ ap (λ (e : Backing). asserted_at e.asserted other) c.self.view_is) ok;
-      numbers_stay = subst (λ (e : Backing). StaysNumbered e.trace c.lines.new.self.trace) c.self.view_is
+      only = subst (λ (e : Backing). OnlyNumbers e.trace c.lines.new.self.trace) c.self.view_is
           c.lines.ensures.rest.0;
       extends = subst (Extends old.atoms) (sym same)
           (subst (λ (e : Backing). Extends e.atoms atoms) c.self.view_is c.translate.ensures.extends);
@@ -94,8 +94,8 @@ returns-in_err-found g c =
       gates = IfOk-from_err x.result _ x.ensures.0;
       stays = IfOk-from_err x.result _ x.ensures.0;
       others = IfOk-from_err x.result _ x.ensures.0;
-      numbers_stay = subst (λ (f : Backing). StaysNumbered f.trace c.self.inside.parts.trace) c.self.view_is
-          (stays_same c.self.inside.parts.trace);
+      only = subst (λ (f : Backing). OnlyNumbers f.trace c.self.inside.parts.trace) c.self.view_is
+          (only_numbers_same c.self.inside.parts.trace);
       extends = subst (λ (f : Backing). Extends f.atoms c.translate.new.self) c.self.view_is
           c.translate.ensures.extends;
       regexes = c.translate.ensures.regexes;
