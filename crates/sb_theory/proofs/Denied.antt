@@ -1,6 +1,6 @@
 -- A few literals of one constant that clash, and their clause: it is false on the trail, new, true whatever the values
 -- are, and its lines follow.
-use Rattle.sb_theory.proofs.Words.{[], if◌then◌else◌, inl, inr, ◌+◌, ◌||◌, ◌∙◌, ◌∷◌, ◌≡◌, ◌≤◌, Bool, List, None, Option, ap, arith, eqb, false, filter, get_or, length, map, not, refl, subst, suc, sym, take, true, zero, ℕ, AllKept, Answers, AreAbout, AreFew, AreFewer, AreSingle, Assigned, AtomOver, Checked, Fine, Frame, Grows, HaveAtoms, Holds, IsDenied, IsPaid, IsPermutation, IsTaught, IsValid, Kept, Lemma, Lit, MkandKeepsLanguage, Regex, Spending, Spent, Stands, Strings, Writes, all_among, all_from_among, and_from, and_parts, are_atoms, asked_by, asked_by_all, atoms_in, count_cons, denied_all, eq-eqb, false≢true, have_more, held, is_about, is_among, is_atom, is_denial, is_false_clause, is_false_under, is_of_wanted, is_same_literal, is_same_literal-true, kept_behind, list_all, list_permuted, literals_about, negation, negation_twice, one_if, or_cases, row_at, same_Some, slice_get_within, wanted_on, written, lt-ltb, get_or_default, All-filter, filter_passes, sum_by-filter_both, list_all-map, AllPass-from_list_all, list_all-from_AllPass, sum_by-take-le, count_by, cond_none, AreDistinct, entry_of, HasNoneFalse, nothing_kept, Ascend, HasNoSubset, AreEmpty, EmptyHolds, EmptyIsExact, HasNone, Denying, IsDenial, Sofar, Ticks, sofar, with_denial, IsFair}
+use Rattle.sb_theory.proofs.Words.{[], if◌then◌else◌, inl, inr, ◌+◌, ◌||◌, ◌∙◌, ◌∷◌, ◌≡◌, ◌≤◌, Bool, List, None, Option, ap, arith, eqb, false, filter, get_or, length, map, not, refl, subst, suc, sym, take, true, zero, ℕ, AllKept, Answers, AreAbout, AreFew, AreFewer, AreSingle, Assigned, AtomOver, Checked, ExpandsDenied, Fine, Frame, Grows, HaveAtoms, Holds, IsDenied, IsPaid, IsPermutation, IsTaught, IsValid, Kept, Lemma, Lit, MkandKeepsLanguage, Regex, Spending, Spent, Stands, Strings, Writes, all_among, all_from_among, and_from, and_parts, are_atoms, asked_by, asked_by_all, atoms_in, count_cons, denied_all, eq-eqb, false≢true, have_more, held, is_about, is_among, is_atom, is_denial, is_false_clause, is_false_under, is_of_wanted, is_same_literal, is_same_literal-true, kept_behind, list_all, list_permuted, literals_about, negation, negation_twice, one_if, or_cases, row_at, same_Some, slice_get_within, wanted_on, written, lt-ltb, get_or_default, All-filter, filter_passes, sum_by-filter_both, list_all-map, AllPass-from_list_all, list_all-from_AllPass, sum_by-take-le, count_by, cond_none, AreDistinct, entry_of, HasNoneFalse, nothing_kept, Ascend, HasNoSubset, AreEmpty, EmptyHolds, EmptyIsExact, HasNone, Denying, IsDenial, Sofar, Ticks, sofar, with_denial, IsFair}
 use Rattle.sb_theory.proofs.Moving.{atoms_stay, taught_grows}
 use Rattle.sb_theory.proofs.Rows.{all_about, row_passes}
 
@@ -246,15 +246,16 @@ sofar_of x budget told = sofar x.store.arena x.store.graph x.trace budget told
 
 writes_answer : {x y : Strings} (kept : Kept) (clause : List Lit) (done : Bool) (before after : Spending)
     (old new : Option (List ℕ)) → Grows x y → are_atoms x.atoms clause ≡ true → HasNoSubset kept clause
-    → (x.proves ≡ false → y.trace ≡ x.trace)
+    → (x.proves ≡ false → y.trace ≡ x.trace) → ExpandsDenied y.store.arena x.atoms x.trace y.trace
     → (x.proves ≡ true → Denying (sofar_of x before old) (sofar_of y after new) x.atoms clause done)
     → Writes x y (written kept before old) (written (kept_behind kept (answer_of done clause)) after new)
-writes_answer {x} {y} kept clause done before after old new g known fresh silent puts = record {
+writes_answer {x} {y} kept clause done before after old new g known fresh silent only puts = record {
   atoms = atoms_stay g;
   proves = ap (λ (f : Frame). f.proves) g.frame;
   store = g.store;
   known = have_behind kept clause done g known;
   silent = silent;
+  only = only;
   lines = λ on asked k b.
       let d = puts on asked k b.tracks b.atoms (subst (λ (ks : Kept). HasNoSubset ks clause) (sym b.clauses) fresh)
       b.counted in (
@@ -275,10 +276,11 @@ pub answers_denied : EmptyHolds → EmptyIsExact → {x y : Strings} {entries : 
     (constant : ℕ) (clause : List Lit) (done : Bool) (answer : Checked) (old new : Option (List ℕ))
     → answer ≡ answer_of done clause → IsDenied x entries constant clause → Grows x y → Stands y entries
     → Ticks before after done → (x.proves ≡ false → y.trace ≡ x.trace)
+    → ExpandsDenied y.store.arena x.atoms x.trace y.trace
     → (x.proves ≡ true → Denying (sofar_of x before old) (sofar_of y after new) x.atoms clause done)
     → Answers x y entries before after old new answer
 answers_denied holds exact {x} {y} {entries} {before} {after} constant clause done answer old new is d g stands ticks
-    silent puts =
+    silent only puts =
     subst (λ (a : Checked). Answers x y entries before after old new a) (sym is) (record {
       stands = stands;
       agrees = λ fine. absurd (never_fine clause done fine);
@@ -287,5 +289,5 @@ answers_denied holds exact {x} {y} {entries} {before} {after} constant clause do
       paid = paid_answer clause done ticks;
       writes = λ kept none_false.
           writes_answer kept clause done before after old new g (about_atoms x.atoms constant clause d.denial.about)
-          (no_subset kept (held entries) clause none_false d.is_false) silent puts;
+          (no_subset kept (held entries) clause none_false d.is_false) silent only puts;
     })

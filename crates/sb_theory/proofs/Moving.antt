@@ -6,7 +6,7 @@ use Rattle.sb_theory.proofs.Rows.{row_about}
 -- The store where regexes were explored.
 pub store_explored : ArenaGrows → (x : Store) (rs : List Regex) (g : Findings) → Explores x.arena rs x.graph g
     → RegexesGrow x (record x { arena = rs; graph = g })
-store_explored grow x rs g e = explored grow x rs g e.extends e.graph e.derivatives
+store_explored grow x rs g e = explored grow x rs g e.extends e.graph e.derivatives e.marks
 
 -- Where the store grows,
 
@@ -28,8 +28,8 @@ pub holds_grown : {x y : Strings} → RegexesGrow x.store y.store → y ≡ reco
 holds_grown {x} {y} g is h =
     subst Holds (sym is) (record {
       store = g.right h.store;
-      regexes = regexes_kept x.store.arena y.store.arena x.atoms g.extends h.regexes;
-      rows = rows_grown g.extends h.regexes h.rows;
+      regexes = regexes_kept x.store.arena y.store.arena x.atoms g.more.extends h.regexes;
+      rows = rows_grown g.more.extends h.regexes h.rows;
     })
 
 pub grows_both : {x y z : Strings} → Grows x y → Grows y z → Grows x z
@@ -57,7 +57,7 @@ pub rows_stay : {x y : Strings} → Looks x y → y.members.items ≡ x.members.
 rows_stay l = ap (λ (t : Intake). t.rows) l.intake
 
 pub table_stays : {x y : Strings} → Grows x y → atoms_in y.store.arena x.atoms ≡ atoms_in x.store.arena x.atoms
-table_stays {x} {y} g = atoms_kept x.store.arena y.store.arena x.atoms g.store.extends g.below
+table_stays {x} {y} g = atoms_kept x.store.arena y.store.arena x.atoms g.store.more.extends g.below
 
 pub taught_grows : {x y : Strings} → Grows x y → (clause : List Lit)
     → IsTaught x.store.arena x.atoms x.wanted clause → IsTaught y.store.arena y.atoms y.wanted clause
@@ -89,7 +89,7 @@ clash_looked {x} {y} constant h looks clash =
     (sym (atoms_stay looks.keeps.grows))
     (subst (λ (rows : List (List Lit)). AreClashing y.store.arena x.atoms (row_at rows constant))
     (sym (rows_stay looks)) (clash_grown x.store.arena y.store.arena x.atoms constant
-    (row_at x.members.items constant) looks.keeps.grows.store.extends h.regexes
+    (row_at x.members.items constant) looks.keeps.grows.store.more.extends h.regexes
     (row_about x.atoms constant x.members.items (wanted_on x.wanted x.taken.items) h.rows.members) clash))
 
 -- where the whole row was asked for

@@ -42,9 +42,9 @@ pub use Rattle.sb_graph.specs.Witness.{IsFinding}
 pub use Rattle.sb_graph.specs.declared.graph.Explored.{Explored}
 pub use Rattle.sb_trace.proofs.CallerLemmas.{counts_none, counts_on, spent_none}
 pub use Rattle.sb_trace.specs.Putting.{CountsTapeFault}
-pub use Rattle.sb_clash.proofs.CallerLemmas.{clash_grown, count_cons, denied_all, in_all, is_denial, list_permuted, one_if, regex_below}
+pub use Rattle.sb_clash.proofs.CallerLemmas.{clash_grown, count_cons, denied_all, expands_none, expands_one, in_all, is_denial, list_permuted, one_if, regex_below}
 pub use Rattle.sb_clash.specs.Asked.{Explores}
-pub use Rattle.sb_clash.specs.Denials.{Denying, IsDenial, Sofar, Ticks, sofar, with_denial}
+pub use Rattle.sb_clash.specs.Denials.{Denying, ExpandsDenied, IsDenial, Sofar, Ticks, sofar, with_denial}
 pub use Rattle.sb_clash.specs.Literals.{AreAbout, AreClashing, AreFewer, AreSingle, IsAbout, asked_by, asked_by_all, number_in}
 pub use Rattle.sb_theory.specs.Fronts.{AreFitting, AreRows, IsNoted, IsSet, IsWhole, Rises, is_front_true, is_in, number_at}
 pub use Rattle.sb_theory.specs.Laws.{have_more, writes_both, writes_grown}

@@ -17,6 +17,8 @@ use Rattle.sb_rulebook.specs.LineLaws.{has_text}
 use Rattle.sb_store.proofs.CallerLemmas.{regexes_same, regexes_both}
 use Rattle.sb_trace.proofs.CallerLemmas.{puts_none, puts_one, puts_both, tracks_grow}
 pub use Rattle.sb_clash.proofs.CallerLemmas.{tracks_kept}
+use Rattle.sb_clash.proofs.CallerLemmas.{expands_none, expands_both}
+use Rattle.sb_clash.specs.Denials.{ExpandsDenied}
 use Rattle.sb_search.specs.Asking.{AreKnown}
 use Rattle.sb_theory.specs.declared.strings.Strings.{Strings}
 use Rattle.sb_theory.specs.Memberships.{is_atom, are_atoms, HaveAtoms}
@@ -38,6 +40,8 @@ writes_both x y z before between after p q = record {
   store = regexes_both x.store y.store z.store p.store q.store;
   known = λ h. q.known (p.known h);
   silent = λ off. q.silent (p.proves ∙ off) ∙ p.silent off;
+  only = expands_both y.store.arena z.store.arena x.atoms x.trace y.trace z.trace q.store.more.extends p.only
+      (subst (λ (ts : List (AtomOver ℕ)). ExpandsDenied z.store.arena ts y.trace z.trace) p.atoms q.only);
   lines = λ on asked kept backs.
       let first = p.lines on asked kept backs in
       let second = q.lines (p.proves ∙ on) asked first.0 first.2 in (
@@ -57,13 +61,14 @@ writes_grown x y proof atoms proves trace table g = record {
   store = g;
   known = λ h. subst (λ (ts : List (AtomOver ℕ)). HaveAtoms ts proof.kept) (sym atoms) h;
   silent = λ off. trace;
+  only = expands_none y.store.arena x.atoms x.trace y.trace trace;
   lines = λ on asked kept b. (
     kept,
     puts_none asked kept proof.told,
     record {
       tracks = subst (λ (t : Traced). Tracks y.store.arena y.store.graph.memo t kept) (sym trace)
-          (tracks_grow x.store.arena y.store.arena x.store.graph.memo y.store.graph.memo x.trace kept g.extends
-          g.derivatives b.tracks);
+          (tracks_grow x.store.arena y.store.arena x.store.graph.memo y.store.graph.memo x.trace kept g.more.extends
+          g.more.derivatives b.tracks);
       atoms = b.atoms ∙ sym table ∙ ap (atoms_in y.store.arena) (sym atoms);
       clauses = b.clauses;
       known = subst (λ (ts : List (AtomOver ℕ)). HaveAtoms ts proof.kept) (sym atoms) b.known;
@@ -133,6 +138,7 @@ writes_learned x proof clause hints level lesson all text room =
       store = regexes_same x.store;
       known = λ h. have_more x.atoms proof.kept clause level h new;
       silent = λ off. refl;
+      only = expands_none x.store.arena x.atoms x.trace x.trace refl;
       lines = λ on asked kept b.
           let known = are_known_in x.store.arena x.atoms kept.atoms clause b.atoms new in
           let accepted = ap (λ (ks : Kept). learned ks clause hints) b.clauses ∙ lesson.accepted in
@@ -186,6 +192,7 @@ writes_gate x proof atom there text = record {
   store = regexes_same x.store;
   known = λ h. have_more x.atoms proof.kept (true_or_false atom) 0 h (both_known x.atoms atom there);
   silent = λ off. refl;
+  only = expands_none x.store.arena x.atoms x.trace x.trace refl;
   lines = λ on asked kept b.
       let new = both_known x.atoms atom there in
       let known = are_known_in x.store.arena x.atoms kept.atoms (true_or_false atom) b.atoms new in

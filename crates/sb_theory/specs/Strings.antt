@@ -7,7 +7,7 @@ use Rattle.sb_clauses.specs.Propagation.{HasNoneFalse}
 use Rattle.sb_proof.specs.declared.tape.TapeFault.{TapeFault}
 use Rattle.sb_trace.specs.Putting.{Puts, IsCounted, CountsTapeFault, SpendsWithin}
 use Rattle.sb_clash.specs.Literals.{AreClashing, AreFewer}
-use Rattle.sb_clash.specs.Denials.{IsDenial}
+use Rattle.sb_clash.specs.Denials.{ExpandsDenied, IsDenial}
 use Rattle.sb_search.specs.Asking.{IsFair}
 use Rattle.sb_search.specs.declared.theory.Checked.{Checked}
 use Rattle.sb_theory.specs.declared.strings.Strings.{Strings}
@@ -118,13 +118,15 @@ pub record Backs (asked : Asked) (x : Strings) (kept : AllKept) (proof : Written
   pub counted : IsCounted asked kept proof.budget
 
 -- Where lines are put, those between the one proof and the other follow; where none are, what stands of regexes in the
--- proof stays. Atoms stay, and so does what is known of regexes. New clauses have known atoms.
+-- proof stays. Atoms stay, and so does what is known of regexes. New clauses have known atoms, and no regex is expanded
+-- to which no word leads from what some clause denies.
 pub record Writes (x y : Strings) (before after : Written) : Type 0 where
   pub atoms : y.atoms ≡ x.atoms
   pub proves : y.proves ≡ x.proves
   pub store : RegexesGrow x.store y.store
   pub known : HaveAtoms x.atoms before.kept → HaveAtoms y.atoms after.kept
   pub silent : x.proves ≡ false → y.trace ≡ x.trace
+  pub only : ExpandsDenied y.store.arena x.atoms x.trace y.trace
   pub lines : x.proves ≡ true → (asked : Asked) (kept : AllKept) → Backs asked x kept before
       → (more : AllKept) × Puts asked kept more before.told after.told × Backs asked y more after
 

@@ -41,7 +41,7 @@ returns c =
     let e = c.in_ok-matches.ensures in
     record {
       rows = on_ok_weaker c.put_member-2.result
-          (λ added ls h. rows_grown e.grows.extends c.requires.regexes
+          (λ added ls h. rows_grown e.grows.more.extends c.requires.regexes
           (rows_noted c.args.wanted.now c.put_member-2.new.rows.items c.note_next.new.fitting.items
           c.note_next.new.changed c.args.literal x (length c.row_of-long.result.now) c.in_ok-matches.matches some.some
           some.wanted (ap length (c.row_of-long.ensures

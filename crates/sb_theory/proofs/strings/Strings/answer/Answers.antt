@@ -1,4 +1,4 @@
-use Rattle.sb_theory.proofs.Words.{◌∙◌, Bool, refl, sym, IfOk-from_err, counts_on, err_from_is_err_and, false≢true}
+use Rattle.sb_theory.proofs.Words.{◌∙◌, Bool, refl, sym, IfOk-from_err, counts_on, err_from_is_err_and, expands_none, expands_one, false≢true}
 use Rattle.sb_theory.proofs.Denied.{answers_denied}
 use Rattle.sb_theory.proofs.Moving.{holds_grown, looks_none, stands_looked, store_explored}
 use Rattle.sb_theory.proofs.strings.Strings.answer.Goals as goal
@@ -11,7 +11,8 @@ returns-then-not-self g c =
       answers = answers_denied c.empty_holds.ensures c.empty_is_exact.ensures c.args.serial.0 c.args.clause
           c.tick-done.result c.answered.result (g.L.Tape.told c.args.tape.now) (g.L.Tape.told c.args.tape.now)
           c.answered.ensures c.requires.denied looks.keeps.grows c.requires.stands c.tick-done.ensures.ticks
-          (λ off. refl) (λ on. absurd (false≢true (sym c.if-not-self.true ∙ on)));
+          (λ off. refl) (expands_none x.store.arena x.atoms x.trace x.trace refl)
+          (λ on. absurd (false≢true (sym c.if-not-self.true ∙ on)));
       grows = looks.keeps.grows;
       steps = c.tick-done.ensures.steps;
       counts = refl;
@@ -45,7 +46,9 @@ returns g c =
           c.in_ok-done.done c.answered-2.result (g.L.Tape.told c.args.tape.now) (g.L.Tape.told c.put_denial.new.tape)
           c.answered-2.ensures c.requires.denied (record { frame = refl; below = h.regexes; store = grows })
           (stands_looked (holds_grown grows refl h) refl c.requires.stands) e.ticks
-          (λ off. absurd (false≢true (sym off ∙ c.if-not-self.false))) (λ on. e.puts);
+          (λ off. absurd (false≢true (sym off ∙ c.if-not-self.false)))
+          (expands_one x.store.arena c.put_denial.new.arena x.atoms x.trace c.put_denial.new.trace c.args.serial.0
+          c.args.clause grows.more.extends h.regexes c.requires.denied.denial e.only) (λ on. e.puts);
       grows = record { frame = refl; below = h.regexes; store = grows };
       steps = e.steps;
       counts = e.counts;

@@ -60,11 +60,11 @@ returns-in_ok-put_number-in-Alive c =
       ok = record {
         holds = record {
           store = grows.right h.store;
-          regexes = regexes_kept x.store.arena rs x.atoms grows.extends h.regexes;
+          regexes = regexes_kept x.store.arena rs x.atoms grows.more.extends h.regexes;
           rows = rows_put c.mkand_keeps_language.ensures c.mknot_keeps_language.ensures c.put_word.new.words.items
               c.put_number.new.numbers.items c.front_of.result.now n c.args.long c.in-Alive.word
               c.in_ok-put_word-in-Alive.ensures set c.requires.more c.requires.within row found
-              (rows_grown grows.extends h.regexes h.rows);
+              (rows_grown grows.more.extends h.regexes h.rows);
         };
         fits = λ alive. put_at (number_at c.put_number.new.numbers.items) (number_at x.fitting.items) (λ y. c.args.long) n
             set;

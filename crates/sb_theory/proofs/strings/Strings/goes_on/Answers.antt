@@ -40,8 +40,8 @@ returns-then-matches c =
       ok = record {
         holds = record {
           store = e.grows.right h.store;
-          regexes = regexes_kept x.store.arena c.fits.new.store.arena x.atoms e.grows.extends h.regexes;
-          rows = rows_grown e.grows.extends h.regexes
+          regexes = regexes_kept x.store.arena c.fits.new.store.arena x.atoms e.grows.more.extends h.regexes;
+          rows = rows_grown e.grows.more.extends h.regexes
               (rows_next c.put_number.new.numbers.items n c.args.long c.literal_at-literal.result set c.requires.next
               c.requires.within
               (c.literal_at-literal.ensures

@@ -35,7 +35,7 @@ returns c =
             pushed
             (record {
               store = took.grows.right h.store;
-              regexes = regexes_kept x.store.arena c.take_literal.new.store.arena x.atoms took.grows.extends h.regexes;
+              regexes = regexes_kept x.store.arena c.take_literal.new.store.arena x.atoms took.grows.more.extends h.regexes;
               rows = rows_taken x.words.items c.deref.result.now (wanted_of x.wanted (c.literal.result ∷ []))
                   c.deref.ensures.value
                   (wanted_push x.wanted x.taken.items c.push.new.self.items e c.literal.result pushed c.literal.ensures)
