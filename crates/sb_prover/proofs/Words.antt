@@ -70,6 +70,8 @@ pub use Rattle.sb_stack.specs.Speaking.{speaks_of}
 pub use Rattle.sb_stack.specs.Stacked.{Stacked, are_words, assertion_in, live_constants, live_in, state_of, value_at, values_at, without_words}
 pub use Rattle.sb_stack.specs.Steps.{IsStep, found, leaving_in, verdict_in}
 pub use Rattle.sb_stack.specs.declared.stack.Step.{Step}
+pub use Rattle.sb_store.proofs.CallerLemmas.{more_same}
+pub use Rattle.sb_store.specs.Stores.{KnowsMore}
 pub use Rattle.sb_store.specs.declared.store.Store.{Store}
 pub use Rattle.sb_trace.proofs.CallerLemmas.{counts_none, counts_on, puts_none}
 pub use Rattle.sb_trace.specs.Putting.{CountsTapeFault, IsCounted, Puts, follow_all}

@@ -15,6 +15,7 @@ ghost use Rattle.sb_proof.specs.Tapes.{with_bytes};
 ghost use Rattle.sb_stack.specs.Stacked.{Stacked, state_of, live_constants, without_words};
 ghost use Rattle.sb_stack.specs.Steps.{verdict_in, found};
 ghost use Rattle.sb_atoms.specs.Numbered.{HaveRegexesBelow};
+ghost use Rattle.sb_store.specs.Stores.{KnowsMore};
 ghost use Rattle.sb_trace.specs.Putting.{IsCounted, CountsTapeFault};
 ghost use Rattle.sb_refute.specs.Backing.{Backs, Evidences};
 ghost use Rattle.sb_sound.specs.SoundLaws.{AreTerms};
@@ -94,6 +95,7 @@ impl Prover {
         ensures spent { IfOk result (λ v. HasSpent budget.new v) }
         ensures regexes { OnOk result (HaveRegexesBelow (length decider.new.store.arena) self.new.evidence.atoms) }
         ensures knows { IfOk result (λ v. Knows decider.new (found v stack.new)) }
+        ensures store { OnOk result (KnowsMore decider.old.store decider.new.store) }
         ensures rest { without_words stack.new ≡ without_words stack.old }
         ensures levels { OnOk result (HaveLevels (asked_in (state_of stack.old)).live self.old.evidence
             → HaveLevels (asked_in (state_of stack.old)).live self.new.evidence) }
@@ -139,6 +141,7 @@ impl Prover {
             (L.Tape.told tape.old) (L.Tape.told tape.new)) }
         ensures spent { IfOk result (λ r. HasSpent budget.new (verdict_of r)) }
         ensures knows { IfOk result (λ r. Knows decider.new (found (verdict_of r) stack.new)) }
+        ensures store { OnOk result (KnowsMore decider.old.store decider.new.store) }
         ensures rest { without_words stack.new ≡ without_words stack.old }
         ensures sound { OnOk result (IsTrue (asked_in (state_of stack.old)) decider.new.store.arena
             decider.new.store.graph.memo self.new.evidence) }
@@ -205,6 +208,7 @@ fn searched<L: Tape>(
         decider.new.store.graph.memo evidence.new) }
     ensures limit { OnOk result (budget.new.limit ≡ budget.old.limit) }
     ensures knows { OnOk result (Knows decider.new stack.now) }
+    ensures store { OnOk result (KnowsMore decider.old.store decider.new.store) }
     ensures regexes { OnOk result (HaveRegexesBelow (length decider.new.store.arena) evidence.new.atoms) }
     ensures levels { OnOk result (HaveLevels (asked_in (state_of stack.now)).live evidence.old
         → HaveLevels (asked_in (state_of stack.now)).live evidence.new) }

@@ -8,6 +8,7 @@ ghost use Rattle.sb_script.specs.Verdicts.{FindsUnproved};
 ghost use Rattle.sb_rulebook.specs.Judging.{Progress, beginning};
 ghost use Rattle.sb_stack.specs.Stacked.{state_of, live_constants, without_words};
 ghost use Rattle.sb_stack.specs.Steps.{IsEntry, entry_of, verdict_in, found};
+ghost use Rattle.sb_store.specs.Stores.{KnowsMore};
 ghost use Rattle.sb_decide.specs.Ready.{IsDecided};
 ghost use Rattle.sb_decide.specs.Laws.{LeavesKnown};
 ghost use Rattle.sb_session.specs.Commanding.{SessionState, Goes, Fails, AnswersEntry, CutOrNot, CutOf, IsTracked, proof_of, is_proved, is_exited, went_of, CountsSessionFault, CountsStop};
@@ -169,6 +170,7 @@ impl Session {
             (λ went. Goes went (entry_of entry.now) self.old self.new (W.outside world.old) (W.outside world.new)) }
         ensures err { IfErr result
             (λ fault. Fails fault (entry_of entry.now) self.old self.new (W.outside world.old) (W.outside world.new)) }
+        ensures store { OnOk result (KnowsMore self.old.store self.new.store) }
         ensures faults { CountsSessionFault result (W.faults world.old) (W.faults world.new) }
     {
         if self.ended {
@@ -184,6 +186,7 @@ impl Session {
         requires goes_on { self.old.ended ≡ false }
         ensures ok { IfOk result
             (λ went. Goes went (entry_of entry.now) self.old self.new (W.outside world.old) (W.outside world.new)) }
+        ensures store { OnOk result (KnowsMore self.old.store self.new.store) }
         ensures err { OnErr result
             (CutOrNot (entry_of entry.now) self.old (W.outside world.old) (W.outside world.new)) }
         ensures ended { OnErr result (self.new.ended ≡ true) }
@@ -269,6 +272,7 @@ fn answer_entry<W: World>(
     ensures ok { IfOk result (λ went. (went ≡ went_of (entry_of entry.now))
         × AnswersEntry (entry_of entry.now) (session_of stack.old decider.old (proof_of proved prover.old))
         (session_of stack.new decider.new (proof_of proved prover.new)) (W.outside world.old) (W.outside world.new)) }
+    ensures store { OnOk result (KnowsMore decider.old.store decider.new.store) }
     ensures err { OnErr result (CutOrNot (entry_of entry.now)
         (session_of stack.old decider.old (proof_of proved prover.old)) (W.outside world.old) (W.outside world.new)) }
     ensures spent { IfErr result (λ stop. stop ≡ Stop.Spent → proved ≡ false) }
@@ -340,6 +344,7 @@ fn answer_check<W: World>(
 ) -> Result<(), Stop>
     requires held { Holds stack.old decider.old prover.old }
     ensures held { OnOk result (Holds stack.new decider.new prover.new) }
+    ensures store { OnOk result (KnowsMore decider.old.store decider.new.store) }
     ensures ok { OnOk result
         ((p : Progress) → IsTracked (session_of stack.old decider.old (proof_of proved prover.old)) p
         → AnswersCheck p (session_of stack.old decider.old (proof_of proved prover.old))
@@ -375,6 +380,7 @@ fn find_verdict<W: World>(
     requires held { Holds stack.old decider.old prover.old }
     requires decided { IsDecided decider.old stack.old decided }
     ensures held { IfOk result (λ v. Holds (found v stack.new) decider.new prover.new) }
+    ensures store { OnOk result (KnowsMore decider.old.store decider.new.store) }
     ensures rest { without_words stack.new ≡ without_words stack.old }
     ensures ok { IfOk result
         (λ v. (p : Progress) → IsTracked (session_of stack.old decider.old (proof_of proved prover.old)) p
@@ -421,6 +427,7 @@ fn find_unproved(
     ensures held { IfOk result
         (λ answer. IfSome answer (λ v. Holds (found v stack.new) decider.new prover.new)) }
     ensures spent { IfOk result (λ answer. answer ≡ None → budget.new.spent ≡ 2 ^ 64 - 1) }
+    ensures store { OnOk result (KnowsMore decider.old.store decider.new.store) }
     ensures rest { without_words stack.new ≡ without_words stack.old }
 {
     live_are_well_sorted();

@@ -87,7 +87,7 @@ module _ (s : Stacked) (places : List ℕ) (x y z : Store) (e f k : Backing) (to
   literals_there start b =
       let behind = stated.puts start b in
       let same = ap (atoms_in z.arena) done.searched.atoms
-      ∙ atoms_kept y.arena z.arena f.atoms done.searched.store.extends stated.regexes in
+      ∙ atoms_kept y.arena z.arena f.atoms done.searched.store.more.extends stated.regexes in
       are_literals s y.arena f (atoms_in z.arena k.atoms) k.kept
       (λ place l one. (
         one.term,

@@ -34,7 +34,7 @@ stated_still : TranslationStays → (s : Stacked) (place other : ℕ) (l m : Lit
 stated_still stays s place other l m y z f g told new h was = step (nat_eq other place) refl
   where
     still : translation (atoms_in z.arena g.atoms) was.term ≡ Some l
-    still = translates_still stays y.arena z.arena f.atoms g.atoms was.term l h.store.extends h.below h.atoms
+    still = translates_still stays y.arena z.arena f.atoms g.atoms was.term l h.store.more.extends h.below h.atoms
         was.translates
 
     again : other ≡ place → IsStated s z.arena g other l

@@ -187,7 +187,7 @@ true-following asked proves x y e f before after old new off h below t = record 
   backs = record {
     tracks = tracks_kept y.arena y.graph.memo f.trace t.kept f.kept (rests_on asked.live f.kept) 0
         (subst (λ (traced : Traced). Tracks y.arena y.graph.memo traced t.kept) (sym (h.silent off))
-        (tracks_grow x.arena y.arena x.graph.memo y.graph.memo e.trace t.kept h.store.extends h.store.derivatives
+        (tracks_grow x.arena y.arena x.graph.memo y.graph.memo e.trace t.kept h.store.more.extends h.store.more.derivatives
         t.backs.tracks));
     atoms = table ∙ ap (atoms_in y.arena) (sym h.atoms);
     clauses = refl;
@@ -202,7 +202,7 @@ true-following asked proves x y e f before after old new off h below t = record 
 }
   where
     table : t.kept.atoms ≡ atoms_in y.arena e.atoms
-    table = t.backs.atoms ∙ sym (atoms_kept x.arena y.arena e.atoms h.store.extends below)
+    table = t.backs.atoms ∙ sym (atoms_kept x.arena y.arena e.atoms h.store.more.extends below)
 
     at_first : AreEntailed asked (atoms_in y.arena e.atoms) e.kept
     at_first = subst (λ (kept : Kept). AreEntailed asked (atoms_in y.arena e.atoms) kept) t.backs.clauses

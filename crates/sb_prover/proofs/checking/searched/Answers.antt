@@ -1,4 +1,4 @@
-use Rattle.sb_prover.proofs.Words.{◌<◌, length, refl, subst, sym, ◌∙◌, All, AreAsked, Decider, IfOk-from_err, IsAsked, Solved, asked_in, counts_none, counts_on, eqb-true, err_from_is_err_and, puts_none, state_of}
+use Rattle.sb_prover.proofs.Words.{◌<◌, length, refl, subst, sym, ◌∙◌, All, AreAsked, Decider, IfOk-from_err, IsAsked, Solved, asked_in, counts_none, counts_on, eqb-true, err_from_is_err_and, more_same, puts_none, state_of}
 use Rattle.sb_prover.proofs.Solutions.{asked-below, levels-known, none-valued, values-found, found-by}
 use Rattle.sb_prover.proofs.checking.searched.Goals as goal
 
@@ -29,6 +29,7 @@ returns-in_err-places g c =
       sound = IfOk-from_err x.result _ x.ensures.0;
       limit = IfOk-from_err x.result _ x.ensures.0;
       knows = IfOk-from_err x.result _ x.ensures.0;
+      store = IfOk-from_err x.result _ x.ensures.0;
       regexes = IfOk-from_err x.result _ x.ensures.0;
       levels = IfOk-from_err x.result _ x.ensures.0;
       counts = counts_none x.result p.0 (g.L.Tape.faults c.args.tape.now) p.1 p.2;
@@ -57,6 +58,7 @@ returns-then-is_empty g c =
       sound = λ proves. c.requires.sound;
       limit = refl;
       knows = c.requires.knows;
+      store = more_same old.store;
       regexes = c.requires.regexes;
       levels = λ h. h;
       counts = refl;
@@ -72,6 +74,7 @@ returns-in_err-solved g c =
       sound = IfOk-from_err x.result _ x.ensures.0;
       limit = IfOk-from_err x.result _ x.ensures.0;
       knows = IfOk-from_err x.result _ x.ensures.0;
+      store = IfOk-from_err x.result _ x.ensures.0;
       regexes = IfOk-from_err x.result _ x.ensures.0;
       levels = IfOk-from_err x.result _ x.ensures.0;
       counts = counts_on Solved x.result p.0 _ _ _ p.1 p.2 c.in_err-solved.ensures.counts;
@@ -97,6 +100,7 @@ returns g c =
       sound = λ proves. e.sound proves c.requires.terms c.requires.sound;
       limit = e.limit;
       knows = c.knows_grown.ensures old x.store s e.store c.requires.knows;
+      store = e.store.more;
       regexes = e.regexes;
       levels = levels-known (asked_in (state_of s)).live before x.evidence e.levels;
       counts = e.counts;

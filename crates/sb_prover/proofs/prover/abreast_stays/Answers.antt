@@ -8,7 +8,7 @@ returns c = λ ts x y proving p grows h. record {
   first = h.first;
   format = h.format;
   counted = h.counted;
-  backs = backs-grown x.arena y.arena x.graph.memo y.graph.memo proving.evidence p.kept grows.extends grows.derivatives
+  backs = backs-grown x.arena y.arena x.graph.memo y.graph.memo proving.evidence p.kept grows.more.extends grows.more.derivatives
       h.regexes h.backs;
-  regexes = regexes_kept x.arena y.arena proving.evidence.atoms grows.extends h.regexes;
+  regexes = regexes_kept x.arena y.arena proving.evidence.atoms grows.more.extends h.regexes;
 }

@@ -12,7 +12,7 @@ returns-clause-goes_on c = λ before now x e goes t. record {
 pub returns-clause-grown : goal.returns-clause-grown
 returns-clause-grown c = λ asked ts x y e grows below t. record {
   kept = t.kept;
-  backs = backs-grown x.arena y.arena x.graph.memo y.graph.memo e t.kept grows.extends grows.derivatives below t.backs;
+  backs = backs-grown x.arena y.arena x.graph.memo y.graph.memo e t.kept grows.more.extends grows.more.derivatives below t.backs;
   sound = t.sound;
   counted = t.counted;
 }

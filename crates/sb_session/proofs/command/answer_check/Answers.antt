@@ -1,5 +1,6 @@
 use Rattle.sb_session.proofs.Words.{◌≡◌, ℕ, ◌<◌, List, length, take, refl, sym, ap, ◌∙◌, subst, inr, Holds, Stacked, asked_in, err_from_is_err_and, live_constants, proof_of, session_of, state_of, verdict_in, write_at}
 use Rattle.sb_world.specs.declared.OutPort.TheVariants.{Answers}
+use Rattle.sb_store.proofs.CallerLemmas.{more_both}
 use Rattle.sb_session.proofs.CheckLemmas.{settled_of_rest, text_of_rest, tracked_stays, check_answered, answer_cut, proof_cut, never_spent}
 use Rattle.sb_session.proofs.command.answer_check.Goals as goal
 
@@ -13,7 +14,7 @@ find_verdict-requires g c =
     record {
       held = record {
         knows = e.knows;
-        regexes = c.regexes_stay_below.ensures old.arena new.arena c.args.prover.now.evidence.atoms e.store.extends
+        regexes = c.regexes_stay_below.ensures old.arena new.arena c.args.prover.now.evidence.atoms e.store.more.extends
             h.regexes;
         levels = h.levels;
         fit = h.fit;
@@ -96,3 +97,8 @@ returns-in_err-write_all-clause-spent g c =
     let x = c.from_residual-in_err-write_all in
     let p = err_from_is_err_and x.result x.ensures.1 in
     rw p.1 (λ h. absurd (never_spent p.0 _ p.2 h))
+
+pub returns-clause-store : goal.returns-clause-store
+returns-clause-store g c =
+    more_both c.args.decider.now.store c.decide.new.self.store c.find_verdict.new.decider.store
+    c.in_ok-decided.ensures.store.more c.in_ok-verdict.ensures.store

@@ -1,5 +1,7 @@
-use Rattle.sb_session.proofs.Words.{[], ◌∷◌, true, false, refl, sym, ◌∙◌, arith, length, entry_of, err_from_is_err_and, leaving, proof_of, session_of, state_of, step_of}
+use Rattle.sb_session.proofs.Words.{[], ◌∷◌, true, false, refl, sym, ◌∙◌, arith, length, entry_of, err_from_is_err_and, leaving, proof_of, session_of, state_of, step_of, subst}
 use Rattle.sb_stack.specs.declared.stack.Step.TheVariants as code
+use Rattle.sb_store.proofs.CallerLemmas.{more_same}
+use Rattle.sb_store.specs.Stores.{KnowsMore}
 use Rattle.sb_session.proofs.CommandLemmas.{by_answer, by_exit, by_left, moved_by, whole_reply, whole_reply_by, cut_reply, check_replies, cut_check_reply}
 use Rattle.sb_session.proofs.CheckLemmas.{never_spent}
 use Rattle.sb_session.proofs.LeavingLemmas.{held_on, sorted_on, count_live, levels_left, regexes_left, tracked_left, sound_left}
@@ -214,3 +216,19 @@ returns-in_err-answer_check-in-Check-clause-spent g c =
     let x = c.from_residual-in_err-answer_check-in-Check in
     let p = err_from_is_err_and x.result x.ensures.1 in
     rw p.1 (λ h. c.in_err-answer_check-in-Check.ensures.spent (sym p.2 ∙ h))
+
+-- What is known of regexes.
+
+pub returns-in_ok-write_all-in-Answer-clause-store : goal.returns-in_ok-write_all-in-Answer-clause-store
+returns-in_ok-write_all-in-Answer-clause-store g c = more_same c.args.decider.now.store
+
+pub returns-in_ok-write_all-in-Exit-clause-store : goal.returns-in_ok-write_all-in-Exit-clause-store
+returns-in_ok-write_all-in-Exit-clause-store g c = more_same c.args.decider.now.store
+
+pub returns-in_ok-answer_check-in-Check-clause-store : goal.returns-in_ok-answer_check-in-Check-clause-store
+returns-in_ok-answer_check-in-Check-clause-store g c = c.in_ok-answer_check-in-Check.ensures.store
+
+pub returns-in_ok-write_all-in-Left-clause-store : goal.returns-in_ok-write_all-in-Left-clause-store
+returns-in_ok-write_all-in-Left-clause-store g c =
+    let old = c.args.decider.now.store in
+    subst (KnowsMore old) (sym c.in_ok-leave-in-Left.ensures.store) (more_same old)

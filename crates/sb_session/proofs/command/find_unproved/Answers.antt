@@ -38,3 +38,6 @@ returns-clause-held c =
 pub returns-clause-spent : goal.returns-clause-spent
 returns-clause-spent c = λ none.
     subst (HasSpent c.check.new.budget) (c.if_known.ensures.none none) c.in-Ok.ensures.spent
+
+pub returns-clause-store : goal.returns-clause-store
+returns-clause-store c = c.in-Ok.ensures.store

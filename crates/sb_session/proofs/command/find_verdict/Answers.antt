@@ -56,3 +56,9 @@ returns-in_err-write_all-clause-err g c =
     c.bytes.result.now (g.W.World.outside c.args.world.now) (g.W.World.outside c.write_all.new.world)
     c.new-lines.ensures c.bytes.ensures c.in-Ok.ensures.verdict (c.in-Ok.ensures.proves refl) c.args.proved
     c.if-not-proved.false c.in_err-write_all.ensures.err tracked))
+
+pub returns-then-not-proved-clause-store : goal.returns-then-not-proved-clause-store
+returns-then-not-proved-clause-store g c = c.in_ok-verdict.ensures.store
+
+pub returns-clause-store : goal.returns-clause-store
+returns-clause-store g c = c.in-Ok.ensures.store

@@ -1,4 +1,4 @@
-use Rattle.sb_prover.proofs.Words.{[], length, refl, sym, ap, subst, ◌∙◌, Backs, CountsTapeFault, Decided, HasSpent, HaveLevels, HaveRegexesBelow, IfOk-from_err, IsDecided, IsProved, IsTrue, IsVerdict, Knows, Proving, Said, Solution, asked_in, counts_on, err_from_is_err_and, false≢true, found, line, live_constants, question_in, state_of, text_of, verdict_in, verdict_line, verdict_of, with_bytes}
+use Rattle.sb_prover.proofs.Words.{[], length, refl, sym, ap, subst, ◌∙◌, Backs, CountsTapeFault, Decided, HasSpent, HaveLevels, HaveRegexesBelow, IfOk-from_err, IsDecided, IsProved, IsTrue, IsVerdict, Knows, Proving, Said, Solution, asked_in, counts_on, err_from_is_err_and, false≢true, found, line, live_constants, question_in, state_of, text_of, verdict_in, verdict_line, verdict_of, with_bytes, more_same}
 use Rattle.sb_stack.specs.declared.verdict.Verdict.{Verdict}
 use Rattle.sb_prover.proofs.Proved.{solved-proved}
 use Rattle.sb_prover.proofs.Solutions.{said-same, solved-verdict}
@@ -30,6 +30,7 @@ returns g c =
       spent = tt;
       regexes = c.requires.regexes;
       knows = record { taken = knows.taken; words = knows.words; declared = knows.declared };
+      store = more_same c.args.decider.now.store;
       rest = refl;
       levels = λ h. h;
       sound = c.requires.sound;
@@ -46,6 +47,7 @@ returns-in_err-begin g c =
       spent = IfOk-from_err x.result _ x.ensures.0;
       regexes = IfOk-from_err x.result _ x.ensures.0;
       knows = IfOk-from_err x.result _ x.ensures.0;
+      store = IfOk-from_err x.result _ x.ensures.0;
       rest = refl;
       levels = IfOk-from_err x.result _ x.ensures.0;
       sound = IfOk-from_err x.result _ x.ensures.0;
@@ -62,6 +64,7 @@ returns-in_err-solution g c =
       spent = IfOk-from_err x.result _ x.ensures.0;
       regexes = IfOk-from_err x.result _ x.ensures.0;
       knows = IfOk-from_err x.result _ x.ensures.0;
+      store = IfOk-from_err x.result _ x.ensures.0;
       rest = c.in_err-solution.ensures.rest;
       levels = IfOk-from_err x.result _ x.ensures.0;
       sound = IfOk-from_err x.result _ x.ensures.0;
@@ -80,6 +83,7 @@ returns-in_err-say_solution g c =
       spent = IfOk-from_err x.result _ x.ensures.0;
       regexes = IfOk-from_err x.result _ x.ensures.0;
       knows = IfOk-from_err x.result _ x.ensures.0;
+      store = IfOk-from_err x.result _ x.ensures.0;
       rest = c.in_ok-solution.ensures.rest;
       levels = IfOk-from_err x.result _ x.ensures.0;
       sound = IfOk-from_err x.result _ x.ensures.0;
@@ -123,6 +127,7 @@ returns-2 g c =
       spent = subst (HasSpent c.solution.new.budget) (sym c.verdict_of.ensures) e.spent;
       regexes = e.regexes;
       knows = subst (λ (v : Verdict). Knows new (found v c.solution.new.stack)) (sym c.verdict_of.ensures) e.knows;
+      store = e.store;
       rest = e.rest;
       levels = λ h.
           e.levels (subst (λ (p : Proving). HaveLevels (asked_in (state_of s)).live p.evidence) (sym first) h);

@@ -1,4 +1,4 @@
-use Rattle.sb_prover.proofs.Words.{length, ap, refl, sym, subst, ◌∙◌, Backs, CountsTapeFault, Decided, HaveLevels, HaveRegexesBelow, IfOk-from_err, IsDecided, IsSolution, IsTrue, Proving, Solved, Spending, Store, asked_in, counts_none, counts_on, err_from_is_err_and, state_of}
+use Rattle.sb_prover.proofs.Words.{length, ap, refl, sym, subst, ◌∙◌, Backs, CountsTapeFault, Decided, HaveLevels, HaveRegexesBelow, IfOk-from_err, IsDecided, IsSolution, IsTrue, Proving, Solved, Spending, Store, asked_in, counts_none, counts_on, err_from_is_err_and, state_of, KnowsMore, more_same}
 use Rattle.sb_prover.specs.declared.checking.Solution.TheVariants as solution
 use Rattle.sb_prover.proofs.Solutions.{inside-of, asked-of, empty-known, counts-none, ready-then, solved-again, solved-now, solved-true, says-true, spent-all}
 use Rattle.sb_prover.proofs.prover.Prover.solution.Goals as goal
@@ -42,6 +42,7 @@ returns-in-Outside g c =
           backs tt;
       spent = tt;
       knows = record { taken = knows.taken; words = knows.words; declared = knows.declared };
+      store = more_same old.store;
       rest = refl;
       sound = c.requires.sound;
       regexes = c.requires.regexes;
@@ -66,6 +67,7 @@ returns-in-Some g c =
           (solution.Unsat c.in-Some.empty.clause) (g.L.Tape.told c.args.tape.now) backs tt;
       spent = tt;
       knows = record { taken = knows.taken; words = knows.words; declared = knows.declared };
+      store = more_same old.store;
       rest = refl;
       sound = c.requires.sound;
       regexes = c.requires.regexes;
@@ -83,6 +85,7 @@ returns-in_err-solved g c =
       solved = IfOk-from_err x.result _ x.ensures.0;
       spent = IfOk-from_err x.result _ x.ensures.0;
       knows = IfOk-from_err x.result _ x.ensures.0;
+      store = IfOk-from_err x.result _ x.ensures.0;
       rest = refl;
       sound = IfOk-from_err x.result _ x.ensures.0;
       regexes = IfOk-from_err x.result _ x.ensures.0;
@@ -100,6 +103,7 @@ returns-in_err-solution g c =
       solved = IfOk-from_err x.result _ x.ensures.0;
       spent = IfOk-from_err x.result _ x.ensures.0;
       knows = IfOk-from_err x.result _ x.ensures.0;
+      store = IfOk-from_err x.result _ x.ensures.0;
       rest = c.in_err-solution.ensures.rest;
       sound = IfOk-from_err x.result _ x.ensures.0;
       regexes = IfOk-from_err x.result _ x.ensures.0;
@@ -141,6 +145,7 @@ returns g c =
       spent = spent-all mid s old.store e f budget c.in_ok-solved.solved c.in_ok-solution.solution
           (found.limit ∙ ap (λ (b : Spending). b.limit) c.new.ensures) found.solved done.completed;
       knows = done.knows;
+      store = subst (KnowsMore old.store) stays found.store;
       rest = done.rest;
       sound = subst (λ (x : Store). IsTrue (asked_in (state_of s)) x.arena x.graph.memo f) stays
           (solved-true c.follows_by_rule.ensures c.line_stays_sound.ensures c.counted_again_stays_sound.ensures s

@@ -1,4 +1,5 @@
-use Rattle.sb_session.proofs.Words.{ap, entry_of, err_from_is_err_and, is_proved, proof_of, session_of, sym, ◌∙◌, SessionState}
+use Rattle.sb_session.proofs.Words.{ap, entry_of, err_from_is_err_and, is_proved, proof_of, session_of, subst, sym, ◌∙◌, SessionState}
+use Rattle.sb_store.specs.Stores.{KnowsMore}
 use Rattle.sb_session.proofs.CheckLemmas.{is_kind}
 use Rattle.sb_session.proofs.CommandLemmas.{answers_regardless}
 use Rattle.sb_session.proofs.command.Session.answer.Goals as goal
@@ -23,3 +24,8 @@ returns-in_err-went-clause-spent g c =
     rw p.1
     (λ h. ap (λ (s : SessionState). is_proved s) (sym c.self.view_is)
     ∙ is_kind c.self.inside.proved c.self.inside.prover ∙ c.in_err-went.ensures.spent (sym p.2 ∙ h))
+
+pub returns-clause-store : goal.returns-clause-store
+returns-clause-store g c =
+    subst (λ (s : SessionState). KnowsMore s.store c.answer_entry.new.decider.store) c.self.view_is
+    c.in_ok-went.ensures.store

@@ -10,3 +10,6 @@ returns-in_err-went-clause-err g c =
     (fails_by _ (entry_of c.args.entry.now) c.args.self.now c.answer.new.self (g.W.World.outside c.args.world.now)
     (g.W.World.outside c.answer.new.world)
     (ap (λ (s : SessionState). s.ended) (sym c.self.view_is) ∙ c.if-self.false) e.ended e.err e.spent)
+
+pub returns-clause-store : goal.returns-clause-store
+returns-clause-store g c = c.in_ok-went.ensures.store
