@@ -1,6 +1,7 @@
 pub mod MeasureFacts
 pub mod MembershipFacts
 pub mod RuleFacts
+pub mod InsideFacts
 pub mod AskedFacts
 pub mod ComparedPairs
 pub mod Arguments

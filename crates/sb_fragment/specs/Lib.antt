@@ -1,6 +1,7 @@
 pub mod Measures
 pub mod Memberships
 pub mod Rules
+pub mod Inside
 pub mod Measured
 pub mod Compared
 pub mod Shapes

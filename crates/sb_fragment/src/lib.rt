@@ -2,12 +2,14 @@
 //! rule.
 //!
 //! A rule asks of a term what is known of it by its arguments, so [`Measures`] keep that by the term's number: a term
-//! that is shared is measured once, and there is no recursion on a term's tree. The layers above ask [`fragment`] of all
-//! live assertions, and [`Measures::fits_structure`] of one. They take an assertion about one constant apart by
-//! [`membership`], and Boolean structure over such assertions by [`shape_of`].
+//! that is shared is measured once, and there is no recursion on a term's tree. The layers above ask
+//! [`Fragment::stand`] of all live assertions, which keeps what it knows of them from one check to the next, and
+//! [`Measures::fits_structure`] of one. They take an assertion about one constant apart by [`membership`], and Boolean
+//! structure over such assertions by [`shape_of`].
 #![tactic(auto)]
 
 mod fitting;
+mod keeper;
 mod measure;
 mod measures;
 mod memberships;
@@ -15,9 +17,10 @@ mod pairs;
 mod rules;
 mod shape;
 
+pub use keeper::Fragment;
 pub use measure::Measure;
 pub use measures::Measures;
 pub use memberships::membership;
 pub use pairs::compared;
-pub use rules::{Problem, Reason, Standing, fragment, fragment_is_of_each};
+pub use rules::{Problem, Reason, Standing, fragment_is_of_each};
 pub use shape::{Connective, Shape, arguments_of, pair_of, shape_of};

@@ -1,10 +1,10 @@
 //! Which rule of the fragment live assertions break.
 
-ghost use Rattle.std.specs.Prelude.{◌≡◌, ◌<◌, true, false, length, map, All, IfOk};
+ghost use Rattle.std.specs.Prelude.{◌≡◌, ◌<◌, true, false, length, IfOk};
 ghost use Rattle.sb_term.specs.Numbered.{term_at};
 ghost use Rattle.sb_script.specs.State.{asserted};
 ghost use Rattle.sb_fragment.specs.Measures.{AreMeasures};
-ghost use Rattle.sb_fragment.specs.Rules.{assertion_in, HasNumberBelow, IsStanding, IsBrokenBy, is_broken, is_decided, FragmentIsOfEach};
+ghost use Rattle.sb_fragment.specs.Rules.{assertion_in, HasNumberBelow, IsBrokenBy, is_broken, is_decided, FragmentIsOfEach};
 
 use crate::measures::Measures;
 use crate::memberships::term_and_regex;
@@ -59,7 +59,7 @@ fn rule_of(measures: &mut Measures, table: &Table, id: TermId) -> Result<Reason,
 }
 
 /// The rule that an assertion breaks, if it breaks one.
-fn broken(
+pub(crate) fn broken(
     measures: &mut Measures,
     table: &Table,
     assertion: Assertion,
@@ -77,27 +77,6 @@ fn broken(
     } else {
         Ok(Some(rule_of(measures, table, id)?))
     }
-}
-
-/// Whether live assertions are inside the fragment, and where not, which rule the first of them outside breaks. Linear
-/// in the number of the assertions up to that one, but that terms are measured which were not yet. `AllocError` only for
-/// want of memory.
-pub fn fragment(
-    measures: &mut Measures,
-    table: &Table,
-    live: &[Assertion],
-) -> Result<Standing, AllocError>
-    requires numbers { All (HasNumberBelow (length table.now)) live.now }
-    requires right { AreMeasures table.now measures.old }
-    ensures ok { IfOk result (λ standing. IsStanding (map (assertion_in table.now) live.now) standing) }
-    ensures right { AreMeasures table.now measures.new }
-{
-    for assertion in live {
-        if let Some(reason) = broken(measures, table, *assertion)? {
-            return Ok(Standing::Outside(reason));
-        }
-    }
-    Ok(Standing::Inside(Problem))
 }
 
 /// A check is decided exactly where each of the live assertions is.
