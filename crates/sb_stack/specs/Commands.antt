@@ -1,4 +1,4 @@
--- Private: the commands of the code, and the forms of a list, as the definitions have them.
+-- Private: what the commands of the code do, and the forms of a list, as the definitions have them.
 use Rattle.std.specs.Prelude.{ℕ, false, List, map, Option, Some, None, codes}
 use Rattle.sb_reader.specs.declared.sexpr.Shapes.{Shapes}
 use Rattle.sb_reader.specs.Forms.{Form, Forms, Keyword, Numeral, none, more, shape_of, shapes_in}
@@ -9,6 +9,10 @@ use Rattle.sb_stack.specs.declared.command.Command.TheVariants as code
 use Rattle.sb_script.specs.Names.{Name}
 use Rattle.sb_script.specs.Texts.{number_of}
 use Rattle.sb_script.specs.Commands as meaning
+use Rattle.sb_script.specs.Steps.{succeeds, is_unsupported}
+use Rattle.sb_script.specs.Options as option
+use Rattle.sb_script.specs.Replies as reply
+use Rattle.sb_script.specs.Replies.{Effect, Shape}
 
 abbrev pub forms_in : Shapes → List Form
 forms_in forms = meaning.list_of (shapes_in forms)
@@ -29,52 +33,53 @@ levels_in none = Some (codes "1")
 levels_in (more form none) = numeral_in form
 levels_in (more form (more next forms)) = None
 
-abbrev pub command_in : Command → meaning.Command
-command_in (code.SetLogic name) = meaning.set_logic name.now
-command_in (code.SetOption key value) = meaning.set_option key.now (shape_of value)
-command_in (code.GetOption key) = meaning.get_option key.now
-command_in code.SetInfo = meaning.set_info
-command_in (code.GetInfo key) = meaning.get_info key.now
-command_in (code.DeclareConstant name sort) = meaning.declare_constant name.now (shape_of sort)
-command_in (code.DeclareFunction name) = meaning.declare_function name.now
-command_in (code.DefineFunction name parameters sort body) =
-    meaning.define_function name.now (meaning.parameters_of (forms_in parameters)) (shape_of sort) (shape_of body)
-command_in (code.Assert form) = meaning.assert (shape_of form)
-command_in (code.Push digits) = meaning.push (number_of digits.now)
-command_in (code.Pop digits) = meaning.pop (number_of digits.now)
-command_in code.CheckSat = meaning.check_sat
-command_in code.GetModel = meaning.get_model
-command_in (code.GetValue forms) = meaning.get_value (forms_in forms)
-command_in (code.Echo bytes) = meaning.echo bytes.now
-command_in code.ResetAssertions = meaning.reset_assertions
-command_in code.Reset = meaning.reset
-command_in code.Exit = meaning.exit
-command_in code.Another = meaning.another
+-- what a command of the code does
+abbrev pub effect_of : Command → Effect
+effect_of (code.SetLogic name) = option.set_logic name.now
+effect_of (code.SetOption key value) = option.set_option key.now (shape_of value)
+effect_of (code.GetOption key) = option.get_option key.now
+effect_of code.SetInfo = succeeds
+effect_of (code.GetInfo key) = option.get_info key.now
+effect_of (code.DeclareConstant name sort) = reply.declare_constant name.now (shape_of sort)
+effect_of (code.DeclareFunction name) = reply.declare_function name.now
+effect_of (code.DefineFunction name parameters sort body) =
+    reply.define_function name.now (meaning.parameters_of (forms_in parameters)) (shape_of sort) (shape_of body)
+effect_of (code.Assert form) = reply.assert (shape_of form)
+effect_of (code.Push digits) = reply.push (number_of digits.now)
+effect_of (code.Pop digits) = reply.pop (number_of digits.now)
+effect_of code.CheckSat = reply.check_sat
+effect_of code.GetModel = reply.get_model
+effect_of (code.GetValue forms) = reply.get_value (forms_in forms)
+effect_of (code.Echo bytes) = reply.echo bytes.now
+effect_of code.ResetAssertions = reply.reset_assertions
+effect_of code.Reset = reply.reset
+effect_of code.Exit = reply.exit
+effect_of code.Another = is_unsupported
 
 -- what follows the name of a command of this kind
-abbrev pub shape_in : Kind → List Form → Option meaning.Command
-shape_in kind.Assert = meaning.assert_shape
-shape_in kind.DeclareConst = meaning.constant_shape
-shape_in kind.DeclareFun = meaning.function_shape
-shape_in kind.DefineFun = meaning.definition_shape
-shape_in kind.Push = meaning.levels_shape meaning.push
-shape_in kind.Pop = meaning.levels_shape meaning.pop
-shape_in kind.CheckSat = meaning.bare meaning.check_sat
-shape_in kind.CheckSatAssuming = meaning.answered_by false meaning.assuming_shape
-shape_in kind.GetModel = meaning.bare meaning.get_model
-shape_in kind.GetValue = meaning.value_shape
-shape_in kind.GetUnsatAssumptions = meaning.answered_by false (meaning.bare meaning.get_unsat_assumptions)
-shape_in kind.GetUnsatCore = meaning.bare meaning.another
-shape_in kind.SetLogic = meaning.logic_shape
-shape_in kind.SetOption = meaning.option_shape
-shape_in kind.GetOption = meaning.keyword_shape meaning.get_option
-shape_in kind.SetInfo = meaning.info_shape
-shape_in kind.GetInfo = meaning.keyword_shape meaning.get_info
-shape_in kind.Echo = meaning.echo_shape
-shape_in kind.ResetAssertions = meaning.bare meaning.reset_assertions
-shape_in kind.Reset = meaning.bare meaning.reset
-shape_in kind.Exit = meaning.bare meaning.exit
+abbrev pub shape_in : Kind → Shape
+shape_in kind.Assert = meaning.assert_shape reply.assert
+shape_in kind.DeclareConst = meaning.constant_shape reply.declare_constant
+shape_in kind.DeclareFun = meaning.function_shape reply.function_of
+shape_in kind.DefineFun = meaning.definition_shape reply.definition_of
+shape_in kind.Push = meaning.levels_shape reply.push
+shape_in kind.Pop = meaning.levels_shape reply.pop
+shape_in kind.CheckSat = meaning.bare reply.check_sat
+shape_in kind.CheckSatAssuming = reply.answered_by false (meaning.assuming_shape reply.check_sat_assuming)
+shape_in kind.GetModel = meaning.bare reply.get_model
+shape_in kind.GetValue = meaning.value_shape reply.get_value
+shape_in kind.GetUnsatAssumptions = reply.answered_by false (meaning.bare reply.get_unsat_assumptions)
+shape_in kind.GetUnsatCore = meaning.bare is_unsupported
+shape_in kind.SetLogic = meaning.logic_shape option.set_logic
+shape_in kind.SetOption = meaning.option_shape option.set_option
+shape_in kind.GetOption = meaning.keyword_shape option.get_option
+shape_in kind.SetInfo = meaning.info_shape succeeds
+shape_in kind.GetInfo = meaning.keyword_shape option.get_info
+shape_in kind.Echo = meaning.echo_shape reply.echo
+shape_in kind.ResetAssertions = meaning.bare reply.reset_assertions
+shape_in kind.Reset = meaning.bare reply.reset
+shape_in kind.Exit = meaning.bare reply.exit
 
--- the commands whose shapes are looked at, by name
-abbrev pub answered_shapes : List (Name × (List Form → Option meaning.Command))
-answered_shapes = map meaning.answered meaning.shapes
+-- the commands, as they are answered
+abbrev pub answered_commands : List (Name × Shape)
+answered_commands = map reply.answered reply.commands

@@ -4,8 +4,11 @@ ghost use Rattle.std.specs.Prelude.{◌≡◌, false, [], ◌∷◌, option_map,
 ghost use Rattle.std.specs.List.{list_all};
 ghost use Rattle.sb_reader.specs.Forms.{Symbol, Group, none, more, form_of, shape_of, shapes_in};
 ghost use Rattle.sb_script.specs.Commands as meaning;
-ghost use Rattle.sb_script.specs.Symbols.{found_in};
-ghost use Rattle.sb_stack.specs.Commands.{command_in, shape_in, answered_shapes, forms_in, keyword_in, numeral_in, levels_in};
+ghost use Rattle.sb_script.specs.Names.{found_in};
+ghost use Rattle.sb_script.specs.Options as option;
+ghost use Rattle.sb_script.specs.Replies as reply;
+ghost use Rattle.sb_script.specs.Steps.{succeeds};
+ghost use Rattle.sb_stack.specs.Commands.{effect_of, shape_in, answered_commands, forms_in, keyword_in, numeral_in, levels_in};
 
 use sb_reader::{Sexpr, Shape, Shapes};
 use sb_sorts::{begins_term, is_reserved, look_up};
@@ -103,7 +106,7 @@ const KINDS: &[(&[u8], Kind)] = &[
 
 /// The command of a form, or `None` where the form is malformed. Linear in the form.
 pub(crate) fn command_of(form: &Sexpr) -> Option<Command<'_>>
-    ensures { option_map command_in result ≡ meaning.command_of (form_of form.now) }
+    ensures { option_map effect_of result ≡ reply.command_of (form_of form.now) }
 {
     match form.shape() {
         Shape::List(forms) => command_in(forms),
@@ -113,7 +116,7 @@ pub(crate) fn command_of(form: &Sexpr) -> Option<Command<'_>>
 
 /// The command of a list.
 fn command_in(forms: Shapes<'_>) -> Option<Command<'_>>
-    ensures { option_map command_in result ≡ meaning.command_of (Group (shapes_in forms.entry)) }
+    ensures { option_map effect_of result ≡ reply.command_of (Group (shapes_in forms.entry)) }
 {
     let Some((head, arguments)) = forms.split_first() else {
         return None;
@@ -126,7 +129,7 @@ fn command_in(forms: Shapes<'_>) -> Option<Command<'_>>
 
 /// A command by its name, with what follows the name.
 fn shaped<'a>(name: &[u8], arguments: Shapes<'a>) -> Option<Command<'a>>
-    ensures { option_map command_in result ≡ meaning.shaped name.now (forms_in arguments.entry) }
+    ensures { option_map effect_of result ≡ reply.shaped name.now (forms_in arguments.entry) }
 {
     match kind_named(name) {
         Some(kind) => shaped_as(kind, arguments),
@@ -136,14 +139,14 @@ fn shaped<'a>(name: &[u8], arguments: Shapes<'a>) -> Option<Command<'a>>
 
 /// The kind of the commands of this name, where their shapes are looked at.
 fn kind_named(name: &[u8]) -> Option<Kind>
-    ensures { option_map shape_in result ≡ found_in answered_shapes name.now }
+    ensures { option_map shape_in result ≡ found_in answered_commands name.now }
 {
     look_up(KINDS, name)
 }
 
 /// A command of this kind, with what follows its name.
 fn shaped_as<'a>(kind: Kind, arguments: Shapes<'a>) -> Option<Command<'a>>
-    ensures { option_map command_in result ≡ shape_in kind (forms_in arguments.entry) }
+    ensures { option_map effect_of result ≡ shape_in kind (forms_in arguments.entry) }
 {
     match kind {
         Kind::Assert => assert_shape(arguments),
@@ -278,7 +281,7 @@ fn are_items(forms: Shapes<'_>) -> bool
 }
 
 fn logic_shape(arguments: Shapes<'_>) -> Option<Command<'_>>
-    ensures { option_map command_in result ≡ meaning.logic_shape (forms_in arguments.entry) }
+    ensures { option_map effect_of result ≡ meaning.logic_shape option.set_logic (forms_in arguments.entry) }
 {
     match arguments.only() {
         Some(logic) => match symbol_in(logic) {
@@ -290,7 +293,7 @@ fn logic_shape(arguments: Shapes<'_>) -> Option<Command<'_>>
 }
 
 fn option_shape(arguments: Shapes<'_>) -> Option<Command<'_>>
-    ensures { option_map command_in result ≡ meaning.option_shape (forms_in arguments.entry) }
+    ensures { option_map effect_of result ≡ meaning.option_shape option.set_option (forms_in arguments.entry) }
 {
     match arguments.pair() {
         Some((key, value)) => option_of(key, value),
@@ -300,7 +303,8 @@ fn option_shape(arguments: Shapes<'_>) -> Option<Command<'_>>
 
 /// An option by its keyword and its value.
 fn option_of<'a>(key: Shape<'a>, value: Shape<'a>) -> Option<Command<'a>>
-    ensures { option_map command_in result ≡ meaning.option_shape (shape_of key.entry ∷ shape_of value.entry ∷ []) }
+    ensures { option_map effect_of result
+        ≡ meaning.option_shape option.set_option (shape_of key.entry ∷ shape_of value.entry ∷ []) }
 {
     match key {
         Shape::Keyword(key) => Some(Command::SetOption(key, value)),
@@ -319,7 +323,7 @@ fn keyword_in(form: Shape<'_>) -> Option<&[u8]>
 }
 
 fn asked_option_shape(arguments: Shapes<'_>) -> Option<Command<'_>>
-    ensures { option_map command_in result ≡ meaning.keyword_shape meaning.get_option (forms_in arguments.entry) }
+    ensures { option_map effect_of result ≡ meaning.keyword_shape option.get_option (forms_in arguments.entry) }
 {
     match arguments.only() {
         Some(form) => match keyword_in(form) {
@@ -331,7 +335,7 @@ fn asked_option_shape(arguments: Shapes<'_>) -> Option<Command<'_>>
 }
 
 fn asked_info_shape(arguments: Shapes<'_>) -> Option<Command<'_>>
-    ensures { option_map command_in result ≡ meaning.keyword_shape meaning.get_info (forms_in arguments.entry) }
+    ensures { option_map effect_of result ≡ meaning.keyword_shape option.get_info (forms_in arguments.entry) }
 {
     match arguments.only() {
         Some(form) => match keyword_in(form) {
@@ -344,7 +348,7 @@ fn asked_info_shape(arguments: Shapes<'_>) -> Option<Command<'_>>
 
 /// A keyword, and anything behind it.
 fn info_shape(arguments: Shapes<'_>) -> Option<Command<'_>>
-    ensures { option_map command_in result ≡ meaning.info_shape (forms_in arguments.entry) }
+    ensures { option_map effect_of result ≡ meaning.info_shape succeeds (forms_in arguments.entry) }
 {
     let Some((first, _)) = arguments.split_first() else {
         return None;
@@ -356,7 +360,7 @@ fn info_shape(arguments: Shapes<'_>) -> Option<Command<'_>>
 }
 
 fn echo_shape(arguments: Shapes<'_>) -> Option<Command<'_>>
-    ensures { option_map command_in result ≡ meaning.echo_shape (forms_in arguments.entry) }
+    ensures { option_map effect_of result ≡ meaning.echo_shape reply.echo (forms_in arguments.entry) }
 {
     match arguments.only() {
         Some(text) => echo_of(text),
@@ -366,7 +370,7 @@ fn echo_shape(arguments: Shapes<'_>) -> Option<Command<'_>>
 
 /// The echo of a text.
 fn echo_of(text: Shape<'_>) -> Option<Command<'_>>
-    ensures { option_map command_in result ≡ meaning.echo_shape (shape_of text.entry ∷ []) }
+    ensures { option_map effect_of result ≡ meaning.echo_shape reply.echo (shape_of text.entry ∷ []) }
 {
     match text {
         Shape::Text(bytes) => Some(Command::Echo(bytes)),
@@ -375,7 +379,7 @@ fn echo_of(text: Shape<'_>) -> Option<Command<'_>>
 }
 
 fn constant_shape(arguments: Shapes<'_>) -> Option<Command<'_>>
-    ensures { option_map command_in result ≡ meaning.constant_shape (forms_in arguments.entry) }
+    ensures { option_map effect_of result ≡ meaning.constant_shape reply.declare_constant (forms_in arguments.entry) }
 {
     match arguments.pair() {
         Some((name, sort)) => constant_of(name, sort),
@@ -385,7 +389,8 @@ fn constant_shape(arguments: Shapes<'_>) -> Option<Command<'_>>
 
 /// A constant by its name and its sort.
 fn constant_of<'a>(name: Shape<'a>, sort: Shape<'a>) -> Option<Command<'a>>
-    ensures { option_map command_in result ≡ meaning.constant_shape (shape_of name.entry ∷ shape_of sort.entry ∷ []) }
+    ensures { option_map effect_of result
+        ≡ meaning.constant_shape reply.declare_constant (shape_of name.entry ∷ shape_of sort.entry ∷ []) }
 {
     if !is_sort(sort) {
         return None;
@@ -397,7 +402,7 @@ fn constant_of<'a>(name: Shape<'a>, sort: Shape<'a>) -> Option<Command<'a>>
 }
 
 fn function_shape(arguments: Shapes<'_>) -> Option<Command<'_>>
-    ensures { option_map command_in result ≡ meaning.function_shape (forms_in arguments.entry) }
+    ensures { option_map effect_of result ≡ meaning.function_shape reply.function_of (forms_in arguments.entry) }
 {
     let Some((name, rest)) = arguments.split_first() else {
         return None;
@@ -410,8 +415,9 @@ fn function_shape(arguments: Shapes<'_>) -> Option<Command<'_>>
 
 /// A function by its name, the sorts of its arguments and its own.
 fn function_of<'a>(name: Shape<'a>, sorts: Shape<'_>, sort: Shape<'a>) -> Option<Command<'a>>
-    ensures { option_map command_in result
-        ≡ meaning.function_shape (shape_of name.entry ∷ shape_of sorts.entry ∷ shape_of sort.entry ∷ []) }
+    ensures { option_map effect_of result
+        ≡ meaning.function_shape reply.function_of
+        (shape_of name.entry ∷ shape_of sorts.entry ∷ shape_of sort.entry ∷ []) }
 {
     match sorts {
         Shape::List(sorts) => function_from(name, sorts, sort),
@@ -421,8 +427,9 @@ fn function_of<'a>(name: Shape<'a>, sorts: Shape<'_>, sort: Shape<'a>) -> Option
 
 /// A function from arguments of these sorts. One without arguments is a constant.
 fn function_from<'a>(name: Shape<'a>, sorts: Shapes<'_>, sort: Shape<'a>) -> Option<Command<'a>>
-    ensures { option_map command_in result
-        ≡ meaning.function_shape (shape_of name.entry ∷ Group (shapes_in sorts.entry) ∷ shape_of sort.entry ∷ []) }
+    ensures { option_map effect_of result
+        ≡ meaning.function_shape reply.function_of
+        (shape_of name.entry ∷ Group (shapes_in sorts.entry) ∷ shape_of sort.entry ∷ []) }
 {
     if !are_sorts(sorts) || !is_sort(sort) {
         return None;
@@ -437,7 +444,7 @@ fn function_from<'a>(name: Shape<'a>, sorts: Shapes<'_>, sort: Shape<'a>) -> Opt
 }
 
 fn definition_shape(arguments: Shapes<'_>) -> Option<Command<'_>>
-    ensures { option_map command_in result ≡ meaning.definition_shape (forms_in arguments.entry) }
+    ensures { option_map effect_of result ≡ meaning.definition_shape reply.definition_of (forms_in arguments.entry) }
 {
     let Some((name, behind)) = arguments.split_first() else {
         return None;
@@ -458,8 +465,8 @@ fn definition_of<'a>(
     sort: Shape<'a>,
     body: Shape<'a>,
 ) -> Option<Command<'a>>
-    ensures { option_map command_in result
-        ≡ meaning.definition_shape
+    ensures { option_map effect_of result
+        ≡ meaning.definition_shape reply.definition_of
         (shape_of name.entry ∷ shape_of parameters.entry ∷ shape_of sort.entry ∷ shape_of body.entry ∷ []) }
 {
     match parameters {
@@ -475,8 +482,8 @@ fn definition_from<'a>(
     sort: Shape<'a>,
     body: Shape<'a>,
 ) -> Option<Command<'a>>
-    ensures { option_map command_in result
-        ≡ meaning.definition_shape
+    ensures { option_map effect_of result
+        ≡ meaning.definition_shape reply.definition_of
         (shape_of name.entry ∷ Group (shapes_in parameters.entry) ∷ shape_of sort.entry ∷ shape_of body.entry ∷ []) }
 {
     if !are_parameters(parameters) || !is_sort(sort) {
@@ -494,7 +501,7 @@ fn definition_from<'a>(
 }
 
 fn assert_shape(arguments: Shapes<'_>) -> Option<Command<'_>>
-    ensures { option_map command_in result ≡ meaning.assert_shape (forms_in arguments.entry) }
+    ensures { option_map effect_of result ≡ meaning.assert_shape reply.assert (forms_in arguments.entry) }
 {
     match arguments.only() {
         Some(term) => Some(Command::Assert(term)),
@@ -503,7 +510,7 @@ fn assert_shape(arguments: Shapes<'_>) -> Option<Command<'_>>
 }
 
 fn push_shape(arguments: Shapes<'_>) -> Option<Command<'_>>
-    ensures { option_map command_in result ≡ meaning.levels_shape meaning.push (forms_in arguments.entry) }
+    ensures { option_map effect_of result ≡ meaning.levels_shape reply.push (forms_in arguments.entry) }
 {
     match levels_in(arguments) {
         Some(digits) => Some(Command::Push(digits)),
@@ -512,7 +519,7 @@ fn push_shape(arguments: Shapes<'_>) -> Option<Command<'_>>
 }
 
 fn pop_shape(arguments: Shapes<'_>) -> Option<Command<'_>>
-    ensures { option_map command_in result ≡ meaning.levels_shape meaning.pop (forms_in arguments.entry) }
+    ensures { option_map effect_of result ≡ meaning.levels_shape reply.pop (forms_in arguments.entry) }
 {
     match levels_in(arguments) {
         Some(digits) => Some(Command::Pop(digits)),
@@ -544,7 +551,7 @@ fn numeral_in(form: Shape<'_>) -> Option<&[u8]>
 }
 
 fn value_shape(arguments: Shapes<'_>) -> Option<Command<'_>>
-    ensures { option_map command_in result ≡ meaning.value_shape (forms_in arguments.entry) }
+    ensures { option_map effect_of result ≡ meaning.value_shape reply.get_value (forms_in arguments.entry) }
 {
     match arguments.only() {
         Some(terms) => asked(terms),
@@ -554,7 +561,7 @@ fn value_shape(arguments: Shapes<'_>) -> Option<Command<'_>>
 
 /// The question for the values of a list of terms.
 fn asked(terms: Shape<'_>) -> Option<Command<'_>>
-    ensures { option_map command_in result ≡ meaning.value_shape (shape_of terms.entry ∷ []) }
+    ensures { option_map effect_of result ≡ meaning.value_shape reply.get_value (shape_of terms.entry ∷ []) }
 {
     match terms {
         Shape::List(items) => asked_items(items),
@@ -563,7 +570,7 @@ fn asked(terms: Shape<'_>) -> Option<Command<'_>>
 }
 
 fn asked_items(items: Shapes<'_>) -> Option<Command<'_>>
-    ensures { option_map command_in result ≡ meaning.value_shape (Group (shapes_in items.entry) ∷ []) }
+    ensures { option_map effect_of result ≡ meaning.value_shape reply.get_value (Group (shapes_in items.entry) ∷ []) }
 {
     if items.is_empty() {
         return None;
@@ -576,16 +583,16 @@ fn asked_items(items: Shapes<'_>) -> Option<Command<'_>>
 
 /// The question for the assumptions that are unsatisfiable, which is to come.
 fn unsat_assumptions_shape(arguments: Shapes<'_>) -> Option<Command<'_>>
-    ensures { option_map command_in result
-        ≡ meaning.answered_by false (meaning.bare meaning.get_unsat_assumptions) (forms_in arguments.entry) }
+    ensures { option_map effect_of result
+        ≡ reply.answered_by false (meaning.bare reply.get_unsat_assumptions) (forms_in arguments.entry) }
 {
     bare(Command::Another, arguments)
 }
 
 /// A check under assumptions, which is to come.
 fn assuming_shape(arguments: Shapes<'_>) -> Option<Command<'_>>
-    ensures { option_map command_in result
-        ≡ meaning.answered_by false meaning.assuming_shape (forms_in arguments.entry) }
+    ensures { option_map effect_of result
+        ≡ reply.answered_by false (meaning.assuming_shape reply.check_sat_assuming) (forms_in arguments.entry) }
 {
     match arguments.only() {
         Some(terms) => assuming(terms),
@@ -595,8 +602,8 @@ fn assuming_shape(arguments: Shapes<'_>) -> Option<Command<'_>>
 
 /// The check under a list of assumptions.
 fn assuming(terms: Shape<'_>) -> Option<Command<'_>>
-    ensures { option_map command_in result
-        ≡ meaning.answered_by false meaning.assuming_shape (shape_of terms.entry ∷ []) }
+    ensures { option_map effect_of result
+        ≡ reply.answered_by false (meaning.assuming_shape reply.check_sat_assuming) (shape_of terms.entry ∷ []) }
 {
     match terms {
         Shape::List(terms) => are_assumptions(terms).then_some(Command::Another),
@@ -668,7 +675,7 @@ fn is_assumed_behind(head: &[u8], form: Shape<'_>) -> bool
 
 /// A command without arguments.
 fn bare<'a>(command: Command<'a>, arguments: Shapes<'_>) -> Option<Command<'a>>
-    ensures { option_map command_in result ≡ meaning.bare (command_in command.entry) (forms_in arguments.entry) }
+    ensures { option_map effect_of result ≡ meaning.bare (effect_of command.entry) (forms_in arguments.entry) }
 {
     arguments.is_empty().then_some(command)
 }

@@ -5,7 +5,7 @@ ghost use Rattle.sb_reader.specs.Forms.{shape_of};
 ghost use Rattle.sb_script.specs.Brought.{is_brought_sort};
 ghost use Rattle.sb_script.specs.Options as meaning;
 ghost use Rattle.sb_script.specs.Steps.{line};
-ghost use Rattle.sb_script.specs.Symbols.{found_in};
+ghost use Rattle.sb_script.specs.Names.{found_in};
 ghost use Rattle.sb_script.specs.Replies.{sort_of_form, sort_in_definition};
 ghost use Rattle.sb_term.specs.Symbols.{sort_in};
 ghost use Rattle.sb_stack.specs.Settings.{set_in, text_in, kept_settings, kept_texts};

@@ -22,7 +22,7 @@ ghost use Rattle.sb_script.specs.Brought.{is_brought_sort};
 ghost use Rattle.sb_sorts.specs.Bodies.{bound_in};
 ghost use Rattle.sb_term.specs.Numbered.{term_at, Extends};
 ghost use Rattle.sb_term.specs.Serials.{all_below};
-ghost use Rattle.sb_stack.specs.Commands.{command_in};
+ghost use Rattle.sb_stack.specs.Commands.{effect_of};
 ghost use Rattle.sb_stack.specs.Keeping.{Keeps, KeepsBy, StandsFor};
 ghost use Rattle.sb_stack.specs.Speaking.{speaks_of};
 ghost use Rattle.sb_stack.specs.Stacked.{state_of, assertion_of, assertion_in, values_at, live_constants, live_in, are_words, have_levels, HasNumberBelow, without_words};
@@ -200,7 +200,7 @@ impl Stack {
 
     fn take(&mut self, command: Command) -> Result<Step, AllocError>
         ensures ok { IfOk result
-            (λ step. IsStep (meaning.step (command_in command.entry) (state_of self.old)) step (state_of self.old)
+            (λ step. IsStep (effect_of command.entry (state_of self.old)) step (state_of self.old)
             (state_of self.new)) }
         ensures err { OnErr result (state_of self.new ≡ state_of self.old) }
         ensures keeps { KeepsBy result self.old self.new }

@@ -1,9 +1,8 @@
 use Rattle.std.proofs.Common.{◌≡◌, Bool, List, ℕ, Option, Some, None, option_map, if◌then◌else◌, refl, sym, ap, ◌∙◌}
-use Rattle.sb_script.specs.Names.{is_name}
+use Rattle.sb_script.specs.Names.{is_name, found_in}
 use Rattle.sb_script.specs.Options.{info_texts, reason_unknown}
 use Rattle.sb_script.specs.State.{State}
 use Rattle.sb_script.specs.Steps.{Step, answers, is_unsupported, line}
-use Rattle.sb_script.specs.Symbols.{found_in}
 use Rattle.sb_stack.specs.Stacked.{state_of}
 use Rattle.sb_stack.proofs.Replying.{said_as}
 use Rattle.sb_stack.proofs.stack.Stack.get_info.Goals as goal
