@@ -86,7 +86,16 @@ impl Kept {
     {
         let id = AtomId::of(literal);
         if let Atom::And(conjuncts) = self.atoms.describe(id) {
-            return is_of_conjunction(self.alloc, clause, all, literal, conjuncts, self.conjunct);
+            let conjuncts = conjuncts.as_slice();
+            let found = is_of_conjunction(
+                self.alloc,
+                clause,
+                all,
+                literal,
+                conjuncts,
+                self.conjunct,
+            )?;
+            return Ok(found);
         }
         let said = said_clauses(self.alloc, &self.atoms, id)?;
         Ok(is_one_of(clause, all, &said))

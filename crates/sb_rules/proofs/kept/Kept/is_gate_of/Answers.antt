@@ -1,28 +1,25 @@
-use Rattle.std.proofs.Common.{[], ◌∷◌, map, if◌then◌else◌, sym, subst, ap, ◌∙◌}
+use Rattle.std.proofs.Common.{[], ◌∷◌, map, if◌then◌else◌, subst, ap, ◌∙◌}
 use Rattle.std.specs.List.{list_any}
-use Rattle.sb_facts.proofs.CallerLemmas.{ok_more}
 use Rattle.sb_lit.specs.Clauses.{negation}
 use Rattle.sb_atoms.specs.GateClauses.{atom_at}
-use Rattle.sb_atoms.specs.Numbered.{Names, atom_in, atoms_in}
+use Rattle.sb_atoms.specs.Numbered.{Names, atom_in}
 use Rattle.sb_rulebook.specs.Atoms.{and_atom}
-use Rattle.sb_rulebook.specs.Gates.{atom_of, clauses_of, is_gate_of, is_set_of}
+use Rattle.sb_rulebook.specs.Gates.{clauses_of, is_set_of}
 use Rattle.sb_rules.proofs.Gated.{atom_there, brought_there, by_clauses, by_conjunction}
 use Rattle.sb_rules.proofs.kept.Kept.is_gate_of.Goals as goal
 
 pub returns-in-And : goal.returns-in-And
 returns-in-And c =
     let atoms = c.args.self.now.atoms in
-    let rs = c.args.self.now.arena in
     let clause = c.args.clause.now in
     let l = c.args.literal in
-    let ls = c.in-And.conjuncts.items in
-    ok_more (λ b. b ≡ (if l.positive then is_set_of clause (l ∷ map negation ls)
-    else list_any (λ m. is_set_of clause (l ∷ m ∷ [])) ls))
-    (λ b. b ≡ is_gate_of (atoms_in rs atoms) clause l (atom_of (atoms_in rs atoms) l)) c.is_of_conjunction.result
-    (λ b is. by_conjunction rs atoms clause l ls b
-    (subst (λ n. Names atoms n (and_atom ls)) c.of.ensures
+    by_conjunction c.args.self.now.arena atoms clause l c.in-And.conjuncts.items c.in_ok-found.found
+    (subst (λ n. Names atoms n (and_atom c.in-And.conjuncts.items)) c.of.ensures
     (subst (λ d. Names atoms c.of.result (atom_in d)) c.in-And.is c.describe.ensures))
-    c.requires.signs c.requires.among is) c.is_of_conjunction.ensures
+    c.requires.signs c.requires.among
+    (c.in_ok-found.ensures
+    ∙ ap (λ ls. if l.positive then is_set_of clause (l ∷ map negation ls)
+    else list_any (λ m. is_set_of clause (l ∷ m ∷ [])) ls) c.as_slice.ensures)
 
 pub returns : goal.returns
 returns c =
