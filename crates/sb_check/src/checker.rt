@@ -70,9 +70,9 @@ impl Checker {
     /// Takes the next entry of the script, and at a check the lines of the proof up to its verdict. `Refused` comes
     /// where a line is refused by the rules of proofs, whatever entries come behind this one; `Limit` where as many
     /// bytes of the proof as the limit of `lines` were read, and not its end, the whole lines among them are taken, and
-    /// the check waits for more; `Fault` only where the world's count of faults rose; `PastNumbers` only where the number
-    /// of the next line, and as many as bytes may come, reach 2^64 - 1. After an error nothing more may be checked. The
-    /// cost is that of `Judge::enter`, and that of each line.
+    /// the check waits for more; `Fault` only where the world's count of faults rose; `PastNumbers` only where the
+    /// number of the next line, with as many more as bytes may come, reaches 2^64 - 1. After an error nothing more may
+    /// be checked. The cost is that of `Judge::enter`, and that of each line.
     pub fn command<W: World>(
         &mut self,
         entry: &Next,

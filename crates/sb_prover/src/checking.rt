@@ -62,9 +62,10 @@ impl Prover {
     /// empty clause stands in the proof, else what a search finds over the live assertions that refute the check, where
     /// a constant has no word, or over those of other structure and the memberships of their constants; and `Unknown`
     /// where a check may have no more lines, or without lines no more steps: where a search is made, `budget` is then
-    /// one of 2^64 - 1 steps, of which those of the search are spent. Where there are no such assertions nothing is searched. Where `proves` is
-    /// true, puts the lines that prove the verdict, the verdict's own line as the last; else what is put proves nothing,
-    /// no lines of regexes are made for a lemma, and a check in which a constant has no word is `Unsat` at once.
+    /// one of 2^64 - 1 steps, of which those of the search are spent. Where there are no such assertions nothing is
+    /// searched. Where `proves` is true, puts the lines that prove the verdict, the verdict's own line as the last;
+    /// else what is put proves nothing, no lines of regexes are made for a lemma, and a check in which a constant has
+    /// no word is `Unsat` at once.
     ///
     /// Linear in the lines, and for a `Sat` in the constants and their characters; the time is that of the search,
     /// which may be exponential in the atoms of those assertions, and of what is explored that was not yet. Of the

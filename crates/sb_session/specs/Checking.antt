@@ -39,7 +39,8 @@ HasLevels s proving = HaveLevels (asked_in s).live proving.evidence
 abbrev pub HasTrue : State → Store → Proving → Type 0
 HasTrue s store proving = IsTrue (asked_in s) store.arena store.graph.memo proving.evidence
 
--- What is known while a session goes on: of the live assertions, that they fit and are well sorted, and of the evidence.
+-- What is known while a session goes on: of the live assertions, that they fit and are well sorted, and of the
+-- evidence.
 pub record Holds (stack : Stacked) (decider : Decider) (proving : Proving) : Type 0 where
   pub knows : Knows decider stack
   pub regexes : HasRegexes decider.store proving

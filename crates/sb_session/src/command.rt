@@ -160,8 +160,8 @@ impl Session {
 
     /// Answers the next entry of the script, whole, before it returns; at a check the lines of its proof are written
     /// before the answer, where a proof is. `Ended` exactly where an earlier entry was `(exit)` or was not answered;
-    /// `Fault` only where the world's count of faults rose; `Spent` only where no proof is written, at a check that took
-    /// 2^64 - 1 steps. Linear in the entry and the answer, and for a check in the
+    /// `Fault` only where the world's count of faults rose; `Spent` only where no proof is written, at a check that
+    /// took 2^64 - 1 steps. Linear in the entry and the answer, and for a check in the
     /// assertions and constants that are new since the last check with a model, in what they make it explore, and in
     /// the lines of its proof.
     pub fn command<W: World>(&mut self, entry: &Next, world: &mut W) -> Result<Went, SessionFault>

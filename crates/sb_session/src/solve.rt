@@ -66,8 +66,8 @@ pub fn solve_top<W: World>(alloc: Global, words: &[String], world: &mut W) -> So
         → (result ≡ SolveStatus.Done) ⊎ (result ≡ SolveStatus.Unfinished)
         → IsCertified (asked_by (map string_bytes words.now) (2 ^ 32)) (W.outside world.old) (W.outside world.new) }
 
-    // Nothing else than want of memory, or without a proof a check of 2^64 - 1 steps, keeps a script whose end or exit is
-    // below the limit from being answered, where no fault comes.
+    // Nothing else than want of memory, or without a proof a check of 2^64 - 1 steps, keeps a script whose end or exit
+    // is below the limit from being answered, where no fault comes.
     ensures complete { are_taken (map string_bytes words.now) ≡ true
         → (Rose (W.faults world.old) (W.faults world.new) → ⊥)
         → ((script : List ℕ)

@@ -62,12 +62,12 @@ pub runs_to : (s : Stacked) (b c : Tables) (y : Strings) (z : State) (choices : 
     → theory.Writes b.strings y (written b.engine.kept before old) (written z.kept after new)
     → after.limit ≡ before.limit → before.spent ≤ after.spent
     → Answers s y.store.arena y.atoms z.kept y.wanted after answer → Runs s b before old c after new answer
-runs_to s b c y z choices words before after old new answer is same room stands grows follows writes limit spends answers =
+runs_to s b c y z choices words before after old new answer is same room stands grows follows writes limit spends says =
     subst (λ (t : Tables). Runs s b before old t after new answer) (sym is) (record {
       searched = λ refuted.
           searched_over b y z before after old new refuted room stands grows
           (λ level values obeys. follows level values (λ clause taught. obeys clause taught.1)) writes limit spends;
-      answers = subst (λ (ns : List ℕ). Answers s y.store.arena y.atoms z.kept ns after answer) same answers;
+      answers = subst (λ (ns : List ℕ). Answers s y.store.arena y.atoms z.kept ns after answer) same says;
       refuted_stays = refl;
       gates_stay = refl;
       first_stays = refl;

@@ -38,8 +38,8 @@ pub enum Solved {
 /// nothing: no regex is explored to its end for a lemma, and a step is spent for each lemma and each learned clause.
 ///
 /// The time is that of the search, which may be exponential in the atoms, and of what is explored of regexes.
-/// `NoMemory` also where the literal of a live assertion speaks of a constant of another sort than the atom's, as that of
-/// no well-sorted one does. After an error the evidence may be empty and the store too, and
+/// `NoMemory` also where the literal of a live assertion speaks of a constant of another sort than the atom's, as that
+/// of no well-sorted one does. After an error the evidence may be empty and the store too, and
 /// nothing more may be put.
 pub fn solve<L: Tape>(
     alloc: Global,

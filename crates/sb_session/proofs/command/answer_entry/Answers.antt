@@ -105,7 +105,8 @@ answer_check-requires g c =
           (moved_by c.apply.result c.in_ok-text.field-0 code.Check _ _ c.in_ok-text.was c.in-Check.is e.grows)
           e.words e.constants (c.entries_move_live.ensures entry (state_of s) (state_of t) _ is)
           (c.entries_stay_fit.ensures entry (state_of s) (state_of t) _ is c.requires.held.fit)
-          (sorted_on c.entries_keep_sorts.ensures entry (state_of s) (state_of t) _ is c.requires.held.sorted) c.requires.held;
+          (sorted_on c.entries_keep_sorts.ensures entry (state_of s) (state_of t) _ is c.requires.held.sorted)
+          c.requires.held;
     }
 
 pub returns-in_err-answer_check-in-Check-clause-err : goal.returns-in_err-answer_check-in-Check-clause-err

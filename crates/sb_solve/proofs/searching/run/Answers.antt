@@ -25,7 +25,8 @@ returns-in-Unsat g c =
     let y = c.search.new.theory in
     record {
       runs = runs_to c.args.stack.now c.args.tables.now _ y c.search.new.engine c.search.new.choices y.words
-          _ _ _ _ _ refl c.search.ensures.wanted c.requires.known h.stands h.kept h.follows_by_level h.puts h.limit h.spends
+          _ _ _ _ _ refl c.search.ensures.wanted c.requires.known h.stands h.kept h.follows_by_level h.puts h.limit
+          h.spends
           (subst (IsFound y.wanted [] c.search.new.engine c.search.new.budget) c.in-Unsat.is h.found);
       counts = h.counts;
     }
@@ -36,7 +37,8 @@ returns-in-Spent g c =
     let y = c.search.new.theory in
     record {
       runs = runs_to c.args.stack.now c.args.tables.now _ y c.search.new.engine c.search.new.choices y.words
-          _ _ _ _ _ refl c.search.ensures.wanted c.requires.known h.stands h.kept h.follows_by_level h.puts h.limit h.spends
+          _ _ _ _ _ refl c.search.ensures.wanted c.requires.known h.stands h.kept h.follows_by_level h.puts h.limit
+          h.spends
           (subst (IsFound y.wanted [] c.search.new.engine c.search.new.budget) c.in-Spent.is h.found);
       counts = h.counts;
     }
