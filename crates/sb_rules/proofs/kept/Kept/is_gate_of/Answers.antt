@@ -1,5 +1,6 @@
-use Rattle.std.proofs.Common.{[], ◌∷◌, map, if◌then◌else◌, subst, ap, ◌∙◌}
+use Rattle.std.proofs.Common.{List, [], ◌∷◌, map, if◌then◌else◌, subst, ap, ◌∙◌}
 use Rattle.std.specs.List.{list_any}
+use Rattle.sb_lit.specs.declared.clause.Lit.{Lit}
 use Rattle.sb_lit.specs.Clauses.{negation}
 use Rattle.sb_atoms.specs.GateClauses.{atom_at}
 use Rattle.sb_atoms.specs.Numbered.{Names, atom_in}
@@ -14,12 +15,12 @@ returns-in-And c =
     let clause = c.args.clause.now in
     let l = c.args.literal in
     by_conjunction c.args.self.now.arena atoms clause l c.in-And.conjuncts.items c.in_ok-found.found
-    (subst (λ n. Names atoms n (and_atom c.in-And.conjuncts.items)) c.of.ensures
-    (subst (λ d. Names atoms c.of.result (atom_in d)) c.in-And.is c.describe.ensures))
+    (subst (λ n. Names atoms n (and_atom c.in-And.conjuncts.items)) c.of-id.ensures
+    (subst (λ d. Names atoms c.of-id.result (atom_in d)) c.in-And.is c.describe.ensures))
     c.requires.signs c.requires.among
     (c.in_ok-found.ensures
-    ∙ ap (λ ls. if l.positive then is_set_of clause (l ∷ map negation ls)
-    else list_any (λ m. is_set_of clause (l ∷ m ∷ [])) ls) c.as_slice.ensures)
+    ∙ ap (λ (ls : List Lit). if l.positive then is_set_of clause (l ∷ map negation ls)
+    else list_any (λ m. is_set_of clause (l ∷ m ∷ [])) ls) c.as_slice-conjuncts.ensures)
 
 pub returns : goal.returns
 returns c =
@@ -29,4 +30,4 @@ returns c =
     (atom_there atoms l c.requires.known) (brought_there atoms l c.requires.known c.requires.brought)
     (c.is_one_of.ensures
     ∙ ap (list_any (is_set_of c.args.clause.now))
-    (c.deref.ensures.value ∙ (c.in_ok-said.ensures ∙ ap (λ n. clauses_of n (atom_at atoms n)) c.of.ensures)))
+    (c.deref.ensures.value ∙ (c.in_ok-said.ensures ∙ ap (λ n. clauses_of n (atom_at atoms n)) c.of-id.ensures)))
