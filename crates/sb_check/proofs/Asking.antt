@@ -1,9 +1,8 @@
 -- What a check of the state asks of a line, over the table of its terms.
 use Rattle.std.proofs.Common.{◌≡◌, ◌==◌, ℕ, suc, ◌+◌, Bool, true, List, [], ◌∷◌, ◌++◌, map, length, take, drop, Option, Some, None, option_map, refl, ap, ap₂, sym, ◌∙◌, subst, add-one}
-use Rattle.std.specs.List.{All, list_all}
+use Rattle.std.specs.List.{list_all}
 use Rattle.std.proofs.lemmas.Bool.{and_parts, eqb-true}
 use Rattle.std.proofs.lemmas.List.{take-map, drop-map, map-append, take-append-drop}
-use Rattle.std.proofs.lemmas.List.Elements.{All-nil, All-cons}
 use Rattle.sb_meaning.specs.Terms.{Term}
 use Rattle.sb_script.specs.State as meaning
 use Rattle.sb_script.specs.Scopes.{Naming}
@@ -14,9 +13,7 @@ use Rattle.sb_term.specs.declared.sort.Sort.{Sort}
 use Rattle.sb_sorts.specs.Scopes.{names_in}
 use Rattle.sb_stack.specs.declared.level.Level.{Level}
 use Rattle.sb_stack.specs.Stacked.{Stacked, state_of, assertion_in, assertion_of, front_names, first_level, levels_above, have_levels}
-use Rattle.sb_stack.proofs.CallerLemmas.{live_laid}
-use Rattle.sb_sound.specs.SimpleStates.{is_simple}
-use Rattle.sb_rules.specs.Kept.{IsAsked, IsSimple, live_in}
+use Rattle.sb_rules.specs.Kept.{IsAsked, live_in}
 
 term_as : (ts : List Term) (t : Option ℕ) → term_of (assertion_of ts t) ≡ option_map (term_at ts) t
 term_as ts None = refl
@@ -65,21 +62,6 @@ asked_of stack levels = record {
   limit = refl;
 }
 
-pub simple_of : (ts : List Term) (assertions : List Assertion)
-    → list_all is_simple (meaning.terms_in (map (assertion_in ts) assertions)) ≡ true → All (IsSimple ts) assertions
-simple_of ts [] h = All-nil (IsSimple ts)
-simple_of ts (a ∷ rest) h = step a.term refl h (simple_of ts rest)
-  where
-    step : (t : Option ℕ) → a.term ≡ t
-        → list_all is_simple (meaning.terms_in (assertion_of ts t ∷ map (assertion_in ts) rest)) ≡ true
-        → (list_all is_simple (meaning.terms_in (map (assertion_in ts) rest)) ≡ true → All (IsSimple ts) rest)
-        → All (IsSimple ts) (a ∷ rest)
-    step None is h again = All-cons (IsSimple ts) a rest (rw is tt) (again h)
-    step (Some id) is h again =
-        let parts = and_parts (is_simple (term_at ts id))
-        (list_all is_simple (meaning.terms_in (map (assertion_in ts) rest))) h in
-        All-cons (IsSimple ts) a rest (rw is parts.0) (again parts.1)
-
 pub asked_over : (stack : Stacked) (ts : List Term) (assertions : List Assertion) (sorts : List Sort) → ts ≡ stack.table
     → assertions ≡ stack.assertions → sorts ≡ stack.scope.sorts → have_levels stack.levels stack.assertions ≡ true
     → IsAsked ts assertions sorts 0 (asked_in (state_of stack))
@@ -87,11 +69,3 @@ asked_over stack ts assertions sorts t a d levels =
     subst (λ x. IsAsked x assertions sorts 0 (asked_in (state_of stack))) (sym t)
     (subst (λ x. IsAsked stack.table x sorts 0 (asked_in (state_of stack))) (sym a)
     (subst (λ x. IsAsked stack.table stack.assertions x 0 (asked_in (state_of stack))) (sym d) (asked_of stack levels)))
-
-pub simple_over : (stack : Stacked) (ts : List Term) (assertions : List Assertion) → ts ≡ stack.table
-    → assertions ≡ stack.assertions → list_all is_simple (meaning.live_terms (state_of stack)) ≡ true
-    → All (IsSimple ts) assertions
-simple_over stack ts assertions t a h =
-    subst (λ x. All (IsSimple x) assertions) (sym t)
-    (subst (λ x. All (IsSimple stack.table) x) (sym a) (simple_of stack.table stack.assertions
-    (ap (λ live. list_all is_simple (meaning.terms_in live)) (sym (live_laid stack)) ∙ h)))

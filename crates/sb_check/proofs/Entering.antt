@@ -1,10 +1,9 @@
 -- An entry of the script, and what is known behind it.
-use Rattle.std.proofs.Common.{◌≡◌, ℕ, true, List, [], ◌∷◌, length, Option, Some, None, Ok, ap, sym, refl, ◌∙◌, subst}
+use Rattle.std.proofs.Common.{◌≡◌, ℕ, List, [], ◌∷◌, length, Option, Some, None, Ok, ap, sym, refl, ◌∙◌, subst}
 use Rattle.std.specs.declared.vec.Vec.{Vec}
 use Rattle.std.specs.declared.alloc.Global.{Global}
 use Rattle.std.specs.declared.alloc.AllocError.{AllocError}
 use Rattle.sb_meaning.specs.Terms.{Term}
-use Rattle.sb_sound.specs.SimpleStates.{is_simple_state, is_simple_behind}
 use Rattle.sb_script.specs.State.{State}
 use Rattle.sb_script.specs.Steps as meaning
 use Rattle.sb_rulebook.specs.Kept.{AllKept, nothing_kept}
@@ -19,7 +18,7 @@ use Rattle.sb_models.specs.Knowing.{Knows}
 use Rattle.sb_models.specs.Laws.{ModelsStay, LeavesKnown}
 use Rattle.sb_stack.specs.declared.stack.Step.{Step}
 use Rattle.sb_stack.specs.declared.stack.Step.TheVariants as code
-use Rattle.sb_stack.specs.Stacked.{Stacked, state_of, IsLonger}
+use Rattle.sb_stack.specs.Stacked.{Stacked, IsLonger}
 use Rattle.sb_stack.specs.Steps.{IsStep, IsMoved, leaving_in}
 use Rattle.sb_check.specs.declared.entry.Entered.{Entered}
 use Rattle.sb_check.specs.declared.entry.Entered.TheVariants as entered
@@ -62,30 +61,6 @@ enters (meaning.exits bytes) (code.Answer text) old new h = absurd h
 enters (meaning.exits bytes) (code.Left text level) old new h = absurd h
 enters (meaning.exits bytes) code.Check old new h = absurd h
 enters (meaning.exits bytes) (code.Exit text) old new h = (refl, refl)
-
-pub stays_simple : (is : meaning.Step) (step : Step) (old new : State) → IsStep is step old new
-    → is_simple_behind is ≡ true → is_simple_state old ≡ true → is_simple_state new ≡ true
-stays_simple (meaning.answers bytes s) (code.Answer text) old new h behind simple = ap is_simple_state h.1 ∙ behind
-stays_simple (meaning.answers bytes s) (code.Left text level) old new h behind simple = absurd h
-stays_simple (meaning.answers bytes s) code.Check old new h behind simple = absurd h
-stays_simple (meaning.answers bytes s) (code.Exit text) old new h behind simple = absurd h
-stays_simple (meaning.leaves what bytes s) (code.Answer text) old new h behind simple = absurd h
-stays_simple (meaning.leaves what bytes s) (code.Left text level) old new h behind simple =
-    ap is_simple_state h.1.1 ∙ behind
-stays_simple (meaning.leaves what bytes s) code.Check old new h behind simple = absurd h
-stays_simple (meaning.leaves what bytes s) (code.Exit text) old new h behind simple = absurd h
-stays_simple (meaning.checks []) (code.Answer text) old new h behind simple = absurd h
-stays_simple (meaning.checks []) (code.Left text level) old new h behind simple = absurd h
-stays_simple (meaning.checks []) code.Check old new h behind simple = ap is_simple_state h ∙ simple
-stays_simple (meaning.checks []) (code.Exit text) old new h behind simple = absurd h
-stays_simple (meaning.checks (a ∷ more)) (code.Answer text) old new h behind simple = absurd h
-stays_simple (meaning.checks (a ∷ more)) (code.Left text level) old new h behind simple = absurd h
-stays_simple (meaning.checks (a ∷ more)) code.Check old new h behind simple = absurd h
-stays_simple (meaning.checks (a ∷ more)) (code.Exit text) old new h behind simple = absurd h
-stays_simple (meaning.exits bytes) (code.Answer text) old new h behind simple = absurd h
-stays_simple (meaning.exits bytes) (code.Left text level) old new h behind simple = absurd h
-stays_simple (meaning.exits bytes) code.Check old new h behind simple = absurd h
-stays_simple (meaning.exits bytes) (code.Exit text) old new h behind simple = ap is_simple_state h.1 ∙ simple
 
 -- Levels were left.
 
@@ -139,13 +114,12 @@ left_nothing (Some n) format = refl
 left_nothing None format = refl
 
 pub stands_left : (level : Option ℕ) (j k : Judge) (stack : Stacked) → k.stack ≡ stack → IsStanding j
-    → is_simple_state (state_of stack) ≡ true → Extends j.stack.table stack.table
-    → IsLonger stack.assertions j.stack.assertions → NormalsStay → k.begun ≡ j.begun
+    → Extends j.stack.table stack.table → IsLonger stack.assertions j.stack.assertions → NormalsStay
+    → k.begun ≡ j.begun
     → ((others : AllKept) → kept_in k.kept others ≡ left_in level (kept_in j.kept others))
     → ((ts : List Term) → IsOver ts j.kept → IsOver ts k.kept)
     → LeavesKnown (length stack.assertions) j.models k.models → IsStanding k
-stands_left level j k stack is h simple e shorter normals begun kept over models = record {
-  simple = ap (λ (s : Stacked). is_simple_state (state_of s)) is ∙ simple;
+stands_left level j k stack is h e shorter normals begun kept over models = record {
   over = subst (λ (s : Stacked). IsOver s.table k.kept) (sym is) (over stack.table (record {
     whole = h.over.whole;
     normals = normals j.stack.table stack.table j.kept.arena j.kept.arena j.kept.normals e (extends_same j.kept.arena)
@@ -158,11 +132,9 @@ stands_left level j k stack is h simple e shorter normals begun kept over models
 }
 
 -- what is known of the state is known of the next one
-pub stands : (j : Judge) (stack : Stacked) → IsStanding j → is_simple_state (state_of stack) ≡ true
-    → Extends j.stack.table stack.table → IsLonger j.stack.assertions stack.assertions → NormalsStay → ModelsStay
-    → IsStanding (record j { stack = stack })
-stands j stack h simple e longer normals models = record {
-  simple = simple;
+pub stands : (j : Judge) (stack : Stacked) → IsStanding j → Extends j.stack.table stack.table
+    → IsLonger j.stack.assertions stack.assertions → NormalsStay → ModelsStay → IsStanding (record j { stack = stack })
+stands j stack h e longer normals models = record {
   over = record {
     whole = h.over.whole;
     normals = normals j.stack.table stack.table j.kept.arena j.kept.arena j.kept.normals e (extends_same j.kept.arena)

@@ -27,13 +27,11 @@ pub stands_grown : (j : Judge) (rs : List Regex) (plain : Memory) (normals : Lis
     → Knows models j.stack
     → IsStanding (record j { kept = record j.kept { arena = rs; plain = plain; normals = normals }; models = models })
 stands_grown j rs plain normals models h e n r m = record {
-  simple = h.simple;
   over = record {
     whole = record {
       regexes = numbers_kept j.kept.arena rs j.kept.regexes.order e h.over.whole.regexes;
       plain = r;
       atoms = regexes_kept j.kept.arena rs j.kept.atoms e h.over.whole.atoms;
-      brought = h.over.whole.brought;
     };
     normals = n;
     measures = h.over.measures;

@@ -1,7 +1,6 @@
 -- How far a proof has come along a script, as far as the judge knows.
 use Rattle.std.specs.Prelude.{◌≡◌, ◌^◌, ◌-◌, ℕ, Bool, true, false, List, [], ◌∷◌, ◌++◌, Option, Some, None}
 use Rattle.sb_lit.specs.declared.clause.Lit.{Lit}
-use Rattle.sb_sound.specs.SimpleStates.{is_simple_state}
 use Rattle.sb_script.specs.State.{State}
 use Rattle.sb_proof.specs.declared.line.Line.{Line}
 use Rattle.sb_proof.specs.declared.line.Line.TheVariants as code
@@ -23,7 +22,6 @@ use Rattle.sb_check.specs.Reasons.{reason_in}
 
 -- What is kept of the script and of the proof belongs to the state.
 pub record IsStanding (j : Judge) : Type 0 where
-  pub simple : is_simple_state (state_of j.stack) ≡ true
   pub over : IsOver j.stack.table j.kept
   pub models : Knows j.models j.stack
   pub fresh : j.begun ≡ false → (format : ℕ) → kept_in j.kept (nothing_kept format) ≡ nothing_kept format

@@ -16,7 +16,6 @@ use crate::judge::Judge;
 use sb_models::models_stay;
 use sb_problem::normals_stay;
 use sb_reader::Next;
-use sb_sound::reached::entries_stay_simple;
 use sb_stack::Step;
 use std::alloc::AllocError;
 
@@ -49,7 +48,6 @@ impl Judge {
         ensures next { self.new.next ≡ self.old.next }
         ensures standing { OnOk result (IsStanding self.new) }
     {
-        entries_stay_simple();
         normals_stay();
         models_stay();
         match self.stack.apply(entry)? {

@@ -22,7 +22,6 @@ use sb_plain::right_stays;
 use sb_problem::normals_stay;
 use sb_proof::{Line, Said, Value, read_line};
 use sb_rules::{Fault, Kept};
-use sb_sound::reached::live_are_simple;
 use sb_stack::Stack;
 use std::alloc::{AllocError, Global};
 
@@ -273,7 +272,6 @@ impl Judge {
         ensures next { OnOk result (self.new.next ≡ self.old.next + 1) }
         ensures standing { IsStanding self.new }
     {
-        live_are_simple();
         match self.kept.follows(
             self.stack.table(),
             self.stack.assertions(),

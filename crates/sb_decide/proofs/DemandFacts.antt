@@ -1,6 +1,6 @@
 -- Terms that demand something of one constant's word: they ask for it, or are the denial of a term that does. Which
 -- constant stands in them, what they mean, when they are decided ones, and the regexes that they demand.
-use Rattle.sb_decide.proofs.Words.{Bool, Demand, IsAsking, IsNumberOf, IsRegexOf, List, Meaning, Names, None, Option, RegLan, Regex, Some, Sort, Symbol, Term, Terms, Text, Valuation, [], a_membership, a_word_behind, a_word_in_front, all_true, and-false, and-true, and_from, and_parts, ap, applied, apply, asked, asked_holds, asked_looks, asked_occurs, asked_regular, asked_structure, asserted, complement_of, constant, demanded, expression_in, false, false≢true, fits, has_serials_below, have_serials_below, holds, if◌then◌else◌, in_re, is_about, is_decided, is_demand, is_of_constant, is_plain_term, is_regex, is_regular, is_structure, length, meaning_of, means_number, means_reglan, means_truth, means_word, membership_of, mknot, names_at, nat_lt, negation_of, no_terms, none-some, normal, not, occurs, option_map, or_parts, pattern_in, re_comp, refl, regex_at, speak_of, speaks_of, subst, sym, symbol_in, terms_at, terms_of, text, true, truth_in, value_in, with_term, ℕ, ◌&&◌, ◌==◌, ◌||◌, ◌∙◌, ◌∷◌, ◌≡◌}
+use Rattle.sb_decide.proofs.Words.{Bool, Demand, IsAsking, IsNumberOf, IsRegexOf, List, Meaning, Names, None, Option, RegLan, Regex, Some, Sort, Symbol, Term, Terms, Text, Valuation, [], a_membership, a_word_behind, a_word_in_front, all_true, and-true, and_parts, ap, applied, apply, asked, asked_holds, asked_looks, asked_occurs, asked_regular, asked_structure, asserted, complement_of, constant, demanded, expression_in, false, false≢true, fits, has_serials_below, have_serials_below, holds, if◌then◌else◌, in_re, is_about, is_decided, is_demand, is_of_constant, is_plain_term, is_regex, is_regular, is_structure, length, meaning_of, means_number, means_reglan, means_truth, means_word, membership_of, mknot, names_at, nat_lt, negation_of, no_terms, none-some, normal, not, occurs, option_map, or_parts, pattern_in, re_comp, refl, regex_at, speak_of, speaks_of, subst, sym, symbol_in, terms_at, terms_of, text, true, truth_in, value_in, with_term, ℕ, ◌&&◌, ◌==◌, ◌||◌, ◌∙◌, ◌∷◌, ◌≡◌}
 use Rattle.sb_meaning.specs.Terms as symbol
 use Rattle.sb_term.specs.declared.sort.Symbol.TheVariants as code
 
@@ -222,25 +222,16 @@ demanded_structure t serial R h = step (demanded_looks t serial R h)
         ∙ asked_structure u serial S asks
         ∙ sym (ap is_regex same)
 
--- it is a decided one where it is within the limits on sizes
-pub demanded_decided : (t : Term) (serial : ℕ) (R : Term) → demanded t ≡ Some (serial, R) → is_regex R ≡ true
-    → fits t ≡ true → is_decided (asserted t) ≡ true
-demanded_decided t serial R h kind fit =
-    and_from (is_structure t) (fits t) (demanded_structure t serial R h ∙ kind) fit
-
 -- what a decided one demands is a regular expression over literals
 pub decided_kind : (t : Term) (serial : ℕ) (R : Term) → demanded t ≡ Some (serial, R)
     → is_decided (asserted t) ≡ true → is_regex R ≡ true
 decided_kind t serial R h decided =
     sym (demanded_structure t serial R h) ∙ (and_parts (is_structure t) (fits t) decided).0
 
--- so it is none where it demands another one, and none past the limits
+-- so it demands no other one
 pub other_kind : (t : Term) (serial : ℕ) (R : Term) → demanded t ≡ Some (serial, R) → is_regex R ≡ false
-    → is_decided (asserted t) ≡ false
-other_kind t serial R h kind = ap (λ b. b && fits t) (demanded_structure t serial R h ∙ kind)
-
-pub too_large : (t : Term) → fits t ≡ false → is_decided (asserted t) ≡ false
-too_large t h = ap (λ b. is_structure t && b) h ∙ and-false (is_structure t)
+    → is_decided (asserted t) ≡ true → ⊥
+other_kind t serial R h kind decided = false≢true (sym kind ∙ decided_kind t serial R h decided)
 
 -- Plain terms.
 

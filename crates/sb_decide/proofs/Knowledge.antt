@@ -1,15 +1,19 @@
 -- What is known of the assertions so far, as more of it becomes known.
-use Rattle.sb_decide.proofs.Words.{◌≡◌, ℕ, zero, suc, ◌<◌, ◌≤◌, Bool, true, false, ◌&&◌, ◌==◌, nat_lt, List, [], ◌∷◌, ◌++◌, length, get_or, slice_get, map, take, refl, sym, ap, ◌∙◌, arith, Option, Some, None, IfSome, if◌then◌else◌, subst, subst₂, vec_len, append-nil, length-append, ◌-◌, All, All-nil, All-pop, All-push, All-same, AreHeard, AreKept, AreMembers, AreRooted, Assertion, Conjoined, Contains, Decider, Extends, Found, Global, Grows, HasNumberBelow, HasRegexBelow, HasRoom, HasSerialBelow, IsChangedAt, IsEmptyAt, IsLeastOf, IsLonger, IsMember, IsOther, IsRegexOf, IsStoreOf, IsTaken, IsTakenAs, Knows, KnowsGrown, Member, NormalsStay, Regex, RestSettled, Serial, Stacked, StayKept, Store, Term, Vec, a_mark, all_below, and-false, asserted, assertion_in, assertion_of, conjoined_at, demanded, eqb-false, extends_same, fits, has_serials_below, ids_in, is_decided, is_settled, list_all, nat_tests, nil_from_length, other_dead, other_places, places_in, places_of, slice_get_within, take-append-le, term_at, without_last, without_place, word_at}
+use Rattle.sb_decide.proofs.Words.{◌≡◌, ℕ, zero, suc, ◌<◌, ◌≤◌, Bool, true, false, ◌==◌, nat_lt, List, [], ◌∷◌, ◌++◌, length, get_or, slice_get, map, take, refl, sym, ap, ◌∙◌, arith, Option, Some, None, IfSome, if◌then◌else◌, subst, subst₂, vec_len, append-nil, length-append, ◌-◌, All, All-nil, All-pop, All-push, All-same, AreHeard, AreKept, AreMembers, AreRooted, Assertion, Conjoined, Contains, Decider, Extends, Found, Global, Grows, HasNumberBelow, HasRegexBelow, HasRoom, HasSerialBelow, IsChangedAt, IsEmptyAt, IsLeastOf, IsLonger, IsMember, IsOther, IsRegexOf, IsStoreOf, IsTaken, IsTakenAs, Knows, KnowsGrown, Member, NormalsStay, Regex, RestSettled, Serial, Stacked, StayKept, Store, Term, Vec, a_mark, all_below, and_parts, asserted, assertion_in, assertion_of, conjoined_at, demanded, eqb-false, extends_same, has_serials_below, ids_in, is_decided, is_settled, list_all, nat_tests, nil_from_length, other_dead, other_places, places_in, places_of, slice_get_within, take-append-le, term_at, without_last, without_place, word_at}
 use Rattle.sb_term.specs.declared.assertion.Assertion as code
 use Rattle.sb_term.specs.Numbered as table
 use Rattle.sb_term.proofs.CallerLemmas as table_facts
 use Rattle.sb_decide.proofs.Constants.{last_gone, places_back, IsPut}
-use Rattle.sb_decide.proofs.DemandFacts.{demanded_below, demanded_decided}
+use Rattle.sb_decide.proofs.DemandFacts.{demanded_below}
 use Rattle.sb_decide.proofs.Hearing.{heard_none, heard_same, heard_told}
 use Rattle.sb_decide.proofs.KeptWords.{ids_long, known_fewer, least_fewer, least_grown, least_more, least_of_none}
 use Rattle.sb_decide.proofs.MemberFacts.{by_number, same_left, members_moved, members_told, members_few, members_pushed, members_popped, ids_below, ids_here, ids_other, places_here, others_below, empty_grown, empty_pushed, empty_same, ids_append, places_append, others_append, regex_below}
 use Rattle.sb_decide.proofs.RootFacts.{rooted_grown, rooted_pushed, rooted_popped}
+use Rattle.sb_fragment.specs.declared.keeper.Fragment.{Fragment}
+use Rattle.sb_fragment.specs.Inside.{AreInside}
+use Rattle.sb_fragment.proofs.CallerLemmas.{inside_none, inside_stays, inside_left}
 use Rattle.sb_store.proofs.CallerLemmas.{more_terms}
+use Rattle.std.specs.Prelude.{min}
 
 -- of a constant, if there is one
 pub some_more : (P Q : ℕ → Type 0) → ((n : ℕ) → P n → Q n) → (dead : Option Serial) → IfSome dead (λ s. P s.0)
@@ -50,6 +54,7 @@ pub knows_known : (kept : Decider) (store : Store) (roots : Vec (Option ℕ) Glo
     (stack : Stacked) → Grows stack.table kept.store store → AreRooted store.arena kept.members.items roots.items →
     Knows kept stack → Knows (record kept { store = store; roots = roots; found = fs }) stack
 knows_known kept store roots fs stack grows rooted k = record {
+  inside = k.inside;
   taken = taken_known kept store roots fs stack.table stack.assertions grows rooted k.taken;
   words = kept_grown kept.store.arena store.arena kept.members.items kept.constants.items stack.words grows.more.extends
       k.taken.rooted.numbers k.words;
@@ -242,6 +247,7 @@ pub knows_back : (kept : Decider) (m : Member) (members : Vec (Option Member) Gl
     All (λ other. other.0 < length kept.constants.items) changed.items) → Knows kept stack → Knows
     (record kept { members = members; roots = roots; constants = constants; changed = changed; dead = dead }) stack
 knows_back kept m members roots constants changed dead stack was front gone put settled listed k = record {
+  inside = k.inside;
   taken = record {
     store = t.store;
     members = members_popped kept.store.arena stack.table ms stack.assertions (Some m) (rw was at t.members);
@@ -284,6 +290,7 @@ pub knows_back_other : (kept d : Decider) (stack : Stacked) → kept.members.ite
     → AreHeard stack.table stack.assertions d.others.items d.heard d.spoken.keys) → Knows kept stack → Knows
     (record kept { members = d.members; roots = d.roots; others = d.others; spoken = d.spoken; heard = d.heard }) stack
 knows_back_other kept d stack was front rest fewer k = record {
+  inside = k.inside;
   taken = record {
     store = t.store;
     members = members_popped kept.store.arena stack.table ms stack.assertions None (rw was at t.members);
@@ -330,22 +337,17 @@ at_place v xs i x same is =
     let e : i ≡ length v.items = omega (arith, same, v.ok.0) in
     subst (λ j. x ≡ get_or xs j x) e is
 
--- an assertion that is not decided
-pub one_outside : (ts : List Term) (xs : List code.Assertion) (i : ℕ) (x : code.Assertion) → i < length xs
-    → x ≡ get_or xs i x → is_decided (assertion_in ts x) ≡ false →
-    list_all is_decided (map (assertion_in ts) xs) ≡ false
-one_outside ts [] i x low is h = absurd (omega arith)
-one_outside ts (y ∷ xs) zero x low is h = rw (← is) (rw h refl)
-one_outside ts (y ∷ xs) (suc i) x low is h =
-    ap (λ b. is_decided (assertion_in ts y) && b) (one_outside ts xs i x (omega arith) is h)
-    ∙ and-false (is_decided (assertion_in ts y))
-
--- of this term, or of none
-pub term_outside : (ts : List Term) (xs : List code.Assertion) (i : ℕ) (x : code.Assertion) (o : Option ℕ)
-    → i < length xs → x ≡ get_or xs i x → x.term ≡ o → is_decided (assertion_of ts o) ≡ false
-    → list_all is_decided (map (assertion_in ts) xs) ≡ false
-term_outside ts xs i x o low is there outside =
-    one_outside ts xs i x low is (ap (λ p. is_decided (assertion_of ts p)) there ∙ outside)
+-- an assertion of this term, or of none, is decided where all are
+pub term_decided : (ts : List Term) (xs : List code.Assertion) (i : ℕ) (x : code.Assertion) (o : Option ℕ)
+    → i < length xs → x ≡ get_or xs i x → x.term ≡ o → list_all is_decided (map (assertion_in ts) xs) ≡ true
+    → is_decided (assertion_of ts o) ≡ true
+term_decided ts [] i x o low is there all = absurd (omega arith)
+term_decided ts (y ∷ xs) zero x o low is there all =
+    ap (λ p. is_decided (assertion_of ts p)) (sym there) ∙ ap (λ a. is_decided (assertion_in ts a)) is
+    ∙ (and_parts (is_decided (assertion_in ts y)) (list_all is_decided (map (assertion_in ts) xs)) all).0
+term_decided ts (y ∷ xs) (suc i) x o low is there all =
+    term_decided ts xs i x o (omega arith) is there
+    (and_parts (is_decided (assertion_in ts y)) (list_all is_decided (map (assertion_in ts) xs)) all).1
 
 -- the next assertion is none that asks for one constant's word alone
 pub is_other : (ts : List Term) (xs : List code.Assertion) (i : ℕ) (x : code.Assertion) (id : ℕ)
@@ -369,15 +371,15 @@ number_within n xs i x id numbers low is there =
 -- the next assertion is a membership
 pub is_member : (rs : List Regex) (ts : List Term) (xs : List code.Assertion) (i : ℕ) (x : code.Assertion)
     (m : Member) (id : ℕ) (R : Term) → All (HasNumberBelow (length ts)) xs → i < length xs → x ≡ get_or xs i x →
-    x.term ≡ Some id → demanded (term_at ts id) ≡ Some (m.serial.0, R) → fits (term_at ts id) ≡ true →
-    IsRegexOf rs R m.regex → IsMember rs ts m x
-is_member rs ts xs i x m id R numbers low at there asks fit regex = record {
+    x.term ≡ Some id → demanded (term_at ts id) ≡ Some (m.serial.0, R) →
+    is_decided (asserted (term_at ts id)) ≡ true → IsRegexOf rs R m.regex → IsMember rs ts m x
+is_member rs ts xs i x m id R numbers low at there asks decided regex = record {
   term = term_at ts id;
   wanted = R;
   number = rw at (numbers i x low);
   is = ap (assertion_of ts) there;
   asks = asks;
-  decided = demanded_decided (term_at ts id) m.serial.0 R asks regex.kind fit;
+  decided = decided;
   regex = regex;
 }
 
@@ -405,14 +407,15 @@ serial_within n ts xs i x id serial R h numbers l is there asks =
     grind (arith, nat_tests)
 
 -- nothing is known yet
-pub knows_none : (kept : Decider) (stack : Stacked) → length kept.members.items ≡ 0 → length kept.roots.items ≡ 0 →
-    length kept.others.items ≡ 0 → length kept.constants.items ≡ 0 → length kept.changed.items ≡ 0 →
+pub knows_none : (kept : Decider) (stack : Stacked) → kept.fragment.inside ≡ 0 →
+    length kept.members.items ≡ 0 → length kept.roots.items ≡ 0 → length kept.others.items ≡ 0 → length kept.constants.items ≡ 0 → length kept.changed.items ≡ 0 →
     length kept.left.items ≡ 0 → kept.spoken.keys ≡ [] → kept.heard ≡ 0 → kept.dead ≡ None →
     IsStoreOf stack.table kept.store → stack.words ≡ [] → Knows kept stack
-knows_none kept stack members roots others constants changed left spoken heard dead store words =
+knows_none kept stack inside members roots others constants changed left spoken heard dead store words =
     let none : kept.constants.items ≡ [] = nil_from_length kept.constants.items constants in
     let nothing : kept.members.items ≡ [] = nil_from_length kept.members.items members in
     record {
+      inside = inside_none kept.fragment.inside stack.table stack.assertions inside;
       taken = record {
         store = store;
         members = rw nothing tt;
@@ -449,10 +452,12 @@ knows_none kept stack members roots others constants changed left spoken heard d
 knows_told : NormalsStay → (kept : Decider) (old new : Stacked) → table.Extends old.table new.table
     → new.words ≡ old.words → length old.scope.sorts ≤ length new.scope.sorts
     → ((p : ℕ) → p < length kept.members.items → slice_get new.assertions p ≡ slice_get old.assertions p)
-    → Knows kept old → Knows kept new
-knows_told stays kept old new e words constants same k =
+    → (f : Fragment) → AreInside f.inside new.table new.assertions → Knows kept old
+    → Knows (record kept { fragment = f }) new
+knows_told stays kept old new e words constants same f inside k =
     let t = k.taken in
     let ms = kept.members.items in record {
+      inside = inside;
       taken = record {
         store = more_terms stays old.table new.table kept.store e t.store;
         members = members_told kept.store.arena new.table ms old.assertions new.assertions same
@@ -477,15 +482,19 @@ pub knows_stays : NormalsStay → (kept : Decider) (old new : Stacked) → table
 knows_stays stays kept old new e longer words constants k =
     let few = members_few kept.store.arena old.table kept.members.items old.assertions k.taken.members in
     knows_told stays kept old new e words constants (λ p l. ap (λ xs. slice_get xs p) longer.1
-    ∙ same_left old.assertions longer.0 p (omega (arith, l, few))) k
+    ∙ same_left old.assertions longer.0 p (omega (arith, l, few))) kept.fragment
+    (inside_stays kept.fragment.inside old.table new.table old.assertions new.assertions longer.0 e longer.1 k.inside) k
 
 -- the table grows, and assertions go that were not taken in
-pub knows_left : NormalsStay → (kept : Decider) (old new : Stacked) → table.Extends old.table new.table
-    → IsLonger new.assertions old.assertions → length kept.members.items ≤ length new.assertions
-    → new.words ≡ old.words → length old.scope.sorts ≤ length new.scope.sorts → Knows kept old → Knows kept new
-knows_left stays kept old new e longer few words constants =
+pub knows_left : NormalsStay → (kept : Decider) (f : Fragment) (old new : Stacked) (count : ℕ)
+    → table.Extends old.table new.table → IsLonger new.assertions old.assertions → count ≤ length new.assertions
+    → length kept.members.items ≤ count → f.inside ≡ min kept.fragment.inside count → new.words ≡ old.words
+    → length old.scope.sorts ≤ length new.scope.sorts → Knows kept old → Knows (record kept { fragment = f }) new
+knows_left stays kept f old new count e longer there few left words constants k =
     knows_told stays kept old new e words constants (λ p l. sym (ap (λ xs. slice_get xs p) longer.1
-    ∙ same_left new.assertions longer.0 p (omega (arith, l, few))))
+    ∙ same_left new.assertions longer.0 p (omega (arith, l, few, there)))) f
+    (inside_left kept.fragment.inside f.inside old.table new.table old.assertions new.assertions longer.0 e longer.1
+    (omega (arith, left)) (omega (arith, left, there)) k.inside) k
 
 -- a constant is known to have no word
 pub knows_dead : (kept : Decider) (serial : Serial) (stack : Stacked)
@@ -493,6 +502,7 @@ pub knows_dead : (kept : Decider) (serial : Serial) (stack : Stacked)
     → Knows (record kept { dead = Some serial }) stack
 knows_dead kept serial stack empty k =
     let t = k.taken in record {
+      inside = k.inside;
       taken = record {
         store = t.store;
         members = t.members;

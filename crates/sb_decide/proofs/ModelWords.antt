@@ -153,6 +153,7 @@ knows_closed kept stack cs ss ls fs mid words full serials found truths m r over
     let t = r.knows.taken in
     let long : length cs.items ≡ length kept.constants.items = put.same_length ∙ over.same_length in
     record {
+      inside = r.knows.inside;
       taken = record {
         store = t.store;
         members = t.members;

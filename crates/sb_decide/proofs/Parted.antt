@@ -127,6 +127,7 @@ pub knows_parted : (kept d : Decider) (all : List Serial) (stack : Stacked) →
     Knows (record kept { changed = d.changed; left = d.left; spoken = d.spoken; heard = d.heard }) stack
 knows_parted kept d all stack is p count speaks k =
     let t = k.taken in record {
+      inside = k.inside;
       taken = record {
         store = t.store;
         members = t.members;

@@ -1,5 +1,5 @@
 -- What was found of constants is taken over, and a verdict given.
-use Rattle.sb_decide.proofs.Words.{◌≡◌, ◌≢◌, ℕ, ◌+◌, ◌<◌, true, false, List, [], ◌∷◌, ◌++◌, length, get_or, set, map, take, refl, sym, ap, ap₂, ◌∙◌, arith, Option, None, Some, IfSome, is_some, unwrap_or, vec_len, subst, All, All-pop, All-push, AreConjuncts, AreFilled, AreFound, AreKept, AreRooted, AreSpoken, ArenaGrows, Conjoined, Decider, Extends, Findings, Fit, Found, FragmentIsOfEach, Global, HasAll, HasRegexBelow, IntersectionIsOfEach, IsChangedAt, IsEmptyAt, IsFoundAt, IsFoundOf, IsGraph, IsLeastOf, IsReady, IsRootOf, IsShortestLeast, IsSofar, IsSpoken, IsTakingOver, IsVerdict, IsWord, KeepsEntries, KeepsMarks, Knows, Member, MkandKeepsLanguage, Names, NormalHasTermsWords, ReadyGrown, Regex, RegexesGrow, RegexesGrowAlone, RestSettled, Searches, Serial, Stacked, Store, Term, Vec, all_known, assertion_in, blank, conjoined_at, eq-eqb, extends_more, false≢true, get_or-set_other, get_or-set_same, get_or_read, ids_in, is_decided, is_listed, is_member, is_plain, is_plain_assertion, is_settled, is_unsat, language, length-set, list_all, live, live_constants, live_laid, live_terms, map-append, map_push, mkand, names_below, nil_from_length, places_in, regex_at, regexes_at, regexes_both, same_Some, speaks_of, state_of, take_all, take_more, with_items, with_items_is, with_place, with_word, without_place, word_at, word_of, words_in}
+use Rattle.sb_decide.proofs.Words.{◌≡◌, ◌≢◌, ℕ, ◌+◌, ◌<◌, true, false, List, [], ◌∷◌, ◌++◌, length, get_or, set, map, take, refl, sym, ap, ap₂, ◌∙◌, arith, Option, None, Some, IfSome, is_some, unwrap_or, vec_len, subst, All, All-pop, All-push, AreConjuncts, AreFilled, AreFound, AreKept, AreRooted, AreSpoken, ArenaGrows, Conjoined, Decider, Extends, Findings, Fit, Found, FragmentIsOfEach, Global, HasAll, HasRegexBelow, IntersectionIsOfEach, IsChangedAt, IsEmptyAt, IsFoundAt, IsFoundOf, IsGraph, IsLeastOf, IsReady, IsRootOf, IsShortestLeast, IsSofar, IsSpoken, IsTakingOver, IsVerdict, IsWord, KeepsEntries, KeepsMarks, Knows, Member, MkandKeepsLanguage, Names, NormalHasTermsWords, ReadyGrown, Regex, RegexesGrow, RegexesGrowAlone, RestSettled, Searches, Serial, Stacked, Store, Term, Vec, all_known, assertion_in, blank, conjoined_at, eq-eqb, extends_more, false≢true, get_or-set_other, get_or-set_same, get_or_read, ids_in, is_decided, is_listed, is_member, is_plain, is_plain_assertion, is_settled, is_unsat, language, length-set, list_all, live, live_constants, live_laid, live_terms, map-append, map_push, mkand, names_below, nil_from_length, places_in, regex_at, regexes_at, regexes_both, same_Some, speaks_of, state_of, take_all, take_more, with_items, with_items_is, with_place, with_word, without_place, word_at, word_of, words_in, Grows}
 use Rattle.sb_term.specs.declared.assertion.Assertion as code
 use Rattle.sb_decide.proofs.Conjunctions.{same_least, in_root}
 use Rattle.sb_decide.proofs.Constants.{listed_last}
@@ -9,6 +9,8 @@ use Rattle.sb_decide.proofs.MemberFacts.{by_number, words_grown}
 use Rattle.sb_decide.proofs.OneMembership.{members_alone, members_decided, none_other, sofar_of}
 use Rattle.sb_decide.proofs.Verdicts.{unsat_given}
 use Rattle.sb_decide.proofs.RootFacts.{rooted_grown}
+use Rattle.sb_fragment.specs.declared.keeper.Fragment.{Fragment}
+use Rattle.sb_fragment.specs.Inside.{AreInside}
 use Rattle.sb_store.proofs.CallerLemmas.{explored}
 
 -- what was found, over words that are the same
@@ -125,13 +127,34 @@ all_sofar law kept stack k all =
     subst (λ done. IsSofar kept.store.arena done (ids_in kept.members.items)) (all_live kept stack all)
     (sofar_of law kept.store.arena stack.table kept.members.items stack.assertions k.taken.members)
 
--- one that is not decided is a live one
-pub live_outside : (stack : Stacked) (ts : List Term) (xs : List code.Assertion) → ts ≡ stack.table
-    → xs ≡ stack.assertions → list_all is_decided (map (assertion_in ts) xs) ≡ false
-    → list_all is_decided (live (state_of stack)) ≡ false
-live_outside stack ts xs table assertions h =
+-- the live assertions are those of the table
+pub live_as : (stack : Stacked) (ts : List Term) (xs : List code.Assertion) → ts ≡ stack.table
+    → xs ≡ stack.assertions
+    → list_all is_decided (live (state_of stack)) ≡ list_all is_decided (map (assertion_in ts) xs)
+live_as stack ts xs table assertions =
     ap (list_all is_decided)
-    (live_laid stack ∙ ap₂ (λ us ys. map (assertion_in us) ys) (sym table) (sym assertions)) ∙ h
+    (live_laid stack ∙ ap₂ (λ us ys. map (assertion_in us) ys) (sym table) (sym assertions))
+
+-- where they are looked at more is known to be decided
+pub knows_inside : (kept : Decider) (f : Fragment) (store : Store) (stack : Stacked) (ts : List Term)
+    (xs : List code.Assertion) → ts ≡ stack.table → xs ≡ stack.assertions → AreInside f.inside ts xs
+    → Grows stack.table kept.store store → Knows kept stack
+    → Knows (record kept { store = store; fragment = f }) stack
+knows_inside kept f store stack ts xs table assertions inside grows k =
+    let known = knows_grown kept store stack grows k in
+    record {
+      inside = rw (table, assertions) at inside;
+      taken = record {
+        store = known.taken.store;
+        members = known.taken.members;
+        rooted = known.taken.rooted;
+        counted = known.taken.counted;
+        dead = known.taken.dead;
+        heard = known.taken.heard;
+      };
+      words = known.words;
+      declared = known.declared;
+    }
 
 pub decided_live : (kept : Decider) (stack : Stacked) → Knows kept stack → HasAll kept stack
     → list_all is_decided (live (state_of stack)) ≡ true

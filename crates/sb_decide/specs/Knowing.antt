@@ -6,6 +6,7 @@ use Rattle.sb_lang.specs.Least.{IsShortestLeast}
 use Rattle.sb_meaning.specs.Terms.{Term}
 use Rattle.sb_term.specs.declared.assertion.Assertion.{Assertion}
 use Rattle.sb_term.specs.declared.term.Serial.{Serial}
+use Rattle.sb_fragment.specs.Inside.{AreInside}
 use Rattle.sb_store.specs.Stores.{IsStoreOf}
 use Rattle.sb_stack.specs.Stacked.{Stacked, are_words}
 use Rattle.sb_decide.specs.declared.decide.Decider.{Decider}
@@ -55,6 +56,7 @@ pub record AreKept (rs : List Regex) (ms : List (Option Member)) (cs : List Conj
 
 -- All of it, of a state.
 pub record Knows (kept : Decider) (stack : Stacked) : Type 0 where
+  pub inside : AreInside kept.fragment.inside stack.table stack.assertions
   pub taken : IsTaken kept stack.table stack.assertions
   pub words : AreKept kept.store.arena kept.members.items kept.constants.items stack.words
   pub declared : length kept.constants.items ≤ length stack.scope.sorts

@@ -6,15 +6,14 @@ use Rattle.sb_lang.specs.Regex.{Regex}
 use Rattle.sb_lang.specs.Least.{IsShortestLeast}
 use Rattle.sb_regex.specs.Numbered.{AllNumbers}
 use Rattle.sb_meaning.specs.Terms.{Term}
-use Rattle.sb_term.specs.Numbered.{term_at}
 use Rattle.sb_term.specs.declared.assertion.Assertion.{Assertion}
 use Rattle.sb_term.specs.declared.term.Serial.{Serial}
-use Rattle.sb_script.specs.State.{asserted, constants_of, fits, live, live_terms}
+use Rattle.sb_script.specs.State.{constants_of, fits, live, live_terms}
 use Rattle.sb_fragment.specs.Rules.{is_decided}
 use Rattle.sb_store.specs.Stores.{Grows, RegexesGrow}
 use Rattle.sb_store.specs.declared.store.Store.{Store}
 use Rattle.sb_stack.specs.Speaking.{speaks_of}
-use Rattle.sb_stack.specs.Stacked.{Stacked, assertion_in, state_of, live_constants, values_at, are_words}
+use Rattle.sb_stack.specs.Stacked.{Stacked, state_of, live_constants, values_at, are_words}
 use Rattle.sb_decide.specs.declared.conjuncts.Member.{Member}
 use Rattle.sb_decide.specs.declared.decide.Decider.{Decider}
 use Rattle.sb_decide.specs.declared.decide.Found.{Found}
@@ -36,34 +35,37 @@ abbrev pub HasAll : Decider → Stacked → Type 0
 HasAll kept stack =
     (length kept.members.items ≡ length stack.assertions) × (length kept.constants.items ≡ length stack.scope.sorts)
 
--- An assertion of this term is taken in by its place alone, if it is a decided one.
-pub record TakesOther (old new : Decider) (ts : List Term) (term : ℕ) (decided : Bool) : Type 0 where
-  pub ok : decided ≡ is_decided (asserted (term_at ts term))
-  pub taken : (xs : List Assertion) (a : Assertion) → length old.members.items < length xs
-      → a ≡ get_or xs (length old.members.items) a → (decided ≡ true → IsOther ts a) → IsTaken old ts xs
-      → IsTaken new ts xs
-  pub words : StayKept old new
-  pub store : Grows ts old.store new.store
-  pub further : decided ≡ true → length new.members.items ≡ length old.members.items + 1
+-- the live assertions are decided ones, or one is not
+pub record Stands (old new : Decider) (stack : Stacked) (inside : Bool) : Type 0 where
+  pub knows : Knows new stack
+  pub decided : list_all is_decided (live (state_of stack)) ≡ inside
+  pub store : Grows stack.table old.store new.store
 
--- The next assertion is taken in, if it is a decided one.
-pub record TakesIn (old new : Decider) (ts : List Term) (xs : List Assertion) (decided : Bool) : Type 0 where
+-- An assertion that asks for no constant's word alone is taken in by its place.
+pub record TakesOther (old new : Decider) : Type 0 where
+  pub taken : (ts : List Term) (xs : List Assertion) (a : Assertion) → length old.members.items < length xs
+      → a ≡ get_or xs (length old.members.items) a → IsOther ts a → IsTaken old ts xs → IsTaken new ts xs
+  pub words : StayKept old new
+  pub further : length new.members.items ≡ length old.members.items + 1
+  pub same : (new.store ≡ old.store) × (new.fragment ≡ old.fragment)
+
+-- The next assertion is taken in.
+pub record TakesIn (old new : Decider) (ts : List Term) (xs : List Assertion) : Type 0 where
   pub taken : IsTaken new ts xs
   pub words : StayKept old new
   pub store : Grows ts old.store new.store
-  pub further : decided ≡ true → length new.members.items ≡ length old.members.items + 1
-  pub outside : decided ≡ false → list_all is_decided (map (assertion_in ts) xs) ≡ false
+  pub further : length new.members.items ≡ length old.members.items + 1
+  pub same : new.fragment ≡ old.fragment
 
 -- words fit the live constants
 abbrev pub Fit : Stacked → Type 0
 Fit stack = (words : List (List ℕ)) (truths : List Bool) → are_words words ≡ true
     → fits (constants_of (state_of stack)) (values_at (live_constants stack) words truths) ≡ true
 
--- All assertions are taken in, or those before one that is not decided.
-pub record TakesAll (old new : Decider) (stack : Stacked) (whole : Bool) : Type 0 where
+-- All assertions are taken in.
+pub record TakesAll (old new : Decider) (stack : Stacked) : Type 0 where
   pub knows : Knows new stack
-  pub all : whole ≡ true → HasAll new stack
-  pub outside : whole ≡ false → list_all is_decided (live (state_of stack)) ≡ false
+  pub all : HasAll new stack
   pub named : list_all (speaks_of (live_constants stack)) (live_terms (state_of stack)) ≡ true
   pub fit : Fit stack
   pub store : Grows stack.table old.store new.store

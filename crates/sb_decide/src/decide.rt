@@ -7,17 +7,18 @@
 //! constants that they speak of: a kept word that is in the regexes of the new memberships stays, and nothing is made
 //! for it. Memberships speak of no constant of sort Bool, so each of these is false. A decided assertion that is no
 //! membership is taken in too, by its place alone, and while there are such ones a search is asked about them, where
-//! the memberships alone don't refute the check. Assertions are taken in up to the first one that is not decided.
+//! the memberships alone don't refute the check. Assertions are taken in where all that are live are decided.
 
-ghost use Rattle.std.specs.Prelude.{◌≡◌, ℕ, ◌<◌, ◌≤◌, [], List, Option, Some, length, true};
+ghost use Rattle.std.specs.Prelude.{◌≡◌, ℕ, ◌<◌, ◌≤◌, [], List, Option, Some, length, map, true};
 ghost use Rattle.std.specs.Prelude.{All, IfOk, OnOk, MatchOption};
 ghost use Rattle.std.specs.List.{list_all};
 ghost use Rattle.sb_lang.specs.Least.{IsShortestLeast};
 ghost use Rattle.sb_lang.specs.Regex.{Regex};
 ghost use Rattle.sb_regex.specs.Numbered.{Extends};
-ghost use Rattle.sb_script.specs.State.{live_terms};
-ghost use Rattle.sb_store.specs.Stores.{Grows, IsStore, IsStoreOf};
-ghost use Rattle.sb_stack.specs.Stacked.{Stacked, state_of, live_constants, HasNumberBelow};
+ghost use Rattle.sb_script.specs.State.{live, live_terms};
+ghost use Rattle.sb_fragment.specs.Rules.{is_decided};
+ghost use Rattle.sb_store.specs.Stores.{Grows, IsStore};
+ghost use Rattle.sb_stack.specs.Stacked.{Stacked, state_of, live_constants, assertion_in, HasNumberBelow};
 ghost use Rattle.sb_stack.specs.Speaking.{speaks_of};
 ghost use Rattle.sb_term.specs.Serials.{all_below};
 ghost use Rattle.sb_decide.specs.Conjoined.{conjoined_at, with_place, without_place, RestSettled, HasRoom, IsChangedAt};
@@ -27,7 +28,7 @@ ghost use Rattle.sb_decide.specs.Ready.{IsDecided, FindsWords};
 ghost use Rattle.sb_decide.specs.Laws.{LeavesKnown};
 ghost use Rattle.sb_decide.specs.Members.{AreRooted, IsEmptyAt, IsRootOf, ids_in, places_in, words_in};
 ghost use Rattle.sb_decide.specs.Parting.{SetsAside};
-ghost use Rattle.sb_decide.specs.Taking.{HasAll, AreWords, IsFoundAt, Searches, TakesAll, TakesIn, TakesOther, other_dead};
+ghost use Rattle.sb_decide.specs.Taking.{HasAll, AreWords, IsFoundAt, Searches, Stands, TakesAll, TakesIn, TakesOther, other_dead};
 
 use crate::conjuncts::{Conjuncts, Member, conjuncts_at};
 use crate::demand::{demand_of, regex_of};
@@ -35,7 +36,7 @@ use crate::parting::part;
 use crate::question::hear;
 use crate::standing::stands;
 use indexmap::IndexSet;
-use sb_fragment::fragment_is_of_each;
+use sb_fragment::{Fragment, Standing, fragment_is_of_each};
 use sb_graph::Explored;
 use sb_lang::constructors::{intersection_is_of_each, mkand_keeps_language};
 use sb_lang::normal::normal_has_terms_words;
@@ -43,7 +44,7 @@ use sb_problem::normals_stay;
 use sb_regex::{Arena, RegexId};
 use sb_stack::Stack;
 use sb_store::{Store, regexes_grow};
-use sb_term::{Assertion, Serial, Table, TermId};
+use sb_term::{Assertion, Serial, Table};
 use sb_word::Word;
 use std::alloc::{AllocError, Global};
 use std::mem;
@@ -53,6 +54,8 @@ use std::mem;
 #[derive(Drop)]
 pub struct Decider {
     pub store: Store,
+    /// Which live assertions are known to be decided ones.
+    pub fragment: Fragment,
     /// By place what was taken in, decided assertions from the first on: the membership that each one is, `None` where
     /// it is none. Equalities with a literal count as memberships, and so does what is denied.
     pub members: Vec<Option<Member>>,
@@ -113,6 +116,7 @@ impl Decider {
     {
         Decider {
             store: Store::new(alloc),
+            fragment: Fragment::new(),
             members: Vec::new(alloc),
             roots: Vec::new(alloc),
             others: Vec::new(alloc),
@@ -135,9 +139,9 @@ impl Decider {
     /// constant is matched with the regexes of the memberships behind those that it is known to be the least word of
     /// ([`sb_plain::Plain::matches`]), and stays where it is in all of them. Else, and where one of those was taken
     /// back, the check is linear in the constant's memberships and in what is explored; a regex that was explored
-    /// before is not expanded again. An assertion that is no membership is looked at once, in the time of
-    /// [`sb_fragment::Measures::fits_structure`]; while there are some, the constants that occur in them are left to
-    /// the search. They are found in the terms of those that are new, but for ground ones, each once, and in those of
+    /// before is not expanded again. Whether an assertion is decided is looked at once, in the time of
+    /// [`sb_fragment::Measures::fits_structure`]. While there are some that are no memberships, the constants that occur
+    /// in them are left to the search. They are found in the terms of those that are new, but for ground ones, each once, and in those of
     /// all where one was taken back since. `AllocError` only for want of memory.
     pub fn decide(&mut self, alloc: Global, stack: &Stack) -> Result<Decided, AllocError>
         requires { Knows self.old stack.now }
@@ -147,13 +151,30 @@ impl Decider {
     {
         normal_has_terms_words();
         fragment_is_of_each();
-        if !self.take_in(alloc, stack)? {
+        if !self.is_inside(stack)? {
             return Ok(Decided::Outside);
         }
+        self.take_in(alloc, stack)?;
         if !self.find_words(alloc, stack)? {
             return Ok(Decided::Dead);
         }
         Ok(Decided::Ready)
+    }
+
+    /// Whether all live assertions are decided ones.
+    fn is_inside(&mut self, stack: &Stack) -> Result<bool, AllocError>
+        requires { Knows self.old stack.now }
+        ensures { IfOk result (Stands self.old self.new stack.now) }
+    {
+        let standing = self.fragment.stand(
+            &mut self.store.measures,
+            stack.table(),
+            stack.assertions(),
+        )?;
+        match standing {
+            Standing::Inside(_) => Ok(true),
+            Standing::Outside(_) => Ok(false),
+        }
     }
 
     /// Finds the words that the constants which changed and occur in no assertion of other structure have by their
@@ -225,48 +246,45 @@ impl Decider {
         while self.members.len() > count {
             self.take_last_back()?;
         }
+        self.fragment.leave(count);
         Ok(())
     }
 
-    /// Takes in the assertions that are new, up to one that is not decided, and answers whether that are all of them.
-    /// Linear in them, and in the constants that are new.
-    fn take_in(&mut self, alloc: Global, stack: &Stack) -> Result<bool, AllocError>
-        requires { Knows self.old stack.now }
-        ensures { IfOk result (TakesAll self.old self.new stack.now) }
+    /// Takes in the assertions that are new, which are decided ones. Linear in them, and in the constants that are new.
+    fn take_in(&mut self, alloc: Global, stack: &Stack) -> Result<(), AllocError>
+        requires knows { Knows self.old stack.now }
+        requires decided { list_all is_decided (live (state_of stack.now)) ≡ true }
+        ensures { OnOk result (TakesAll self.old self.new stack.now) }
     {
         let assertions = stack.assertions();
         let table = stack.table();
         make_room(alloc, &mut self.constants, stack.declared())?;
         while self.members.len() < assertions.len() {
-            if !self.take_one(table, assertions)? {
-                return Ok(false);
-            }
+            self.take_one(table, assertions)?;
         }
-        Ok(true)
+        Ok(())
     }
 
-    /// Takes in the next assertion, and answers whether it is a decided one; if not, it is not taken in.
-    fn take_one(&mut self, table: &Table, assertions: &[Assertion]) -> Result<bool, AllocError>
+    /// Takes in the next assertion, which is a decided one.
+    fn take_one(&mut self, table: &Table, assertions: &[Assertion]) -> Result<(), AllocError>
         requires more { length self.old.members.items < length assertions.now }
         requires numbers { All (HasNumberBelow (length table.now)) assertions.now }
+        requires decided { list_all is_decided (map (assertion_in table.now) assertions.now) ≡ true }
         requires serials { all_below (length self.old.constants.items) table.now ≡ true }
         requires taken { IsTaken self.old table.now assertions.now }
-        ensures { IfOk result (TakesIn self.old self.new table.now assertions.now) }
+        ensures { OnOk result (TakesIn self.old self.new table.now assertions.now) }
     {
         let place = self.members.len();
         let assertion = &assertions[place];
         let Some(term) = assertion.term else {
-            return Ok(false);
+            unreachable!();
         };
         let Some(demand) = demand_of(table, term) else {
-            let decided = self.take_other(table, term)?;
-            return Ok(decided);
+            self.take_other()?;
+            return Ok(());
         };
-        if !self.store.measures.is_regular(table, demand.pattern)? {
-            return Ok(false);
-        }
         let Some(regex) = regex_of(table, &mut self.store, demand)? else {
-            return Ok(false);
+            unreachable!();
         };
         self.members.push(Some(Member {
             serial: demand.serial,
@@ -274,24 +292,18 @@ impl Decider {
         }))?;
         self.roots.push(None)?;
         put(&mut self.constants, &mut self.changed, demand.serial, place)?;
-        Ok(true)
+        Ok(())
     }
 
-    /// Takes in the next assertion, of this term, which asks for no constant's word alone, and answers whether it is a
-    /// decided one; if not, it is not taken in.
-    fn take_other(&mut self, table: &Table, term: TermId) -> Result<bool, AllocError>
-        requires number { term < length table.now }
-        requires store { IsStoreOf table.now self.old.store }
-        ensures { IfOk result (TakesOther self.old self.new table.now term) }
+    /// Takes in the next assertion, which asks for no constant's word alone.
+    fn take_other(&mut self) -> Result<(), AllocError>
+        ensures { OnOk result (TakesOther self.old self.new) }
     {
-        if !self.store.measures.fits_structure(table, term)? {
-            return Ok(false);
-        }
         let place = self.members.len();
         self.others.push(place)?;
         self.members.push(None)?;
         self.roots.push(None)?;
-        Ok(true)
+        Ok(())
     }
 
     /// Takes the last one of the assertions that were taken in back, if there is one.

@@ -1,15 +1,15 @@
 -- What is known of a script's live assertions from one check to the next.
-use Rattle.std.specs.Prelude.{◌≡◌, ◌==◌, ℕ, ◌≤◌, Bool, true, false, List, [], ◌∷◌, length, take, map, slice_get, unwrap_or}
-use Rattle.std.specs.List.{All, list_all, list_any}
+use Rattle.std.specs.Prelude.{◌≡◌, ◌==◌, ℕ, ◌≤◌, Bool, true, false, List, [], ◌∷◌, take, map, slice_get, unwrap_or}
+use Rattle.std.specs.List.{list_all, list_any}
 use Rattle.sb_meaning.specs.Values.{Valuation}
 use Rattle.sb_meaning.specs.Truth.{holds}
 use Rattle.sb_script.specs.State.{Assertion, asserted, a_mark}
 use Rattle.sb_rulebook.specs.Accepted.{term_of}
 use Rattle.sb_rulebook.specs.Verdicts.{assertion_holds}
-use Rattle.sb_fragment.specs.Rules.{is_decided}
+use Rattle.sb_fragment.specs.Inside.{AreInside}
 use Rattle.sb_atoms.specs.Given.{GivesValues}
 use Rattle.sb_stack.specs.declared.constant.LiveConstant.{LiveConstant}
-use Rattle.sb_stack.specs.Stacked.{Stacked, assertion_in, HasNumberBelow}
+use Rattle.sb_stack.specs.Stacked.{Stacked, assertion_in}
 use Rattle.sb_models.specs.declared.models.Models.{Models}
 
 -- the assertion is true under the values, and no mark
@@ -56,9 +56,7 @@ AreEmptyBut constants words = (serial : ℕ) → is_serial_of constants serial �
 
 -- So many assertions, from the first on, are decided ones, and so many are true under the words and truth values.
 pub record Knows (m : Models) (stack : Stacked) : Type 0 where
-  pub front : m.inside ≤ length stack.assertions
-  pub numbers : All (HasNumberBelow (length stack.table)) (take m.inside stack.assertions)
-  pub decided : list_all is_decided (take m.inside (assertions_of stack)) ≡ true
-  pub held_front : m.held ≤ m.inside
+  pub inside : AreInside m.fragment.inside stack.table stack.assertions
+  pub held_front : m.held ≤ m.fragment.inside
   pub held : AreTrueBy m.words.items m.truths.items (take m.held (assertions_of stack))
   pub empty : AreEmptyBut m.constants.items m.words.items

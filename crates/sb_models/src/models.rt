@@ -21,8 +21,8 @@ ghost use Rattle.sb_models.specs.Laws.{LeavesKnown};
 use crate::changes::change;
 use crate::kinds::are_kinds;
 use crate::truths::{are_same, truths_of};
-use crate::trying::{all_hold, fits};
-use sb_fragment::{Measures, fragment_is_of_each};
+use crate::trying::all_hold;
+use sb_fragment::{Fragment, Measures, Standing, fragment_is_of_each};
 use sb_plain::Plain;
 use sb_problem::Normals;
 use sb_proof::Value;
@@ -36,9 +36,9 @@ use std::mem;
 /// What is known of the live assertions of a script from one check to the next.
 #[derive(Drop)]
 pub struct Models {
-    /// So many of them, from the first on, are known to be decided ones.
-    pub inside: usize,
-    /// So many are known to be true under the words and truth values of the last model.
+    /// Which of them are known to be decided ones.
+    pub fragment: Fragment,
+    /// So many, from the first on, are known to be true under the words and truth values of the last model.
     pub held: usize,
     /// These words, the one of each constant at its serial, and the empty one at any other.
     pub words: Vec<Word>,
@@ -54,7 +54,7 @@ impl Models {
         ensures { (stack : Stacked) → Knows result stack }
     {
         Models {
-            inside: 0,
+            fragment: Fragment::new(),
             held: 0,
             words: Vec::new(alloc),
             truths: Vec::new(alloc),
@@ -67,12 +67,11 @@ impl Models {
     pub fn leave(&mut self, count: usize)
         ensures { LeavesKnown count self.old self.new }
     {
-        self.inside = self.inside.min(count);
+        self.fragment.leave(count);
         self.held = self.held.min(count);
     }
 
-    /// Whether all live assertions are decided ones. Linear in the number of those that are new since the last call, but
-    /// that terms are measured which were not yet. `AllocError` only for want of memory.
+    /// Whether all live assertions are decided ones. Its cost and its error are those of [`Fragment::stand`].
     pub fn is_inside(&mut self, measures: &mut Measures, stack: &Stack) -> Result<bool, AllocError>
         requires knows { Knows self.old stack.now }
         requires measures { AreMeasures stack.now.table measures.old }
@@ -81,15 +80,13 @@ impl Models {
         ensures measures { AreMeasures stack.now.table measures.new }
     {
         fragment_is_of_each();
-        let table = stack.table();
-        let assertions = stack.assertions();
-        while self.inside < assertions.len() {
-            if !fits(measures, table, assertions[self.inside])? {
-                return Ok(false);
-            }
-            self.inside += 1;
+        let standing = self
+            .fragment
+            .stand(measures, stack.table(), stack.assertions())?;
+        match standing {
+            Standing::Inside(_) => Ok(true),
+            Standing::Outside(_) => Ok(false),
         }
-        Ok(true)
     }
 
     /// Whether the values, in the order of the live constants, are a model of the live assertions, which are decided
@@ -178,8 +175,8 @@ impl Models {
         )? {
             return Ok(false);
         }
-        self.inside = stack.assertions().len();
-        self.held = self.inside;
+        self.fragment.inside = stack.assertions().len();
+        self.held = self.fragment.inside;
         self.words = words;
         self.truths = truths;
         self.constants = constants;

@@ -7,38 +7,19 @@ ghost use Rattle.sb_term.specs.Numbered.{term_at};
 ghost use Rattle.sb_problem.specs.Known.{AreNormals};
 ghost use Rattle.sb_plain.specs.Memory.{IsRight};
 ghost use Rattle.sb_fragment.specs.Rules.{is_decided};
-ghost use Rattle.sb_fragment.specs.Measures.{AreMeasures};
-ghost use Rattle.sb_stack.specs.Stacked.{assertion_in, HasNumberBelow};
 ghost use Rattle.sb_models.specs.Knowing.{AreTrueBy, IsTruthBy, assertions_of};
 ghost use Rattle.sb_models.specs.Tried.{marks_of, IsOfSame, MayPass};
 
 use sb_atoms::eval;
-use sb_fragment::{Measures, membership};
+use sb_fragment::membership;
 use sb_plain::Plain;
 use sb_problem::Normals;
 use sb_regex::Arena;
 use sb_stack::Stack;
-use sb_term::{Assertion, Table, TermId};
+use sb_term::{Table, TermId};
 use sb_word::Word;
 use std::alloc::AllocError;
 use std::collections::HashSet;
-
-/// Whether an assertion is a decided one.
-pub(crate) fn fits(
-    measures: &mut Measures,
-    table: &Table,
-    assertion: Assertion,
-) -> Result<bool, AllocError>
-    requires number { HasNumberBelow (length table.now) assertion }
-    requires right { AreMeasures table.now measures.old }
-    ensures ok { IfOk result (λ decided. decided ≡ is_decided (assertion_in table.now assertion)) }
-    ensures right { AreMeasures table.now measures.new }
-{
-    match assertion.term {
-        Some(id) => measures.fits_structure(table, id),
-        None => Ok(false),
-    }
-}
 
 /// Whether the term asks something of the word of one constant alone, whose word is not said to be another one.
 fn is_of_same(table: &Table, id: TermId, changed: &HashSet<u64>) -> bool

@@ -7,7 +7,9 @@ use Rattle.sb_lit.specs.declared.clause.Lit.{Lit}
 use Rattle.sb_meaning.specs.Terms.{Term}
 use Rattle.sb_deriv.specs.Faithful.{Memo}
 use Rattle.sb_rulebook.specs.Atoms.{AtomOver}
+use Rattle.sb_rulebook.specs.ClauseRules.{is_decided}
 use Rattle.sb_rulebook.specs.Kept.{AllKept, Asked}
+use Rattle.sb_script.specs.State as state
 use Rattle.sb_atoms.specs.Numbered.{Names, atoms_in}
 use Rattle.sb_atoms.specs.Translated.{has_declared}
 use Rattle.sb_atoms.specs.GateClauses.{gate_clauses}
@@ -100,9 +102,10 @@ pub record EvidencesUncounted (asked : Asked) (before : AllKept) (rs : List Rege
     pub backs : Backs rs memo e after
     pub counted : after.counted ≡ before.counted
 
--- The term is the live assertion of the place, on this level, and the constants in it are declared.
+-- The term is the live assertion of the place, on this level, which is decided, and the constants in it are declared.
 pub record IsStatement (asked : Asked) (place : ℕ) (t : Term) (level : ℕ) : Type 0 where
   pub live : slice_get asked.live place ≡ Some (Some t, level)
+  pub decided : is_decided (state.asserted t) ≡ true
   pub declared : has_declared asked.sorts t ≡ true
 
 -- the clauses of assertions stay

@@ -12,11 +12,13 @@ use Rattle.sb_deriv.specs.Faithful.{Memo}
 use Rattle.sb_rulebook.specs.Atoms.{Atom, AtomOver, is_well_formed}
 use Rattle.sb_rulebook.specs.AtomRules.{has_its_parts, with_regex}
 use Rattle.sb_rulebook.specs.Brought.{is_brought}
+use Rattle.sb_rulebook.specs.ClauseRules.{is_decided}
 use Rattle.sb_rulebook.specs.Gates.{is_gate}
 use Rattle.sb_rulebook.specs.Kept.{AllKept, Asked}
 use Rattle.sb_rulebook.specs.Lines.{atom_line}
 use Rattle.sb_rulebook.specs.LineLaws.{atom_has_text}
 use Rattle.sb_rulebook.specs.Translation.{translation}
+use Rattle.sb_script.specs.State as state
 use Rattle.sb_atoms.specs.Numbered.{Names, over, atoms_in}
 use Rattle.sb_proof.specs.declared.tape.TapeFault.{TapeFault}
 use Rattle.sb_trace.specs.Putting.{CountsTapeFault}
@@ -74,10 +76,11 @@ pub record IsOfGates (atoms : List (AtomOver ℕ)) (clause : List Lit) : Type 0 
 abbrev pub at_bottom : List Lit → Option KeptClause
 at_bottom ls = Some (record { literals = ls; level = 0 })
 
--- The literal is that of the live assertion of the place, on this level.
+-- The literal is that of the live assertion of the place, on this level, which is decided.
 pub record IsAssertion (asked : Asked) (atoms : List Atom) (place : ℕ) (l : Lit) (level : ℕ) : Type 0 where
   pub term : Term
   pub live : slice_get asked.live place ≡ Some (Some term, level)
+  pub decided : is_decided (state.asserted term) ≡ true
   pub literal : translation atoms term ≡ Some l
 
 -- so lines lead on, where the literal is the assertion's, if it has one,

@@ -1,19 +1,20 @@
 -- The lines of clauses.
-use Rattle.std.proofs.Common.{◌≡◌, ℕ, ◌+◌, Bool, true, false, nat_lt, if◌then◌else◌, List, [], ◌∷◌, map, length, Option, Some, None, option_map, slice_get, Result, Ok, Err, ap, sym, ◌∙◌}
-use Rattle.std.specs.List.{list_all}
+use Rattle.std.proofs.Common.{◌≡◌, ℕ, Bool, true, false, ◌&&◌, nat_lt, if◌then◌else◌, List, [], ◌∷◌, map, length, Option, Some, None, option_map, slice_get, Result, Ok, Err, ap, sym, ◌∙◌}
+use Rattle.std.proofs.lemmas.Bool.{and_parts}
 use Rattle.std.proofs.lemmas.Option.{slice_get-map}
 use Rattle.std.proofs.lemmas.List.{length-map}
 use Rattle.sb_term.specs.Numbered.{term_at}
 use Rattle.sb_term.specs.declared.assertion.Assertion.{Assertion}
 use Rattle.sb_lang.specs.Regex.{Regex}
 use Rattle.sb_lit.specs.declared.clause.Lit.{Lit}
-use Rattle.sb_lit.specs.Clauses.{is_same_literal}
 use Rattle.sb_meaning.specs.Terms.{Term}
+use Rattle.sb_script.specs.Brought.{is_structure}
+use Rattle.sb_script.specs.Fragment.{fits}
+use Rattle.sb_script.specs.State as state
 use Rattle.sb_rulebook.specs.Refusals.{Refusal, unknown_id, rule_broken}
-use Rattle.sb_rulebook.specs.Atoms.{AtomOver}
+use Rattle.sb_rulebook.specs.Atoms.{Atom, AtomOver}
 use Rattle.sb_rulebook.specs.AtomRules.{is_known}
-use Rattle.sb_rulebook.specs.Brought.{is_brought_atom}
-use Rattle.sb_rulebook.specs.ClauseRules.{is_translation, asserted}
+use Rattle.sb_rulebook.specs.ClauseRules.{is_this, is_decided, is_translation, asserted}
 use Rattle.sb_rulebook.specs.Kept.{AllKept, Asked, with_clause}
 use Rattle.sb_rulebook.specs.Lines.{assertion_line}
 use Rattle.sb_rulebook.specs.Follows.{follows}
@@ -21,10 +22,8 @@ use Rattle.sb_rulebook.specs.Translation.{translation}
 use Rattle.sb_atoms.specs.Numbered.{over, atoms_in}
 use Rattle.sb_atoms.specs.Translated.{brought_translation}
 use Rattle.sb_rules.specs.declared.kept.Kept.{Kept}
-use Rattle.sb_sound.specs.SimpleStates.{is_simple}
 use Rattle.sb_rules.specs.Refuting.{IsFound}
 use Rattle.sb_rules.specs.Kept.{kept_in, live_in}
-use Rattle.sb_rules.proofs.Asserted.{simple_translation}
 
 -- The line of an assertion.
 
@@ -82,17 +81,27 @@ by_unknown asked k others place l ts live a e h unknown =
     ∙ ap (λ c. if c then asserted (kept_in k others) place (live_in ts a) l else Err unknown_id)
     (ap (nat_lt l.atom) (length-map k.atoms (over k.arena)) ∙ unknown)
 
-pub translated : (old new : List Regex) (atoms : List (AtomOver ℕ)) (t : Term) (l : Lit) (found : Option Lit)
-    (b : Bool) → list_all is_brought_atom atoms ≡ true → is_simple t ≡ true
+-- an assertion that is not decided has no literal
+pub undecided : (atoms : List Atom) (t : Term) (l : Lit) (fit : Bool) → fit ≡ is_decided (state.asserted t) → fit ≡ false
+    → false ≡ is_translation atoms (Some t) l
+undecided atoms t l fit is none = ap (λ b. b && is_this l (translation atoms t)) (sym none ∙ is)
+
+-- and the one that is decided has the literal that is looked for
+pub translated : (old new : List Regex) (atoms : List (AtomOver ℕ)) (t : Term) (l : Lit) (fit : Bool)
+    (found : Option Lit) (b : Bool) → fit ≡ is_decided (state.asserted t) → fit ≡ true
     → atoms_in new atoms ≡ atoms_in old atoms → found ≡ brought_translation (atoms_in new atoms) t → IsFound l found b
     → b ≡ is_translation (atoms_in old atoms) (Some t) l
-translated old new atoms t l found b brought simple same is h =
-    step found b (simple_translation old atoms t brought simple
-    ∙ sym (is ∙ ap (λ xs. brought_translation xs t) same)) h
+translated old new atoms t l fit found b is so same there h =
+    found_as found b h
+    ∙ (ap (is_this l) (there
+    ∙ (ap (λ xs. brought_translation xs t) same
+    ∙ ap (λ c. if c then translation (atoms_in old atoms) t else None)
+    (and_parts (is_structure t) (fits t) decided).0))
+    ∙ ap (λ c. c && is_this l (translation (atoms_in old atoms) t)) (sym decided))
   where
-    step : (found : Option Lit) (b : Bool) → translation (atoms_in old atoms) t ≡ found → IsFound l found b
-        → b ≡ is_translation (atoms_in old atoms) (Some t) l
-    step None b e h =
-        h ∙ sym (ap (λ o. elim o as (λ _. Bool) [ None ↦ false | Some m ↦ is_same_literal l m ]) e)
-    step (Some m) b e h =
-        h ∙ sym (ap (λ o. elim o as (λ _. Bool) [ None ↦ false | Some m ↦ is_same_literal l m ]) e)
+    decided : is_decided (state.asserted t) ≡ true
+    decided = sym is ∙ so
+
+    found_as : (found : Option Lit) (b : Bool) → IsFound l found b → b ≡ is_this l found
+    found_as None b h = h
+    found_as (Some m) b h = h

@@ -1,4 +1,3 @@
-mod Asserted
 mod AtomLines
 mod Atomic
 mod Between

@@ -8,8 +8,7 @@ ghost use Rattle.sb_rulebook.specs.ClauseRules.{is_translation};
 ghost use Rattle.sb_rulebook.specs.Splits.{is_empty};
 ghost use Rattle.sb_proof.specs.Lines.{rule_in};
 ghost use Rattle.sb_term.specs.Numbered.{term_at};
-ghost use Rattle.sb_sound.specs.SimpleStates.{is_simple};
-ghost use Rattle.sb_rules.specs.Kept.{IsWhole, IsOver, KeepsTerms, HasNumberBelow, IsSimple, kept_in, live_in};
+ghost use Rattle.sb_rules.specs.Kept.{IsWhole, IsOver, KeepsTerms, HasNumberBelow, kept_in, live_in};
 ghost use Rattle.sb_rules.specs.Judged.{Judges, Meets};
 ghost use Rattle.sb_rules.specs.Refuting.{IsLearned, IsFound};
 
@@ -35,7 +34,6 @@ impl Kept {
     ) -> Result<(), Fault>
         requires over { IsOver table.now self.old }
         requires numbers { All (HasNumberBelow (length table.now)) live.now }
-        requires simple { All (IsSimple table.now) live.now }
         ensures judges { (asked : Asked) → asked.live ≡ map (live_in table.now) live.now
             → Judges result asked self.old self.new (assertion_line place literal) }
         ensures over { IsOver table.now self.new }
@@ -56,17 +54,19 @@ impl Kept {
         Ok(())
     }
 
-    /// Whether the literal is that of an assertion's term.
+    /// Whether an assertion of the term is decided, and the literal is that of the term.
     fn is_asserted(&mut self, table: &Table, term: TermId, literal: Lit) -> Result<bool, AllocError>
         requires over { IsOver table.now self.old }
         requires number { term < length table.now }
-        requires simple { is_simple (term_at table.now term) ≡ true }
         ensures ok { IfOk result (λ b. (others : AllKept)
             → b ≡ is_translation (kept_in self.old others).atoms (Some (term_at table.now term)) literal) }
         ensures kept { (others : AllKept) → kept_in self.new others ≡ kept_in self.old others }
         ensures over { IsOver table.now self.new }
     {
         right_stays();
+        if !self.measures.fits_structure(table, term)? {
+            return Ok(false);
+        }
         let found = self.atoms.find_translation(
             &mut self.measures,
             &mut self.normals,

@@ -3,7 +3,7 @@
 ghost use Rattle.std.specs.Prelude.{◌≡◌, length, All};
 ghost use Rattle.sb_rulebook.specs.Kept.{Asked};
 ghost use Rattle.sb_proof.specs.Lines.{line_in};
-ghost use Rattle.sb_rules.specs.Kept.{IsOver, IsAsked, HasNumberBelow, IsSimple};
+ghost use Rattle.sb_rules.specs.Kept.{IsOver, IsAsked, HasNumberBelow};
 ghost use Rattle.sb_rules.specs.Judged.{Judges};
 
 use crate::fault::{Fault, Refusal};
@@ -31,7 +31,6 @@ impl Kept {
     ) -> Result<(), Fault>
         requires over { IsOver table.now self.old }
         requires numbers { All (HasNumberBelow (length table.now)) live.now }
-        requires simple { All (IsSimple table.now) live.now }
         ensures judges { (asked : Asked) → IsAsked table.now live.now sorts.now limit asked
             → Judges result asked self.old self.new (line_in line.now) }
         ensures over { IsOver table.now self.new }

@@ -158,11 +158,12 @@ module _ (s : Stacked) (rows : List code.Assertion) (place : ℕ) (a : code.Asse
         false≢true (ap (λ o. is_decided (assertion_of s.table o)) (sym none)
         ∙ all_at is_decided (live (state_of s)) place (assertion_in s.table a) decided there)
 
-    pub assertion_there : (sorts : List Sort) (id : ℕ) → All (HasNumberBelow (length s.table)) s.assertions
+    pub assertion_there : (sorts : List Sort) (id : ℕ) → list_all is_decided (live (state_of s)) ≡ true
+        → All (HasNumberBelow (length s.table)) s.assertions
         → list_all (speaks_of (live_constants s)) (live_terms (state_of s)) ≡ true
         → sorts ≡ (state_of s).sorts → are_sorted sorts (live_constants s) ≡ true
         → have_levels s.levels s.assertions ≡ true → a.term ≡ Some id → IsAssertionAt s place id a.level
-    assertion_there sorts id numbers named its_sorts sorted levelled some = record {
+    assertion_there sorts id decided numbers named its_sorts sorted levelled some = record {
       known = subst (λ o. IfSome o (λ i. i < length s.table)) (ap (λ (b : code.Assertion). b.term) (sym it) ∙ some)
           (numbers place a within);
       stands = stands;
@@ -173,6 +174,7 @@ module _ (s : Stacked) (rows : List code.Assertion) (place : ℕ) (a : code.Asse
             ∙ ap₂ (λ o n. Some (option_map (term_at s.table) o, n))
             (ap (λ (b : code.Assertion). b.term) (sym it) ∙ some)
             (ap (λ (b : code.Assertion). b.level) (sym it));
+        decided = all_at is_decided (live (state_of s)) place (asserted (term_at s.table id)) decided stands;
         declared = declared_of (state_of s).sorts (live_constants s)
             (subst (λ (xs : List Sort). are_sorted xs (live_constants s) ≡ true) its_sorts sorted) (term_at s.table id)
             (term_passes (speaks_of (live_constants s)) (live (state_of s)) place (term_at s.table id) named stands);

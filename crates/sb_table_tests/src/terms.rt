@@ -3,7 +3,7 @@
 
 ghost use Rattle.std.specs.Prelude.{◌<◌, length, All, IfOk, IfSome};
 
-use sb_fragment::{Measure, Measures, Reason, Standing, fragment};
+use sb_fragment::{Fragment, Measure, Measures, Reason, Standing};
 use sb_problem::Pattern;
 use sb_term::{Assertion, Serial, Sort, Symbol, Table, Term, TermId};
 use sb_word::Word;
@@ -177,7 +177,8 @@ fn standing_of(alloc: Global, table: &Table, term: Option<TermId>) -> Result<Sta
     requires { IfSome term (λ id. id < length table.now) }
 {
     let mut measures = Measures::new(alloc);
-    let standing = fragment(&mut measures, table, &[Assertion { term, level: 0 }]);
+    let mut fragment = Fragment::new();
+    let standing = fragment.stand(&mut measures, table, &[Assertion { term, level: 0 }]);
     drop(measures);
     standing
 }

@@ -55,7 +55,7 @@ returns-in-Unsat c =
       completed = subst
           (λ solved. IsCompleted c.args.decider.now c.args.stack.now solved (solution.Unsat c.in-Unsat.id))
           (sym c.in-Unsat.is) refl;
-      knows = record { taken = e.taken; words = e.words; declared = e.declared };
+      knows = record { inside = e.inside; taken = e.taken; words = e.words; declared = e.declared };
       rest = refl;
       store = refl;
     }
@@ -66,7 +66,7 @@ returns-in-Spent c =
     record {
       completed = subst (λ solved. IsCompleted c.args.decider.now c.args.stack.now solved solution.Spent)
           (sym c.in-Spent.is) tt;
-      knows = record { taken = e.taken; words = e.words; declared = e.declared };
+      knows = record { inside = e.inside; taken = e.taken; words = e.words; declared = e.declared };
       rest = refl;
       store = refl;
     }

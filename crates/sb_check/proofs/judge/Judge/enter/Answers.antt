@@ -4,7 +4,7 @@ use Rattle.sb_stack.specs.Steps.{entry_of, IsStep}
 use Rattle.sb_script.specs.Replies.{step_of}
 use Rattle.sb_check.specs.declared.entry.Entered.TheVariants as entered
 use Rattle.sb_check.specs.Entering.{Enters}
-use Rattle.sb_check.proofs.Entering.{entered_by, MovesBy, enters, stays_simple, stands, behind_left, stands_left}
+use Rattle.sb_check.proofs.Entering.{entered_by, MovesBy, enters, stands, behind_left, stands_left}
 use Rattle.sb_check.proofs.judge.Judge.enter.Goals as goal
 
 pub returns-in-Answer-clause-ok : goal.returns-in-Answer-clause-ok
@@ -16,13 +16,8 @@ returns-in-Answer-clause-ok c =
 
 pub returns-in-Answer-clause-standing : goal.returns-in-Answer-clause-standing
 returns-in-Answer-clause-standing c =
-    let old = state_of c.args.self.now.stack in
-    let step = step_of (entry_of c.args.entry.now) old in
-    stands c.args.self.now c.apply.new.self c.requires.standing
-    (stays_simple step c.in_ok-apply.field-0 old (state_of c.apply.new.self) c.in_ok-apply.ensures.ok
-    (c.entries_stay_simple.ensures (entry_of c.args.entry.now) old c.requires.standing.simple)
-    c.requires.standing.simple)
-    c.in_ok-apply.ensures.extends (subst (λ s. MovesBy s c.args.self.now.stack c.apply.new.self) c.in-Answer.is
+    stands c.args.self.now c.apply.new.self c.requires.standing c.in_ok-apply.ensures.extends
+    (subst (λ s. MovesBy s c.args.self.now.stack c.apply.new.self) c.in-Answer.is
     c.in_ok-apply.ensures.grows) c.normals_stay.ensures c.models_stay.ensures
 
 pub returns-in-Left-clause-ok : goal.returns-in-Left-clause-ok
@@ -43,14 +38,8 @@ returns-in-Left-clause-kept c =
 
 pub returns-in-Left-clause-standing : goal.returns-in-Left-clause-standing
 returns-in-Left-clause-standing c =
-    let old = state_of c.args.self.now.stack in
-    let step = step_of (entry_of c.args.entry.now) old in
     stands_left c.in-Left.level c.args.self.now c.leave.new.self c.apply.new.self c.leave.ensures.same.stack
-    c.requires.standing
-    (stays_simple step c.in_ok-apply.field-0 old (state_of c.apply.new.self) c.in_ok-apply.ensures.ok
-    (c.entries_stay_simple.ensures (entry_of c.args.entry.now) old c.requires.standing.simple)
-    c.requires.standing.simple)
-    c.in_ok-apply.ensures.extends
+    c.requires.standing c.in_ok-apply.ensures.extends
     (subst (λ s. MovesBy s c.args.self.now.stack c.apply.new.self) c.in-Left.is c.in_ok-apply.ensures.grows)
     c.normals_stay.ensures c.leave.ensures.same.begun c.leave.ensures.kept c.leave.ensures.over
     c.leave.ensures.models
@@ -64,13 +53,8 @@ returns-in-Check-clause-ok c =
 
 pub returns-in-Check-clause-standing : goal.returns-in-Check-clause-standing
 returns-in-Check-clause-standing c =
-    let old = state_of c.args.self.now.stack in
-    let step = step_of (entry_of c.args.entry.now) old in
-    stands c.args.self.now c.apply.new.self c.requires.standing
-    (stays_simple step c.in_ok-apply.field-0 old (state_of c.apply.new.self) c.in_ok-apply.ensures.ok
-    (c.entries_stay_simple.ensures (entry_of c.args.entry.now) old c.requires.standing.simple)
-    c.requires.standing.simple)
-    c.in_ok-apply.ensures.extends (subst (λ s. MovesBy s c.args.self.now.stack c.apply.new.self) c.in-Check.is
+    stands c.args.self.now c.apply.new.self c.requires.standing c.in_ok-apply.ensures.extends
+    (subst (λ s. MovesBy s c.args.self.now.stack c.apply.new.self) c.in-Check.is
     c.in_ok-apply.ensures.grows) c.normals_stay.ensures c.models_stay.ensures
 
 pub returns-clause-ok : goal.returns-clause-ok
@@ -82,11 +66,6 @@ returns-clause-ok c =
 
 pub returns-clause-standing : goal.returns-clause-standing
 returns-clause-standing c =
-    let old = state_of c.args.self.now.stack in
-    let step = step_of (entry_of c.args.entry.now) old in
-    stands c.args.self.now c.apply.new.self c.requires.standing
-    (stays_simple step c.in_ok-apply.field-0 old (state_of c.apply.new.self) c.in_ok-apply.ensures.ok
-    (c.entries_stay_simple.ensures (entry_of c.args.entry.now) old c.requires.standing.simple)
-    c.requires.standing.simple)
-    c.in_ok-apply.ensures.extends (subst (λ s. MovesBy s c.args.self.now.stack c.apply.new.self) c.in-Exit.is
+    stands c.args.self.now c.apply.new.self c.requires.standing c.in_ok-apply.ensures.extends
+    (subst (λ s. MovesBy s c.args.self.now.stack c.apply.new.self) c.in-Exit.is
     c.in_ok-apply.ensures.grows) c.normals_stay.ensures c.models_stay.ensures

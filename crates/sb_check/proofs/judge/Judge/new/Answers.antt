@@ -1,11 +1,9 @@
-use Rattle.std.proofs.Common.{refl, sym, ap}
-use Rattle.sb_sound.specs.SimpleStates.{is_simple_state}
+use Rattle.std.proofs.Common.{refl, sym}
 use Rattle.sb_rulebook.specs.Kept.{nothing_kept}
 use Rattle.sb_check.proofs.judge.Judge.new.Goals as goal
 
 pub returns-clause-standing : goal.returns-clause-standing
 returns-clause-standing c = record {
-  simple = ap is_simple_state c.new.ensures.state;
   over = c.new-2.ensures.over c.new.result.table;
   models = c.new-3.ensures c.new.result;
   fresh = λ waits format. c.new-2.ensures.kept format;

@@ -6,16 +6,10 @@ use Rattle.sb_rules.specs.Judged.{Judges}
 use Rattle.sb_rules.specs.Answers.{refusal_in}
 use Rattle.sb_stack.specs.Stacked.{state_of}
 use Rattle.sb_check.specs.Standing.{waiting_in}
-use Rattle.sb_check.proofs.Asking.{asked_over, simple_over}
+use Rattle.sb_check.proofs.Asking.{asked_over}
 use Rattle.sb_check.proofs.Taking.{kept_taken, kept_refused}
 use Rattle.sb_rules.specs.Kept.{IsOver}
 use Rattle.sb_check.proofs.judge.Judge.take_kept.Goals as goal
-
-pub follows-requires-clause-simple : goal.follows-requires-clause-simple
-follows-requires-clause-simple c =
-    simple_over c.args.self.now.stack c.table.result.now c.assertions.result.now c.table.ensures
-    c.assertions.ensures.value
-    (c.live_are_simple.ensures (state_of c.args.self.now.stack) c.requires.standing.simple)
 
 pub returns-in-Ok-clause-ok : goal.returns-in-Ok-clause-ok
 returns-in-Ok-clause-ok c p a =
@@ -40,7 +34,6 @@ returns-in-Err-Refused-clause-err c p a =
 
 pub returns-in-Ok-clause-standing : goal.returns-in-Ok-clause-standing
 returns-in-Ok-clause-standing c = record {
-  simple = c.requires.standing.simple;
   over = subst (λ ts. IsOver ts c.follows.new.self) c.table.ensures c.follows.ensures.over;
   models = c.requires.standing.models;
   fresh = λ first. absurd (true≢false (sym c.requires.begun ∙ first));
@@ -48,7 +41,6 @@ returns-in-Ok-clause-standing c = record {
 
 pub returns-in-Err-Refused-clause-standing : goal.returns-in-Err-Refused-clause-standing
 returns-in-Err-Refused-clause-standing c = record {
-  simple = c.requires.standing.simple;
   over = subst (λ ts. IsOver ts c.follows.new.self) c.table.ensures c.follows.ensures.over;
   models = c.requires.standing.models;
   fresh = λ first. absurd (true≢false (sym c.requires.begun ∙ first));
@@ -56,7 +48,6 @@ returns-in-Err-Refused-clause-standing c = record {
 
 pub returns-in-Err-NoMemory-clause-standing : goal.returns-in-Err-NoMemory-clause-standing
 returns-in-Err-NoMemory-clause-standing c = record {
-  simple = c.requires.standing.simple;
   over = subst (λ ts. IsOver ts c.follows.new.self) c.table.ensures c.follows.ensures.over;
   models = c.requires.standing.models;
   fresh = λ first. absurd (true≢false (sym c.requires.begun ∙ first));

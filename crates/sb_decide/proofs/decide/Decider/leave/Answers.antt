@@ -24,8 +24,8 @@ returns-in_err-take_last_back c =
 pub returns : goal.returns
 returns c = record {
   knows = λ old new e longer few words declared k.
-      knows_left c.normals_stay.ensures c.loop-self.self old new e longer
-      (grind (arith, nat_tests, few, c.loop-self-test.false, c.len.ensures, c.loop-self.self.members.ok.0)) words
-      declared (c.loop-self.invariant.0 old k);
+      knows_left c.normals_stay.ensures c.loop-self.self c.leave.new.self old new c.args.count e longer few
+      (grind (arith, nat_tests, c.loop-self-test.false, c.len.ensures, c.loop-self.self.members.ok.0)) c.leave.ensures
+      words declared (c.loop-self.invariant.0 old k);
   store = c.loop-self.invariant.1;
 }

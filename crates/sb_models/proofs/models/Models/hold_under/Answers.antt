@@ -60,7 +60,7 @@ pub returns-clause-knows : goal.returns-clause-knows
 returns-clause-knows c =
     knows_model
     (record {
-      inside = length c.assertions.result.now;
+      fragment = record { inside = length c.assertions.result.now };
       held = length c.assertions.result.now;
       words = c.change.new.words;
       truths = c.in_ok-truths.truths;

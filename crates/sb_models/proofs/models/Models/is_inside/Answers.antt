@@ -1,33 +1,45 @@
-use Rattle.std.proofs.Common.{◌≤◌, length, subst, ap, sym, ◌∙◌, arith}
-use Rattle.sb_fragment.specs.Measures.{AreMeasures}
-use Rattle.std.specs.List.{list_all}
-use Rattle.sb_fragment.specs.Rules.{is_decided}
-use Rattle.sb_stack.specs.Stacked.{state_of}
-use Rattle.sb_stack.proofs.CallerLemmas.{live_laid}
-use Rattle.sb_models.proofs.Knowledge.{is_outside, knows_next, all_inside}
+use Rattle.std.proofs.Common.{sym, ◌∙◌}
+use Rattle.std.proofs.lemmas.Result.{IfOk-from_err}
+use Rattle.sb_models.proofs.Knowledge.{all_decided, knows_more}
 use Rattle.sb_models.proofs.models.Models.is_inside.Goals as goal
 
-pub returns-then-not-branch-clause-ok : goal.returns-then-not-branch-clause-ok
-returns-then-not-branch-clause-ok c =
-    is_outside c.fragment_is_of_each.ensures c.args.stack.now c.table-table.result.now
-    c.assertions-assertions.result.now c.loop-self.self.inside c.index-assertions-self.result
-    c.in_ok-fits.field-0 c.table-table.ensures c.assertions-assertions.ensures.value c.loop-self-test.true
-    c.index-assertions-self.is c.in_ok-fits.ensures.ok c.if-not-branch.true
+pub stand-requires : goal.stand-requires
+stand-requires c = record {
+  known = rw (c.table.ensures, c.assertions.ensures.value) c.requires.knows.inside;
+  numbers = rw (c.table.ensures, c.assertions.ensures.value) c.assertions.ensures.numbers;
+  right = rw c.table.ensures c.requires.measures;
+}
 
-pub loop-self-preserved : goal.loop-self-preserved
-loop-self-preserved c = (
-  knows_next c.loop-self.self c.args.stack.now c.table-table.result.now c.assertions-assertions.result.now
-      c.index-assertions-self.result c.in_ok-fits.field-0 c.table-table.ensures
-      c.assertions-assertions.ensures.value c.loop-self.invariant.0 c.loop-self-test.true
-      c.assertions-assertions.ensures.numbers c.index-assertions-self.is c.in_ok-fits.ensures.ok
-      c.if-not-branch.false,
-  subst (λ ts. AreMeasures ts c.fits.new.measures) c.table-table.ensures c.in_ok-fits.ensures.right,
-)
+pub returns-in_err-standing : goal.returns-in_err-standing
+returns-in_err-standing c =
+    let e = c.in_err-standing.ensures in
+    record {
+      ok = IfOk-from_err c.from_residual.result _ c.from_residual.ensures.0;
+      knows = knows_more c.args.self.now c.stand.new.self c.args.stack.now c.table.result.now c.assertions.result.now
+          c.table.ensures c.assertions.ensures.value e.known e.more c.requires.knows;
+      measures = rw c.table.ensures at e.right;
+    }
 
-pub returns-clause-ok : goal.returns-clause-ok
-returns-clause-ok c =
-    let long : length c.args.stack.now.assertions ≤ c.loop-self.self.inside =
-    omega (arith, c.loop-self-test.false, ap length c.assertions-assertions.ensures.value) in
-    sym (c.fragment_is_of_each.ensures (state_of c.args.stack.now)
-    ∙ (ap (list_all is_decided) (live_laid c.args.stack.now)
-    ∙ all_inside c.loop-self.self c.args.stack.now c.loop-self.invariant.0 long))
+pub returns-in-Inside : goal.returns-in-Inside
+returns-in-Inside c =
+    let e = c.in_ok-standing.ensures in
+    record {
+      ok = sym (rw c.in-Inside.is at e.ok)
+          ∙ all_decided c.fragment_is_of_each.ensures c.args.stack.now c.table.result.now c.assertions.result.now
+          c.table.ensures c.assertions.ensures.value;
+      knows = knows_more c.args.self.now c.stand.new.self c.args.stack.now c.table.result.now c.assertions.result.now
+          c.table.ensures c.assertions.ensures.value e.known e.more c.requires.knows;
+      measures = rw c.table.ensures at e.right;
+    }
+
+pub returns-in-Outside : goal.returns-in-Outside
+returns-in-Outside c =
+    let e = c.in_ok-standing.ensures in
+    record {
+      ok = sym (rw c.in-Outside.is at e.ok).0
+          ∙ all_decided c.fragment_is_of_each.ensures c.args.stack.now c.table.result.now c.assertions.result.now
+          c.table.ensures c.assertions.ensures.value;
+      knows = knows_more c.args.self.now c.stand.new.self c.args.stack.now c.table.result.now c.assertions.result.now
+          c.table.ensures c.assertions.ensures.value e.known e.more c.requires.knows;
+      measures = rw c.table.ensures at e.right;
+    }

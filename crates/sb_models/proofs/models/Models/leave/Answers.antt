@@ -4,6 +4,6 @@ use Rattle.sb_models.proofs.models.Models.leave.Goals as goal
 
 pub returns : goal.returns
 returns c old new e longer is k =
-    knows_front c.args.self.now _ old new e longer k (omega (arith, c.min-self.ensures))
-    (omega (arith, is, c.min-self.ensures)) (omega (arith, c.min-self-2.ensures))
-    (omega (arith, c.min-self.ensures, c.min-self-2.ensures, k.held_front)) refl refl refl
+    knows_front c.args.self.now _ old new e longer k (omega (arith, c.leave.ensures))
+    (omega (arith, is, c.leave.ensures)) (omega (arith, c.min-self.ensures))
+    (omega (arith, c.leave.ensures, c.min-self.ensures, k.held_front)) refl refl refl

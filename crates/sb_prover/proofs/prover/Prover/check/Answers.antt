@@ -29,7 +29,7 @@ returns g c =
       verdict = (subst (λ (d : Decided). IsDecided c.args.decider.now s d) c.in-Dead.is c.requires.decided).1;
       spent = tt;
       regexes = c.requires.regexes;
-      knows = record { taken = knows.taken; words = knows.words; declared = knows.declared };
+      knows = record { inside = knows.inside; taken = knows.taken; words = knows.words; declared = knows.declared };
       store = more_same c.args.decider.now.store;
       rest = refl;
       levels = λ h. h;

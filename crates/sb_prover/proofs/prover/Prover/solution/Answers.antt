@@ -41,7 +41,7 @@ returns-in-Outside g c =
           solved-again s before old.store c.args.self.now.evidence solution.Outside (g.L.Tape.told c.args.tape.now)
           backs tt;
       spent = tt;
-      knows = record { taken = knows.taken; words = knows.words; declared = knows.declared };
+      knows = record { inside = knows.inside; taken = knows.taken; words = knows.words; declared = knows.declared };
       store = more_same old.store;
       rest = refl;
       sound = c.requires.sound;
@@ -66,7 +66,7 @@ returns-in-Some g c =
           solved-again s before old.store c.args.self.now.evidence
           (solution.Unsat c.in-Some.empty.clause) (g.L.Tape.told c.args.tape.now) backs tt;
       spent = tt;
-      knows = record { taken = knows.taken; words = knows.words; declared = knows.declared };
+      knows = record { inside = knows.inside; taken = knows.taken; words = knows.words; declared = knows.declared };
       store = more_same old.store;
       rest = refl;
       sound = c.requires.sound;
