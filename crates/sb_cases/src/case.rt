@@ -18,6 +18,8 @@ pub enum Kind {
     Both,
     /// The solver, over a world where nothing fails.
     Calm,
+    /// The solver, and the checker behind it, by one call over worlds of its own.
+    Confirmed,
     /// A session, entry by entry, without the solver's loop over the bytes of a world.
     Session,
     /// The checker, over the proof that came.
@@ -222,6 +224,7 @@ fn kind_of(word: &str) -> Option<Kind> {
         "check" => Some(Kind::Check),
         "both" => Some(Kind::Both),
         "calm" => Some(Kind::Calm),
+        "confirmed" => Some(Kind::Confirmed),
         "session" => Some(Kind::Session),
         _ => None,
     }

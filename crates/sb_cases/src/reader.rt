@@ -2,9 +2,10 @@
 //!
 //! A line that begins with `== ` or `-- ` is a head. `== KIND NAME` begins a case, whose name says what it shows and is
 //! the only one of its kind and name in the file. The kinds are `solve`, `check`, `both`, `calm` (the solver, over a
-//! world where nothing fails) and `session` (the entries of the script, handed to a session one by one, also those
-//! behind an exit; its status is `done`, `exited` or `ended`, as the last entry was answered, was an exit, or came
-//! behind one). Behind a head `-- ..` comes its block: the lines up to the next head, each with its line feed, without
+//! world where nothing fails), `confirmed` (the solver, and the checker behind it, by one call over worlds of its own;
+//! the status is the solver's, the checker is to accept, and the answers are not looked at) and `session` (the entries
+//! of the script, handed to a session one by one, also those behind an exit; its status is `done`, `exited` or `ended`,
+//! as the last entry was answered, was an exit, or came behind one). Behind a head `-- ..` comes its block: the lines up to the next head, each with its line feed, without
 //! the blank lines at the block's end. A head that has no block may have blank lines and comments, which begin with `#`.
 //! What is set holds for the later runs of the case too, unless it is said here to be for one run.
 //!
