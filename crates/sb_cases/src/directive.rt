@@ -122,11 +122,14 @@ fn lines_of(words: &str) -> Option<(u64, u64)> {
     }
 }
 
-/// The limit, or 0 for that of the program.
+/// 1 and the limit, or 0 twice for that of the program.
 fn limit_of(words: &str) -> Option<(u64, u64)> {
     match words {
         "none" => Some((0, 0)),
-        _ => range_of(words, words),
+        _ => match number(words) {
+            Some(limit) => Some((1, limit)),
+            None => None,
+        },
     }
 }
 
