@@ -7,8 +7,8 @@ use Rattle.sb_trail.specs.declared.assigned.Assigned.{Assigned}
 use Rattle.sb_search.specs.Asking.{IsFair, Falls}
 use Rattle.sb_search.specs.declared.theory.Checked.{Checked}
 use Rattle.sb_search.specs.declared.theory.Checked.TheVariants as checked
-use Rattle.solve_clauses.specs.Giving.{Gives}
-use Rattle.solve_clauses.proofs.theory.GivenTheory.check.Goals as goal
+use Rattle.sb_dimacs.specs.Giving.{Gives}
+use Rattle.sb_dimacs.proofs.theory.GivenTheory.check.Goals as goal
 
 given_fair : (entries : List Assigned) (lemma : List Lit) (old new : Spending) (answer : Checked)
     → Gives lemma old new answer → IsFair (λ atom. Unit {0}) (λ clause. Unit {0}) entries answer

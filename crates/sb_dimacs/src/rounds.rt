@@ -1,7 +1,7 @@
 //! Rounds in which clauses come and go.
 
-use crate::dimacs::keep;
 use crate::failure::Failure;
+use crate::reading::keep;
 use sb_clauses::Engine;
 use sb_lit::Lit;
 use std::alloc::{AllocError, Global};

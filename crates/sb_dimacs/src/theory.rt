@@ -6,10 +6,9 @@ ghost use Rattle.std.proofs.Common.{rules};
 ghost use Rattle.sb_lit.specs.Clauses.{is_false_clause};
 ghost use Rattle.sb_trail.specs.Assignments.{held};
 ghost use Rattle.sb_search.specs.Asking.{CountsFaults};
-ghost use Rattle.solve_clauses.specs.Giving.{Gives};
+ghost use Rattle.sb_dimacs.specs.Giving.{Gives};
 
 use crate::failure::Failure;
-use crate::search::Verdict;
 use sb_clauses::{Clauses, Engine};
 use sb_lit::{Budget, Clause, Lit};
 use sb_proof::{Line, Rule, Tape, TapeFault};
@@ -196,13 +195,12 @@ pub fn idle(alloc: Global) -> Given {
     }
 }
 
-/// Searches for values of all atoms, over a theory that finds nothing wrong and a tape that keeps nothing. Says how many
-/// steps were spent.
-pub fn search_plain(alloc: Global, engine: &mut Engine) -> Result<(Verdict, u64), Failure>
-    requires { engine.old.trail.literals ≡ [] }
-{
+/// Searches for values of all atoms, over a theory that finds nothing wrong and a tape that keeps nothing. Says whether
+/// there are such values, and how many steps were spent.
+pub fn search_plain(alloc: Global, engine: &mut Engine) -> Result<(&'static str, u64), Failure> {
     let mut theory = idle(alloc);
     let mut budget = Budget::new(u64::MAX);
+    engine.clear();
     let found = search_over(alloc, &mut theory, engine, &mut budget);
     drop(theory);
     match found {
@@ -217,7 +215,7 @@ fn search_over(
     theory: &mut Given,
     engine: &mut Engine,
     budget: &mut Budget,
-) -> Result<Verdict, Failure>
+) -> Result<&'static str, Failure>
     requires { engine.old.trail.literals ≡ [] }
 {
     add_atoms(0, engine.atoms() as u64, &mut theory.atoms)?;
@@ -231,8 +229,8 @@ fn search_over(
         &[],
         budget,
     )? {
-        Found::Sat => Ok(Verdict::Satisfiable),
-        Found::Unsat(_) => Ok(Verdict::Unsatisfiable),
+        Found::Sat => Ok("SATISFIABLE"),
+        Found::Unsat(_) => Ok("UNSATISFIABLE"),
         Found::Spent => Err(Failure::Lost),
     }
 }

@@ -11,7 +11,6 @@
 //!   prints how the search ended, and the lines that it put, each of which has to follow as a reader of proofs
 //!   follows it; at the end the clauses of both have to be the same. Where there are values, the clauses, the lemmas,
 //!   the assumptions and the wanted atoms are looked at one by one. `ends LIMIT 1 -2 0` prints the end alone.
-//! - `order` and `active` search by the engine alone, and print how many conflicts there were.
 //! - `reserve N`, `assign 1 CLAUSE`, `back LEVEL`, `drop LEVEL`, `forget` and `clear` are steps of the engine. `settle`
 //!   propagates, and prints the values of all atoms from 1 on, or that a clause is false; `decide 1` decides a literal
 //!   first. `propagate` prints which clause is false, and how long the trail is.
@@ -22,10 +21,9 @@
 //!   level, and all. `look NUMBER` prints a clause, `part 1 -2 0` which kept one is a part of this one, and
 //!   `learn 1 -2 0 HINT ..` its level, or why the hints do not teach it.
 
-use crate::dimacs::keep;
 use crate::failure::{Failure, done};
+use crate::reading::keep;
 use crate::replayed::{copy, replays};
-use crate::search::decide_all;
 use crate::steps::{look, print_clause, step, wait};
 use crate::text::Text;
 use crate::theory::{Given, add_atoms, idle};
@@ -52,8 +50,6 @@ pub enum Word {
     Atoms,
     Search,
     Ends,
-    Order,
-    Active,
     Reserve,
     Decide,
     Assign,
@@ -93,7 +89,7 @@ pub enum Reading {
 }
 
 /// The words, but for a clause, which begins with a number.
-const WORDS: [(&str, Word); 35] = [
+const WORDS: [(&str, Word); 33] = [
     ("=", Word::Begin),
     ("c", Word::Comment),
     ("p", Word::Comment),
@@ -103,8 +99,6 @@ const WORDS: [(&str, Word); 35] = [
     ("atoms", Word::Atoms),
     ("search", Word::Search),
     ("ends", Word::Ends),
-    ("order", Word::Order),
-    ("active", Word::Active),
     ("reserve", Word::Reserve),
     ("decide", Word::Decide),
     ("assign", Word::Assign),
@@ -298,8 +292,6 @@ fn take(
     match word {
         Word::Search => find(alloc, case, numbers, true, out),
         Word::Ends => find(alloc, case, numbers, false, out),
-        Word::Order => decide(alloc, &mut case.engine, false, out),
-        Word::Active => decide(alloc, &mut case.engine, true, out),
         Word::Wait(step) => {
             wait(&mut case.order, &mut case.phases, step, numbers, out);
             Ok(())
@@ -359,16 +351,6 @@ fn reserve(case: &mut Case, count: usize, out: &mut Text) -> Result<(), AllocErr
     out.add_number("", case.engine.trail().reserved() as u64);
     out.add_number(" places, ", case.order.len() as u64);
     out.add(" in order\n");
-    Ok(())
-}
-
-/// Searches by the engine alone, and prints what it comes to.
-fn decide(alloc: Global, engine: &mut Engine, active: bool, out: &mut Text) -> Result<(), Failure> {
-    engine.clear();
-    let (verdict, conflicts) = decide_all(alloc, engine, active)?;
-    out.add(verdict.name());
-    out.add_number(" ", conflicts);
-    out.add("\n");
     Ok(())
 }
 

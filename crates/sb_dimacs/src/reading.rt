@@ -1,22 +1,25 @@
 //! Reading clauses in DIMACS.
 
-ghost use Rattle.std.specs.Prelude.{◌≡◌, []};
-
 use crate::failure::{Failure, done};
 use sb_clauses::Engine;
 use sb_lit::{Clause, Lit};
 use std::alloc::{AllocError, Global};
-use std::io::BufRead;
+use std::io::{BufRead, BufReader};
 
 /// How many lines are read at most.
 const MOST_LINES: u64 = 0x1_0000_0000;
 
-/// Keeps the clauses that stand there, but in lines that begin with a `c`, a `p` or a `%`. The atom 1 is the atom 0 here.
+/// Keeps the clauses of standard input, but in lines that begin with a `c`, a `p` or a `%`. The atom 1 is the atom 0 here.
 /// Reads a line at a time, and keeps no other one.
-pub fn read<R: BufRead>(alloc: Global, input: &mut R, engine: &mut Engine) -> Result<(), Failure>
-    requires { engine.old.trail.literals ≡ [] }
-    ensures { engine.new.trail.literals ≡ [] }
-{
+pub fn read_input(rt: HostRuntime, engine: &mut Engine) -> Result<(), Failure> {
+    match BufReader::new(rt.alloc(), rt.reader()) {
+        Ok(mut input) => read(rt.alloc(), &mut input, engine),
+        Err(_) => Err(Failure::NoMemory),
+    }
+}
+
+/// Keeps the clauses that stand there.
+fn read<R: BufRead>(alloc: Global, input: &mut R, engine: &mut Engine) -> Result<(), Failure> {
     let mut line = Vec::new(alloc);
     let mut literals = Vec::new(alloc);
     read_lines(alloc, input, &mut line, &mut literals, engine)
@@ -29,10 +32,7 @@ fn read_lines<R: BufRead>(
     line: &mut Vec<u8>,
     literals: &mut Vec<Lit>,
     engine: &mut Engine,
-) -> Result<(), Failure>
-    requires { engine.old.trail.literals ≡ [] }
-    ensures { engine.new.trail.literals ≡ [] }
-{
+) -> Result<(), Failure> {
     for _ in 0..MOST_LINES {
         line.clear();
         match input.read_until(b'\n', line) {
@@ -50,9 +50,7 @@ fn read_line(
     line: &[u8],
     literals: &mut Vec<Lit>,
     engine: &mut Engine,
-) -> Result<(), Failure>
-    ensures { engine.new.trail ≡ engine.old.trail }
-{
+) -> Result<(), Failure> {
     if let [b'c' | b'p' | b'%', ..] = line {
         return Ok(());
     }
@@ -70,9 +68,7 @@ fn read_word(
     word: &[u8],
     literals: &mut Vec<Lit>,
     engine: &mut Engine,
-) -> Result<(), Failure>
-    ensures { engine.new.trail ≡ engine.old.trail }
-{
+) -> Result<(), Failure> {
     match literal_of(word) {
         Some(literal) if literal.atom > 0 => done(add_literal(literal, literals)),
         Some(_) => end_clause(alloc, literals, engine),
@@ -100,9 +96,7 @@ fn add_literal(literal: Lit, literals: &mut Vec<Lit>) -> Result<(), AllocError> 
 }
 
 /// Keeps the clause of the literals at level 0, and leaves none of them.
-fn end_clause(alloc: Global, literals: &mut Vec<Lit>, engine: &mut Engine) -> Result<(), Failure>
-    ensures { engine.new.trail ≡ engine.old.trail }
-{
+fn end_clause(alloc: Global, literals: &mut Vec<Lit>, engine: &mut Engine) -> Result<(), Failure> {
     let kept = keep(alloc, engine, literals, 0);
     literals.clear();
     done(kept)
@@ -114,9 +108,7 @@ pub fn keep(
     engine: &mut Engine,
     literals: &[Lit],
     level: u64,
-) -> Result<(), AllocError>
-    ensures { engine.new.trail ≡ engine.old.trail }
-{
+) -> Result<(), AllocError> {
     let clause = Clause::from_literals(Vec::from_slice(alloc, literals)?);
     let added = engine.add(&clause, level);
     drop(clause);
