@@ -72,7 +72,10 @@ fn piece(rt: HostRuntime) -> Option<usize> {
     let words: Vec<String> = env::args(&rt).ok()?.collect(rt.alloc()).ok()?;
     match words.as_slice() {
         [_, word] if word.as_str() == "whole" => Some(0),
-        [_, word] => word.parse::<usize>().ok().filter(|piece| *piece > 0),
+        [_, word] => match word.parse::<usize>() {
+            Ok(piece) if piece > 0 => Some(piece),
+            _ => None,
+        },
         _ => None,
     }
 }
