@@ -1,13 +1,17 @@
 //! The real outside of the programs: files, standard input, standard output and standard error.
 //!
 //! A [`StdWorld`] is a world that tells nothing of its bytes: it counts its faults, and keeps in one line what the
-//! first of them was. A program hands it to the call that does its work, and says that line where the call failed.
+//! first of them was. A program hands it to the call that does its work, and says that line where the call failed. The
+//! words of a program that runs are read here too, once for each program.
 #![tactic(auto)]
 
 ghost use Rattle.std.specs.Prelude.{◌≡◌, ℕ, ◌≤◌, length, Err, IfOk};
 ghost use Rattle.sb_world.specs.Outside.{untold, CountsFault};
 ghost use Rattle.sb_std_world.specs.Faults.{faults_of};
 
+mod process;
+
+pub use process::{NoWords, say, words};
 use sb_world::{InPort, OutPort, World, WorldError};
 use std::fs::{File, Metadata};
 use std::io::{ErrorKind, Read, Write};
