@@ -158,6 +158,11 @@ impl Session {
         }
     }
 
+    /// Ends the session, and gives its memory back. Whoever ends one so has none of its parts to drop.
+    pub fn close(self) {
+        drop(self);
+    }
+
     /// Answers the next entry of the script, whole, before it returns; at a check the lines of its proof are written
     /// before the answer, where a proof is. `Ended` exactly where an earlier entry was `(exit)` or was not answered;
     /// `Fault` only where the world's count of faults rose; `Spent` only where no proof is written, at a check that
