@@ -30,7 +30,7 @@ fn answer_in_session(
 ) -> Result<&'static str, AllocError> {
     let mut session = Session::new(alloc, false);
     let status = answer_entries(most, feed, &mut session, world);
-    drop(session);
+    session.close();
     status
 }
 

@@ -4,6 +4,7 @@ use crate::compare::{compare, compare_kept, expect_answers, expect_status, statu
 use crate::cuts::{add_answers, cut_of, cut_status};
 use crate::report::Run;
 use crate::sessions::answer_script;
+use sb_both::solve_and_check;
 use sb_cases::buffer::Buffer;
 use sb_cases::case::{Case, Kind};
 use sb_cases::directive::Directive;
@@ -130,6 +131,7 @@ pub fn run(case: &Case, stage: &mut Stage) {
             run_in_world(Kind::Kept, case, stage);
         }
         Kind::Calm => run_in_calm(case, stage),
+        Kind::Confirmed => solve_and_confirm(case, stage),
         _ => run_in_world(case.kind, case, stage),
     }
 }
@@ -243,9 +245,9 @@ fn solve(case: &Case, stage: &mut Stage, words: &str, world: &mut MemWorld) {
 
 /// Runs the solver, with the limit of the case or its own.
 fn run_solver(case: &Case, words: &[String], world: &mut MemWorld) -> SolveStatus {
-    match case.last(Directive::Limit) {
+    match case.first(Directive::Limit) {
         0 => solve_top(case.alloc, words, world),
-        limit => solve_within(case.alloc, words, world, limit),
+        _ => solve_within(case.alloc, words, world, case.last(Directive::Limit)),
     }
 }
 
@@ -257,9 +259,9 @@ fn check(case: &Case, stage: &mut Stage, words: &str, world: &mut MemWorld) -> &
 
 /// Runs the checker, with the limit of the case or its own.
 fn run_checker(case: &Case, words: &[String], world: &mut MemWorld) -> CheckStatus {
-    match case.last(Directive::Limit) {
+    match case.first(Directive::Limit) {
         0 => check_top(case.alloc, words, world),
-        limit => check_within(case.alloc, words, world, limit),
+        _ => check_within(case.alloc, words, world, case.last(Directive::Limit)),
     }
 }
 
@@ -271,6 +273,17 @@ fn solve_calmly(case: &Case, stage: &mut Stage, world: &mut CalmWorld) {
     let status = solve_status(solve_top(case.alloc, &stage.words, world));
     expect_status(&mut stage.run, status_of(case), status);
     expect_answers(&mut stage.run, case, world.written(OutPort::Answers));
+}
+
+/// Runs the solver, and the checker behind it, by one call.
+fn solve_and_confirm(case: &Case, stage: &mut Stage) {
+    match solve_and_check(case.alloc, case.block(Directive::Script)) {
+        Ok((solved, checked)) => {
+            expect_status(&mut stage.run, status_of(case), solve_status(solved));
+            expect_status(&mut stage.run, "accepted", check_status(checked));
+        }
+        Err(_) => stage.whole = false,
+    }
 }
 
 /// Sets how a world reads and fails, and adds the files of the case.
