@@ -11,19 +11,18 @@ ghost use Rattle.std.specs.Process.{exit_status};
 ghost use Rattle.strcheck.specs.Exit.{number_of};
 
 use sb_check::{CheckStatus, check_top};
-use sb_std_world::StdWorld;
-use std::env;
-use std::io::ErrorKind;
+use sb_std_world::{NoWords, StdWorld, say, words};
 use std::process::ExitCode;
 
 fn main(rt: HostRuntime) -> ExitCode {
     let mut world = StdWorld::new(rt);
-    let status = match words(rt) {
+    let status = match words(rt, "strcheck") {
         Ok(words) => check_top(rt.alloc(), &words, &mut world),
-        Err(status) => status,
+        Err(NoWords::NoMemory) => CheckStatus::NoMemory,
+        Err(NoWords::NoText) => CheckStatus::Usage,
     };
     if let Some(why) = reason(status, &world) {
-        say(rt, why);
+        say(rt, "strcheck", why);
     }
     exit_code(status)
 }
@@ -42,21 +41,6 @@ pub fn exit_code(status: CheckStatus) -> ExitCode
     })
 }
 
-/// The program's words. Where one of them is no text that is said here.
-fn words(rt: HostRuntime) -> Result<Vec<String>, CheckStatus> {
-    match env::args(&rt) {
-        Ok(args) => match args.collect(rt.alloc()) {
-            Ok(words) => Ok(words),
-            Err(_) => Err(CheckStatus::NoMemory),
-        },
-        Err(error) if error.kind() == ErrorKind::OutOfMemory => Err(CheckStatus::NoMemory),
-        Err(_) => {
-            say(rt, "a word is not UTF-8");
-            Err(CheckStatus::Usage)
-        }
-    }
-}
-
 /// Why the run ended so, where nothing that was written says it.
 fn reason(status: CheckStatus, world: &StdWorld) -> Option<&str> {
     match status {
@@ -65,9 +49,4 @@ fn reason(status: CheckStatus, world: &StdWorld) -> Option<&str> {
         CheckStatus::NoMemory => Some("out of memory"),
         CheckStatus::InputLimit => Some("the script or the proof has 2^32 bytes or more"),
     }
-}
-
-/// Writes a line to standard error; that it fails changes nothing.
-fn say(rt: HostRuntime, what: &str) {
-    let _outcome = eprintln!(rt; "strcheck: {what}");
 }

@@ -10,19 +10,18 @@ ghost use Rattle.std.specs.Process.{exit_status};
 ghost use Rattle.strsolve.specs.Exit.{number_of};
 
 use sb_session::{SolveStatus, solve_top};
-use sb_std_world::StdWorld;
-use std::env;
-use std::io::ErrorKind;
+use sb_std_world::{NoWords, StdWorld, say, words};
 use std::process::ExitCode;
 
 fn main(rt: HostRuntime) -> ExitCode {
     let mut world = StdWorld::new(rt);
-    let status = match words(rt) {
+    let status = match words(rt, "strsolve") {
         Ok(words) => solve_top(rt.alloc(), &words, &mut world),
-        Err(status) => status,
+        Err(NoWords::NoMemory) => SolveStatus::NoMemory,
+        Err(NoWords::NoText) => SolveStatus::Usage,
     };
     if let Some(why) = reason(status, &world) {
-        say(rt, why);
+        say(rt, "strsolve", why);
     }
     exit_code(status)
 }
@@ -41,21 +40,6 @@ pub fn exit_code(status: SolveStatus) -> ExitCode
     })
 }
 
-/// The program's words. Where one of them is no text that is said here.
-fn words(rt: HostRuntime) -> Result<Vec<String>, SolveStatus> {
-    match env::args(&rt) {
-        Ok(args) => match args.collect(rt.alloc()) {
-            Ok(words) => Ok(words),
-            Err(_) => Err(SolveStatus::NoMemory),
-        },
-        Err(error) if error.kind() == ErrorKind::OutOfMemory => Err(SolveStatus::NoMemory),
-        Err(_) => {
-            say(rt, "a word is not UTF-8");
-            Err(SolveStatus::Usage)
-        }
-    }
-}
-
 /// Why the run ended so, where nothing that was written says it.
 fn reason(status: SolveStatus, world: &StdWorld) -> Option<&str> {
     match status {
@@ -64,9 +48,4 @@ fn reason(status: SolveStatus, world: &StdWorld) -> Option<&str> {
         SolveStatus::NoMemory => Some("out of memory"),
         SolveStatus::InputLimit => Some("the script has 2^32 bytes or more"),
     }
-}
-
-/// Writes a line to standard error; that it fails changes nothing.
-fn say(rt: HostRuntime, what: &str) {
-    let _outcome = eprintln!(rt; "strsolve: {what}");
 }
