@@ -2,9 +2,9 @@
 # Times the reader alone over 50 MB in pieces of several lengths, and the program over scripts of 1 to 50 MB, read
 # from a file: processor seconds, megabytes a second and peak memory in KB. Then the families of memberships, with z3 and
 # cvc5 beside the program where they are installed, and the checker on the proofs; a run has 20 seconds, so this takes
-# some minutes. Then the search over clauses alone, with minisat beside it where it is installed. At the end a plain
-# search that times the engine of clauses; where there is a C++ compiler with a small solver with array watches beside it,
-# and with minisat.
+# some minutes. Then the search over clauses alone, with minisat beside it where it is installed. At the end rounds of
+# clauses that come and go, and the search over larger families; where there is a C++ compiler with a small solver with
+# array watches beside it, and with minisat.
 set -eu
 cd "$(dirname "$0")/.."
 build() { # the program, and what it is run on
@@ -13,7 +13,7 @@ build() { # the program, and what it is run on
   fi
 }
 build read_entries 7
-build solve_clauses order
+build solve_clauses search
 build strsolve
 build strcheck "data/apart.smt2 data/apart.proof"
 work=$(mktemp -d)
@@ -54,7 +54,7 @@ for family in 'free 100000 order' 'forcing 20000 order' 'binary 200000 order' 'b
   'units 100000 order' 'random 210 active' 'random 230 active' 'pigeons 8 active'; do
   read -r kind size how <<< "$family"
   python3 bench/cnf.py "$kind" "$size" > "$work/$kind.cnf"
-  clauses "$kind $size" "$work/$kind.cnf" solve_clauses "$solver" "$how"
+  clauses "$kind $size" "$work/$kind.cnf" solve_clauses "$solver" search
   if [ -x "$work/reference" ]; then
     clauses "$kind $size" "$work/$kind.cnf" reference "$work/reference" "$how"
   fi
