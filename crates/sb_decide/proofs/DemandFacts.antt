@@ -228,11 +228,6 @@ pub decided_kind : (t : Term) (serial : ℕ) (R : Term) → demanded t ≡ Some 
 decided_kind t serial R h decided =
     sym (demanded_structure t serial R h) ∙ (and_parts (is_structure t) (fits t) decided).0
 
--- so it demands no other one
-pub other_kind : (t : Term) (serial : ℕ) (R : Term) → demanded t ≡ Some (serial, R) → is_regex R ≡ false
-    → is_decided (asserted t) ≡ true → ⊥
-other_kind t serial R h kind decided = false≢true (sym kind ∙ decided_kind t serial R h decided)
-
 -- Plain terms.
 
 -- a membership of a constant asks for its word

@@ -31,7 +31,7 @@ ghost use Rattle.sb_decide.specs.Parting.{SetsAside};
 ghost use Rattle.sb_decide.specs.Taking.{HasAll, AreWords, IsFoundAt, Searches, Stands, TakesAll, TakesIn, TakesOther, other_dead};
 
 use crate::conjuncts::{Conjuncts, Member, conjuncts_at};
-use crate::demand::{demand_of, regex_of};
+use crate::demand::{demand_of, regular_of};
 use crate::parting::part;
 use crate::question::hear;
 use crate::standing::stands;
@@ -283,9 +283,7 @@ impl Decider {
             self.take_other()?;
             return Ok(());
         };
-        let Some(regex) = regex_of(table, &mut self.store, demand)? else {
-            unreachable!();
-        };
+        let regex = regular_of(table, &mut self.store, demand)?;
         self.members.push(Some(Member {
             serial: demand.serial,
             regex,

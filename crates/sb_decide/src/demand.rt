@@ -1,11 +1,11 @@
 //! What assertions demand of the words of constants.
 
-ghost use Rattle.std.specs.Prelude.{◌≡◌, ◌<◌, length, None, Some, IfOk, IfSome, MatchOption};
-ghost use Rattle.sb_script.specs.Brought.{asked};
+ghost use Rattle.std.specs.Prelude.{◌≡◌, ◌<◌, true, length, None, Some, IfOk, IfSome, MatchOption};
+ghost use Rattle.sb_script.specs.Brought.{asked, is_regex};
 ghost use Rattle.sb_script.specs.Fragment.{fits};
 ghost use Rattle.sb_script.specs.Sizes.{is_regular};
 ghost use Rattle.sb_term.specs.Numbered.{term_at};
-ghost use Rattle.sb_problem.specs.Normals.{IsNumberOf};
+ghost use Rattle.sb_problem.specs.Normals.{IsNumberOf, IsRegexOf};
 ghost use Rattle.sb_problem.specs.Patterns.{number_of, pattern_in};
 ghost use Rattle.sb_store.specs.Stores.{Grows, IsStoreOf};
 ghost use Rattle.sb_decide.specs.Demands.{demanded, expression_in, negation_of};
@@ -96,4 +96,23 @@ pub(crate) fn regex_of(
     }
     let complement = store.arena.not(id)?;
     Ok(Some(complement))
+}
+
+/// The same, where the demand is for a word of a regular expression over literals.
+pub(crate) fn regular_of(
+    table: &Table,
+    store: &mut Store,
+    demand: Demand,
+) -> Result<RegexId, AllocError>
+    requires number { number_of demand.pattern < length table.now }
+    requires regular { is_regex (expression_in table.now demand) ≡ true }
+    requires store { IsStoreOf table.now store.old }
+    ensures number { IfOk result (λ id. IsRegexOf store.new.arena (expression_in table.now demand) id) }
+    ensures store { Grows table.now store.old store.new }
+{
+    let found = regex_of(table, store, demand)?;
+    match found {
+        Some(id) => Ok(id),
+        None => unreachable!(),
+    }
 }

@@ -1,6 +1,6 @@
 use Rattle.sb_decide.proofs.Words.{◌≡◌, Some, None, length, refl, sym, arith, ◌∷◌, [], length-append, ap, append-nil, subst, Grows, Member, Store, expression_in, false≢true, grows_same, term_at, with_items}
 use Rattle.sb_decide.proofs.Constants.{put_some}
-use Rattle.sb_decide.proofs.DemandFacts.{other_kind}
+use Rattle.sb_decide.proofs.DemandFacts.{decided_kind}
 use Rattle.sb_decide.proofs.Knowledge.{at_place, is_member, is_other, number_within, term_decided, serial_within, taken_grown, stay_grown, stay_put, taken_more}
 use Rattle.sb_decide.proofs.TakingOver.{put_here, settled_through}
 use Rattle.sb_decide.proofs.decide.Decider.take_one.Goals as goal
@@ -33,24 +33,20 @@ returns-in_default-demand_of c =
       same = e.same.1;
     }
 
-pub regex_of-requires : goal.regex_of-requires
-regex_of-requires c =
+pub regular_of-requires : goal.regular_of-requires
+regular_of-requires c =
     let low = number_within _ _ _ _ _ c.requires.numbers c.requires.more
     (at_place c.args.self.now.members _ _ _ c.len-place.ensures c.index-assertions-place.is) c.in-Some.is in
+    let demand = c.in-Some-demand_of in
     record {
-      number = omega (arith, low, c.in-Some-demand_of.ensures.smaller);
+      number = omega (arith, low, demand.ensures.smaller);
+      regular = decided_kind (term_at c.args.table.now c.in-Some.term) demand.demand.serial.0
+          (expression_in c.args.table.now demand.demand) demand.ensures.parts
+          (term_decided _ _ _ _ (Some c.in-Some.term) c.requires.more
+          (at_place c.args.self.now.members _ _ _ c.len-place.ensures c.index-assertions-place.is) c.in-Some.is
+          c.requires.decided);
       store = c.requires.taken.store;
     }
-
-pub unreachable-2-requires : goal.unreachable-2-requires
-unreachable-2-requires c =
-    let demand = c.in-Some-demand_of in
-    other_kind (term_at c.args.table.now c.in-Some.term) demand.demand.serial.0
-    (expression_in c.args.table.now demand.demand) demand.ensures.parts
-    (rw c.in_default-2.is at c.in_ok-regex.ensures.number)
-    (term_decided _ _ _ _ (Some c.in-Some.term) c.requires.more
-    (at_place c.args.self.now.members _ _ _ c.len-place.ensures c.index-assertions-place.is) c.in-Some.is
-    c.requires.decided)
 
 pub put-requires : goal.put-requires
 put-requires c =
@@ -68,20 +64,20 @@ returns c =
     let demand = c.in-Some-demand_of in
     let e = c.in_ok-regex.ensures in
     let there = at_place c.args.self.now.members _ _ _ c.len-place.ensures c.index-assertions-place.is in
-    let member : Member = record { serial = demand.demand.serial; regex = c.in-Some-2.regex } in
+    let member : Member = record { serial = demand.demand.serial; regex = c.in_ok-regex.regex } in
     let place : c.len-place.result ≡ length c.args.self.now.members.items =
     omega (arith, c.len-place.ensures, c.args.self.now.members.ok.0) in
     let one = length-append c.args.self.now.members.items (Some member ∷ []) in
     let put = put_some member _ _ _
     (put_here c.args.self.now.constants _ _ _ _ _ c.deref_mut.ensures.value place c.in_ok-put.ensures.put) in
     record {
-      taken = taken_more (record c.args.self.now { store = c.regex_of.new.store }) c.args.table.now
+      taken = taken_more (record c.args.self.now { store = c.regular_of.new.store }) c.args.table.now
           c.args.assertions.now c.index-assertions-place.result (Some member) c.push.new.self c.push-2.new.self
           c.args.self.now.others (with_items c.args.self.now.constants c.put.new.constants) c.put.new.changed
           (taken_grown c.args.self.now _ _ _ e.store c.requires.taken) c.requires.more there
           (is_member _ _ _ _ _ member _ _ c.requires.numbers c.requires.more there c.in-Some.is demand.ensures.parts
           (term_decided _ _ _ _ (Some c.in-Some.term) c.requires.more there c.in-Some.is c.requires.decided)
-          (rw c.in-Some-2.is at e.number))
+          e.number)
           (serial_within _ _ _ _ _ _ _ _ c.requires.serials c.requires.numbers c.requires.more
           there c.in-Some.is demand.ensures.parts)
           c.in_ok-push.ensures.items c.in_ok-push-2.ensures.items (sym (append-nil c.args.self.now.others.items)) put
@@ -91,7 +87,7 @@ returns c =
           (rw c.deref_mut.ensures.value at c.in_ok-put.ensures.listed);
       words = stay_put c.args.self.now
           (record c.args.self.now {
-            store = c.regex_of.new.store;
+            store = c.regular_of.new.store;
             members = c.push.new.self;
             roots = c.push-2.new.self;
             constants = with_items c.args.self.now.constants c.put.new.constants;
