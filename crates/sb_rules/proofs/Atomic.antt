@@ -1,17 +1,21 @@
 -- Atoms of the table, and what is made of one more.
 use Rattle.std.proofs.Common.{◌≡◌, ℕ, zero, suc, Bool, true, false, ◌||◌, ◌==◌, inl, inr, if◌then◌else◌, List, [], ◌∷◌, ◌++◌, length, Option, Some, None, Result, Ok, Err, refl, ap, ap₂, sym, subst, ◌∙◌}
-use Rattle.std.specs.List.{list_any}
+use Rattle.std.specs.List.{list_all, list_any}
+use Rattle.std.proofs.lemmas.Bool.{and_parts, and_from}
 use Rattle.std.proofs.lemmas.Bool.Decides.{nat_tests}
 use Rattle.std.proofs.lemmas.List.{map-append}
 use Rattle.std.proofs.Common.{arith}
 use Rattle.sb_lang.specs.Regex.{Regex}
 use Rattle.sb_lang.specs.OrderLaws.{OrderTellsApart}
 use Rattle.sb_regex.specs.Numbered as regex
-use Rattle.sb_atoms.specs.Numbered.{Names, IsWith, over, atoms_in, HasRegexBelow, HaveRegexesBelow}
+use Rattle.sb_atoms.specs.declared.atom.Atom as code
+use Rattle.sb_atoms.specs.declared.atom.Atom.TheVariants as atom
+use Rattle.sb_atoms.specs.Numbered.{atom_in, Names, IsWith, over, atoms_in, HasRegexBelow, HaveRegexesBelow}
 use Rattle.sb_atoms.proofs.CallerLemmas.{over_one, atoms_more}
 use Rattle.sb_rulebook.specs.Refusals.{Refusal, repeated, not_normal}
 use Rattle.sb_rulebook.specs.Atoms.{Atom, AtomOver, bool_atom, in_atom, le_atom, sum_atom, and_atom, iff_atom, is_same_atom, is_well_formed}
 use Rattle.sb_rulebook.specs.AtomRules.{defined}
+use Rattle.sb_rulebook.specs.Brought.{is_brought_atom}
 use Rattle.sb_rulebook.specs.Kept.{AllKept}
 use Rattle.sb_rulebook.proofs.CallerLemmas.{same_atom, atom_itself}
 use Rattle.sb_rules.specs.declared.fault.Fault.{Fault}
@@ -63,6 +67,13 @@ more_below n [] a h g (suc i) b e = absurd (none_is b e)
 more_below n (x ∷ xs) a h g zero b e = h 0 b e
 more_below n (x ∷ xs) a h g (suc i) b e = more_below n xs a (λ j c d. h (suc j) c d) g i b e
 
+pub more_brought : (atoms : List (AtomOver ℕ)) (a : AtomOver ℕ) → list_all is_brought_atom atoms ≡ true
+    → is_brought_atom a ≡ true → list_all is_brought_atom (atoms ++ a ∷ []) ≡ true
+more_brought [] a h g = and_from (is_brought_atom a) true g refl
+more_brought (x ∷ xs) a h g =
+    let parts = and_parts (is_brought_atom x) (list_all is_brought_atom xs) h in
+    and_from (is_brought_atom x) (list_all is_brought_atom (xs ++ a ∷ [])) parts.0 (more_brought xs a parts.1 g)
+
 -- what adding an atom makes of the table, where it has no number there
 pub added_new : (old new : List (AtomOver ℕ)) (a : AtomOver ℕ) (id : ℕ) → IsWith old new a → Names new id a
     → ((i : ℕ) → Names old i a → ⊥) → new ≡ old ++ a ∷ []
@@ -82,12 +93,20 @@ atom_wanted A result e ruled k others a atoms r s (inr more) = rw (r, s) (inr (
 ))
 
 -- after adding an atom, whether it is there
-pub below_with : (n : ℕ) (old new : List (AtomOver ℕ)) (a : AtomOver ℕ) → IsWith old new a → HaveRegexesBelow n old
-    → HasRegexBelow n a → HaveRegexesBelow n new
-below_with n old new a (inl same) all here = rw same all
-below_with n old new a (inr more) all here = rw more (more_below n old a all here)
+pub whole_with : (n : ℕ) (old new : List (AtomOver ℕ)) (a : AtomOver ℕ) → IsWith old new a → HaveRegexesBelow n old
+    → list_all is_brought_atom old ≡ true → HasRegexBelow n a → is_brought_atom a ≡ true
+    → HaveRegexesBelow n new × (list_all is_brought_atom new ≡ true)
+whole_with n old new a (inl same) all brought here is = rw same (all, brought)
+whole_with n old new a (inr more) all brought here is =
+    rw more (more_below n old a all here, more_brought old a brought is)
 
--- An atom is as well formed as the one with the regex itself.
+-- Each atom of the code is brought, and is as well formed as the atom with the regex itself.
+
+pub all_brought : (d : code.Atom) → is_brought_atom (atom_in d) ≡ true
+all_brought (atom.Bool serial) = refl
+all_brought (atom.In serial regex) = refl
+all_brought (atom.And literals) = refl
+all_brought (atom.Iff one other) = refl
 
 formed_over : (rs : List Regex) (a : AtomOver ℕ) → is_well_formed (over rs a) ≡ is_well_formed a
 formed_over rs (bool_atom serial) = refl

@@ -1,5 +1,6 @@
 -- What the code keeps of a proof, as the rules of proofs have it.
-use Rattle.std.specs.Prelude.{◌≡◌, ℕ, ◌<◌, List, map, length, Option, Some, None, option_map, IfSome}
+use Rattle.std.specs.Prelude.{◌≡◌, ℕ, ◌<◌, true, false, nat_lt, List, map, length, Option, Some, None, option_map, IfSome}
+use Rattle.std.specs.List.{list_all}
 use Rattle.sb_meaning.specs.Terms.{Term}
 use Rattle.sb_regex.specs.Numbered.{regexes_at, AllNumbers, Extends}
 use Rattle.sb_plain.specs.Memory as plain
@@ -10,6 +11,7 @@ use Rattle.sb_term.specs.Numbered.{term_at}
 use Rattle.sb_term.specs.Symbols.{sort_in}
 use Rattle.sb_term.specs.declared.sort.Sort as code
 use Rattle.sb_term.specs.declared.assertion.Assertion.{Assertion}
+use Rattle.sb_rulebook.specs.Brought.{is_brought_atom}
 use Rattle.sb_rulebook.specs.Kept.{AllKept, Asked, dropped_above, all_dropped}
 use Rattle.sb_rules.specs.declared.kept.Kept.{Kept}
 
@@ -30,6 +32,7 @@ pub record IsWhole (k : Kept) : Type 0 where
   pub regexes : AllNumbers k.arena k.regexes.order
   pub plain : plain.IsRight k.arena k.plain
   pub atoms : HaveRegexesBelow (length k.arena) k.atoms
+  pub brought : list_all is_brought_atom k.atoms ≡ true
 
 -- What is kept of the script is of a table of terms.
 pub record IsOver (ts : List Term) (k : Kept) : Type 0 where

@@ -4,7 +4,7 @@ use Rattle.sb_atoms.specs.Numbered as numbered
 use Rattle.sb_atoms.specs.Numbered.{atoms_in}
 use Rattle.sb_rulebook.specs.Refusals.{not_normal}
 use Rattle.sb_rules.specs.Kept.{kept_in}
-use Rattle.sb_rules.proofs.Atomic.{added_new, atom_wanted, below_with, kept_by_form}
+use Rattle.sb_rules.proofs.Atomic.{all_brought, added_new, atom_wanted, whole_with, kept_by_form}
 use Rattle.sb_regex.proofs.CallerLemmas.{extends_same}
 use Rattle.sb_rules.proofs.kept.Kept.add_new.Goals as goal
 
@@ -21,20 +21,18 @@ returns-then-not-is_well_formed-clause-defines c = λ others.
     )
 
 pub returns-in_err-add-clause-whole : goal.returns-in_err-add-clause-whole
-returns-in_err-add-clause-whole c = record {
-  regexes = c.requires.whole.regexes;
-  plain = c.requires.whole.plain;
-  atoms = below_with (length c.args.self.now.arena) c.args.self.now.atoms c.add.new.self
-      (numbered.atom_in c.args.atom) c.add.ensures.grows c.requires.whole.atoms c.requires.regex;
-}
+returns-in_err-add-clause-whole c =
+    let w = whole_with (length c.args.self.now.arena) c.args.self.now.atoms c.add.new.self
+    (numbered.atom_in c.args.atom) c.add.ensures.grows c.requires.whole.atoms c.requires.whole.brought
+    c.requires.regex (all_brought c.args.atom) in
+    record { regexes = c.requires.whole.regexes; plain = c.requires.whole.plain; atoms = w.0; brought = w.1 }
 
 pub returns-clause-whole : goal.returns-clause-whole
-returns-clause-whole c = record {
-  regexes = c.requires.whole.regexes;
-  plain = c.requires.whole.plain;
-  atoms = below_with (length c.args.self.now.arena) c.args.self.now.atoms c.add.new.self
-      (numbered.atom_in c.args.atom) c.add.ensures.grows c.requires.whole.atoms c.requires.regex;
-}
+returns-clause-whole c =
+    let w = whole_with (length c.args.self.now.arena) c.args.self.now.atoms c.add.new.self
+    (numbered.atom_in c.args.atom) c.add.ensures.grows c.requires.whole.atoms c.requires.whole.brought
+    c.requires.regex (all_brought c.args.atom) in
+    record { regexes = c.requires.whole.regexes; plain = c.requires.whole.plain; atoms = w.0; brought = w.1 }
 
 pub returns-clause-defines : goal.returns-clause-defines
 returns-clause-defines c = λ others.

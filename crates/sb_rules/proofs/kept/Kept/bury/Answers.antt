@@ -16,4 +16,5 @@ returns-clause-whole c = record {
   regexes = subst (AllNumbers c.args.self.now.arena) (sym c.bury.ensures.order) c.requires.regexes;
   plain = c.requires.plain;
   atoms = c.requires.atoms;
+  brought = c.requires.brought;
 }

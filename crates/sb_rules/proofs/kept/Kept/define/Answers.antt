@@ -17,4 +17,5 @@ returns-clause-whole c = record {
   regexes = c.define.ensures.known;
   plain = c.right_stays.ensures _ _ _ c.define.ensures.extends c.requires.plain;
   atoms = regexes_kept _ _ _ c.define.ensures.extends c.requires.atoms;
+  brought = c.requires.brought;
 }

@@ -32,6 +32,7 @@ returns-in_err-ids-clause-whole c = record {
   regexes = numbers_kept _ _ _ c.denied.ensures.extends c.requires.whole.regexes;
   plain = c.right_stays.ensures _ _ _ c.denied.ensures.extends c.requires.whole.plain;
   atoms = regexes_kept _ _ _ c.denied.ensures.extends c.requires.whole.atoms;
+  brought = c.requires.whole.brought;
 }
 
 pub returns-in_err-id-clause-kept : goal.returns-in_err-id-clause-kept
@@ -46,6 +47,7 @@ returns-in_err-id-clause-whole c =
       regexes = numbers_kept _ _ _ e c.requires.whole.regexes;
       plain = c.right_stays.ensures _ _ _ e c.requires.whole.plain;
       atoms = regexes_kept _ _ _ e c.requires.whole.atoms;
+      brought = c.requires.whole.brought;
     }
 
 pub is_dead_regex-requires-clause-id : goal.is_dead_regex-requires-clause-id
@@ -75,6 +77,7 @@ returns-clause-whole c =
       regexes = numbers_kept _ _ _ e c.requires.whole.regexes;
       plain = c.right_stays.ensures _ _ _ e c.requires.whole.plain;
       atoms = regexes_kept _ _ _ e c.requires.whole.atoms;
+      brought = c.requires.whole.brought;
     }
 
 pub is_dead_regex-requires-clause-known : goal.is_dead_regex-requires-clause-known

@@ -1,7 +1,9 @@
 use Rattle.std.proofs.Common.{refl, ap, ◌∙◌, List, ℕ}
+use Rattle.std.specs.List.{list_all}
 use Rattle.sb_term.specs.Numbered.{term_at}
 use Rattle.sb_regex.proofs.CallerLemmas.{numbers_kept}
 use Rattle.sb_rulebook.specs.Atoms.{AtomOver}
+use Rattle.sb_rulebook.specs.Brought.{is_brought_atom}
 use Rattle.sb_atoms.specs.Numbered.{atoms_in}
 use Rattle.sb_atoms.specs.Translated.{brought_translation}
 use Rattle.sb_atoms.proofs.CallerLemmas.{atoms_kept}
@@ -19,6 +21,7 @@ returns-in_err-fits_structure-clause-over c = record {
         regexes = c.requires.over.whole.regexes;
         plain = c.requires.over.whole.plain;
         atoms = c.requires.over.whole.atoms;
+        brought = c.requires.over.whole.brought;
       };
   normals = c.requires.over.normals;
   measures = c.fits_structure.ensures.right;
@@ -39,6 +42,7 @@ returns-then-not-branch-clause-over c = record {
         regexes = c.requires.over.whole.regexes;
         plain = c.requires.over.whole.plain;
         atoms = c.requires.over.whole.atoms;
+        brought = c.requires.over.whole.brought;
       };
   normals = c.requires.over.normals;
   measures = c.fits_structure.ensures.right;
@@ -87,6 +91,7 @@ returns-in_err-found-clause-over c = record {
         regexes = numbers_kept _ _ _ c.find_translation.ensures.arena c.requires.over.whole.regexes;
         plain = c.right_stays.ensures _ _ _ c.find_translation.ensures.arena c.requires.over.whole.plain;
         atoms = c.find_translation.ensures.regexes;
+        brought = ap (list_all is_brought_atom) c.find_translation.ensures.stays ∙ c.requires.over.whole.brought;
       };
   normals = c.find_translation.ensures.normals;
   measures = c.find_translation.ensures.right;
@@ -99,6 +104,7 @@ returns-clause-over c = record {
         regexes = numbers_kept _ _ _ c.find_translation.ensures.arena c.requires.over.whole.regexes;
         plain = c.right_stays.ensures _ _ _ c.find_translation.ensures.arena c.requires.over.whole.plain;
         atoms = c.find_translation.ensures.regexes;
+        brought = ap (list_all is_brought_atom) c.find_translation.ensures.stays ∙ c.requires.over.whole.brought;
       };
   normals = c.find_translation.ensures.normals;
   measures = c.find_translation.ensures.right;

@@ -97,6 +97,7 @@ returns-clause-whole c = record {
   regexes = numbers_kept _ _ _ c.is_expansion.ensures.extends c.requires.whole.regexes;
   plain = c.is_expansion.ensures.right;
   atoms = regexes_kept _ _ _ c.is_expansion.ensures.extends c.requires.whole.atoms;
+  brought = c.requires.whole.brought;
 }
 
 pub returns-then-not-branch-clause-whole : goal.returns-then-not-branch-clause-whole
@@ -104,6 +105,7 @@ returns-then-not-branch-clause-whole c = record {
   regexes = numbers_kept _ _ _ c.is_expansion.ensures.extends c.requires.whole.regexes;
   plain = c.is_expansion.ensures.right;
   atoms = regexes_kept _ _ _ c.is_expansion.ensures.extends c.requires.whole.atoms;
+  brought = c.requires.whole.brought;
 }
 
 pub returns-in_err-is_expansion-clause-whole : goal.returns-in_err-is_expansion-clause-whole
@@ -111,6 +113,7 @@ returns-in_err-is_expansion-clause-whole c = record {
   regexes = numbers_kept _ _ _ c.is_expansion.ensures.extends c.requires.whole.regexes;
   plain = c.is_expansion.ensures.right;
   atoms = regexes_kept _ _ _ c.is_expansion.ensures.extends c.requires.whole.atoms;
+  brought = c.requires.whole.brought;
 }
 
 pub is_expansion-requires-clause-known : goal.is_expansion-requires-clause-known

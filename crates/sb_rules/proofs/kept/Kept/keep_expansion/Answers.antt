@@ -30,6 +30,7 @@ returns-clause-whole c = record {
   regexes = subst (λ k. AllNumbers c.args.self.now.arena k.order) (sym c.expand.ensures) c.requires.whole.regexes;
   plain = c.requires.whole.plain;
   atoms = c.requires.whole.atoms;
+  brought = c.requires.whole.brought;
 }
 
 pub returns-in_err-counted-clause-terms : goal.returns-in_err-counted-clause-terms
