@@ -283,13 +283,11 @@ impl Decider {
             self.take_other()?;
             return Ok(());
         };
+        let serial = demand.serial;
         let regex = regular_of(table, &mut self.store, demand)?;
-        self.members.push(Some(Member {
-            serial: demand.serial,
-            regex,
-        }))?;
+        self.members.push(Some(Member { serial, regex }))?;
         self.roots.push(None)?;
-        put(&mut self.constants, &mut self.changed, demand.serial, place)?;
+        put(&mut self.constants, &mut self.changed, serial, place)?;
         Ok(())
     }
 

@@ -9,8 +9,11 @@ unreachable-requires c = false≢true (sym (rw c.in-None.is at c.in_ok-found.ens
 
 pub returns-in_err-found : goal.returns-in_err-found
 returns-in_err-found c =
-    record { number = IfOk-from_err c.from_residual.result _ c.from_residual.ensures.0; store = c.in_err-found.ensures.store }
+    record {
+      number = IfOk-from_err c.from_residual.result _ c.from_residual.ensures.0;
+      store = c.in_err-found.ensures.store;
+    }
 
-pub returns-in-Some : goal.returns-in-Some
-returns-in-Some c =
+pub returns : goal.returns
+returns c =
     record { number = rw c.in-Some.is at c.in_ok-found.ensures.number; store = c.in_ok-found.ensures.store }
