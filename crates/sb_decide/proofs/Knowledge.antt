@@ -408,7 +408,8 @@ serial_within n ts xs i x id serial R h numbers l is there asks =
 
 -- nothing is known yet
 pub knows_none : (kept : Decider) (stack : Stacked) → kept.fragment.inside ≡ 0 →
-    length kept.members.items ≡ 0 → length kept.roots.items ≡ 0 → length kept.others.items ≡ 0 → length kept.constants.items ≡ 0 → length kept.changed.items ≡ 0 →
+    length kept.members.items ≡ 0 → length kept.roots.items ≡ 0 → length kept.others.items ≡ 0 →
+    length kept.constants.items ≡ 0 → length kept.changed.items ≡ 0 →
     length kept.left.items ≡ 0 → kept.spoken.keys ≡ [] → kept.heard ≡ 0 → kept.dead ≡ None →
     IsStoreOf stack.table kept.store → stack.words ≡ [] → Knows kept stack
 knows_none kept stack inside members roots others constants changed left spoken heard dead store words =

@@ -37,7 +37,7 @@ pub use Rattle.sb_meaning.specs.Truth.{Meaning, all_hold, all_true, applied, hol
 pub use Rattle.sb_meaning.specs.Values.{Int, Text, Truth, Valuation, Value, is_of, value_in}
 pub use Rattle.sb_script.proofs.CallerLemmas.{IsAsking, a_membership, a_word_behind, a_word_in_front, asked_holds, asked_looks, asked_occurs, asked_regular}
 pub use Rattle.sb_script.specs.Brought.{are_regexes, asked, is_regex, is_structure, membership_of}
-pub use Rattle.sb_script.specs.Fragment.{fits}
+pub use Rattle.sb_script.specs.Fragment.{fits, is_decided}
 pub use Rattle.sb_script.specs.Models.{AreShortestLeast, about, is_about, is_of_constant, is_plain, is_plain_assertion, is_plain_term, occurs, occurs_in_some, words_for}
 pub use Rattle.sb_script.specs.Pieces.{are_ground, is_ground}
 pub use Rattle.sb_script.specs.Scopes.{Constant}
@@ -63,7 +63,7 @@ pub use Rattle.sb_deriv.specs.Faithful.{KeepsEntries}
 pub use Rattle.sb_plain.specs.Memory.{IsRight, Memory}
 pub use Rattle.sb_fragment.proofs.CallerLemmas.{asked_structure, measures_kept}
 pub use Rattle.sb_fragment.specs.Measures.{AreMeasures}
-pub use Rattle.sb_fragment.specs.Rules.{FragmentIsOfEach, is_decided}
+pub use Rattle.sb_fragment.specs.Rules.{FragmentIsOfEach}
 pub use Rattle.sb_fragment.specs.Shapes.{parts_of}
 pub use Rattle.sb_fragment.specs.declared.measure.Measure.{Measure}
 pub use Rattle.sb_stack.proofs.CallerLemmas.{live_laid, same_sort, value_there}

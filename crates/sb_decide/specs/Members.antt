@@ -13,7 +13,7 @@ use Rattle.sb_meaning.specs.Terms.{Term}
 use Rattle.sb_script.specs.State.{asserted}
 use Rattle.sb_problem.specs.Normals.{IsRegexOf}
 use Rattle.sb_term.specs.declared.assertion.Assertion.{Assertion}
-use Rattle.sb_fragment.specs.Rules.{is_decided}
+use Rattle.sb_script.specs.Fragment.{is_decided}
 use Rattle.sb_stack.specs.Stacked.{assertion_in, HasNumberBelow}
 use Rattle.sb_decide.specs.declared.conjuncts.Member.{Member}
 use Rattle.sb_decide.specs.Deciding.{in_each}

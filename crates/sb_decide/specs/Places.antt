@@ -9,9 +9,8 @@ use Rattle.sb_lang.specs.RegLan.{RegLan}
 use Rattle.sb_meaning.specs.Terms.{Term}
 use Rattle.sb_meaning.specs.Values.{Valuation}
 use Rattle.sb_meaning.specs.Truth.{meaning_of, means_reglan}
-use Rattle.sb_script.specs.Fragment.{fits}
+use Rattle.sb_script.specs.Fragment.{fits, is_decided}
 use Rattle.sb_script.specs.State.{Assertion, asserted, a_mark}
-use Rattle.sb_fragment.specs.Rules.{is_decided}
 use Rattle.sb_decide.specs.Demands.{demanded, is_demand}
 
 -- the term asks something of the constant's word alone: it is a membership of the constant, or its equality with a

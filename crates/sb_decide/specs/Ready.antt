@@ -8,7 +8,7 @@ use Rattle.sb_meaning.specs.Truth.{holds}
 use Rattle.sb_script.specs.Models.{is_plain, occurs, AreShortestLeast}
 use Rattle.sb_script.specs.Verdicts.{IsVerdict, is_unsat, is_outside}
 use Rattle.sb_script.specs.State.{asserted, live, live_terms}
-use Rattle.sb_fragment.specs.Rules.{is_decided}
+use Rattle.sb_script.specs.Fragment.{is_decided}
 use Rattle.sb_store.specs.Stores.{Grows}
 use Rattle.sb_stack.specs.Speaking.{speaks_of}
 use Rattle.sb_stack.specs.Stacked.{Stacked, state_of, live_constants, values_at, are_words}

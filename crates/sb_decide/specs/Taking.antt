@@ -9,7 +9,7 @@ use Rattle.sb_meaning.specs.Terms.{Term}
 use Rattle.sb_term.specs.declared.assertion.Assertion.{Assertion}
 use Rattle.sb_term.specs.declared.term.Serial.{Serial}
 use Rattle.sb_script.specs.State.{constants_of, fits, live, live_terms}
-use Rattle.sb_fragment.specs.Rules.{is_decided}
+use Rattle.sb_script.specs.Fragment.{is_decided}
 use Rattle.sb_store.specs.Stores.{Grows, RegexesGrow}
 use Rattle.sb_store.specs.declared.store.Store.{Store}
 use Rattle.sb_stack.specs.Speaking.{speaks_of}

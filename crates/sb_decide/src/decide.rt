@@ -16,7 +16,7 @@ ghost use Rattle.sb_lang.specs.Least.{IsShortestLeast};
 ghost use Rattle.sb_lang.specs.Regex.{Regex};
 ghost use Rattle.sb_regex.specs.Numbered.{Extends};
 ghost use Rattle.sb_script.specs.State.{live, live_terms};
-ghost use Rattle.sb_fragment.specs.Rules.{is_decided};
+ghost use Rattle.sb_script.specs.Fragment.{is_decided};
 ghost use Rattle.sb_store.specs.Stores.{Grows, IsStore};
 ghost use Rattle.sb_stack.specs.Stacked.{Stacked, state_of, live_constants, assertion_in, HasNumberBelow};
 ghost use Rattle.sb_stack.specs.Speaking.{speaks_of};

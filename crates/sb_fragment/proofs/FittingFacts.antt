@@ -6,7 +6,7 @@ use Rattle.std.proofs.lemmas.Option.{slice_get-get_or}
 use Rattle.std.proofs.Math.Bool.{and-true}
 use Rattle.sb_meaning.specs.Terms.{Sort, boolean, integer, text, reglan, Term, Terms, constant, apply, str_to_re, no_terms, with_term, terms_in}
 use Rattle.sb_script.specs.Brought.{asked, is_pair, is_regex, is_structure}
-use Rattle.sb_script.specs.Fragment.{fits, each_fits, is_word_pair, is_linear_pair, sort_of_first}
+use Rattle.sb_script.specs.Fragment.{fits, each_fits, is_word_pair, is_linear_pair, sort_of_first, is_decided}
 use Rattle.sb_script.specs.Sizes.{is_regular}
 use Rattle.sb_script.specs.State.{asserted}
 use Rattle.sb_script.proofs.CallerLemmas.{asked_regular}
@@ -25,7 +25,6 @@ use Rattle.sb_fragment.specs.Measured.{joined, no_measure, applied_measure, with
 use Rattle.sb_fragment.specs.Memberships.{equality}
 use Rattle.sb_fragment.specs.Shapes.{IsApplied, IsComparison, IsConnected, IsShape, parts_of, truth_of, comparison_of}
 use Rattle.sb_fragment.specs.Fitting.{have_short_words, fit_with, fit_by, both_fit, term_fit, terms_fit, regex_fit, pair_fit, neighbours_fit, words_fit}
-use Rattle.sb_fragment.specs.Rules.{is_decided}
 use Rattle.sb_fragment.proofs.AskedFacts.{asked_membership}
 use Rattle.sb_fragment.proofs.ComparedPairs.{pairs_all_test}
 use Rattle.sb_fragment.proofs.MeasureFacts.{both_moved, literal_is, regular_is}

@@ -11,7 +11,8 @@ use Rattle.sb_term.specs.Numbered.{term_at, Extends}
 use Rattle.sb_term.proofs.CallerLemmas.{at_kept, long_kept}
 use Rattle.sb_fragment.specs.declared.rules.Reason.{Reason}
 use Rattle.sb_fragment.specs.Inside.{AreInside}
-use Rattle.sb_fragment.specs.Rules.{assertion_in, HasNumberBelow, is_decided, IsBrokenBy}
+use Rattle.sb_script.specs.Fragment.{is_decided}
+use Rattle.sb_fragment.specs.Rules.{assertion_in, HasNumberBelow, IsBrokenBy}
 use Rattle.sb_fragment.proofs.RuleFacts.{one_more}
 
 pub number_at : (n : ℕ) (live : List code.Assertion) (k : ℕ) (a : code.Assertion) → All (HasNumberBelow n) live
@@ -23,7 +24,8 @@ number_at n live k a h low is = subst (HasNumberBelow n) (sym is) (h k a low)
 pub inside_none : (count : ℕ) (ts : List Term) (live : List code.Assertion) → count ≡ 0 → AreInside count ts live
 inside_none count ts live none = record {
   front = omega (arith, none);
-  numbers = subst (λ k. All (HasNumberBelow (length ts)) (take k live)) (sym none) (All-nil (HasNumberBelow (length ts)));
+  numbers = subst (λ k. All (HasNumberBelow (length ts)) (take k live)) (sym none)
+      (All-nil (HasNumberBelow (length ts)));
   decided = subst (λ k. list_all is_decided (map (assertion_in ts) (take k live)) ≡ true) (sym none) refl;
 }
 

@@ -9,7 +9,8 @@ use Rattle.sb_meaning.specs.Terms.{Term}
 use Rattle.sb_script.specs.State.{Assertion}
 use Rattle.sb_term.specs.declared.assertion.Assertion as code
 use Rattle.sb_fragment.specs.declared.rules.Reason.{Reason}
-use Rattle.sb_fragment.specs.Rules.{assertion_in, is_broken, is_decided, IsBrokenBy}
+use Rattle.sb_script.specs.Fragment.{is_decided}
+use Rattle.sb_fragment.specs.Rules.{assertion_in, is_broken, IsBrokenBy}
 
 inside_more : (live : List Assertion) (a : Assertion) → list_all is_decided live ≡ true → is_decided a ≡ true
     → list_all is_decided (live ++ a ∷ []) ≡ true

@@ -9,11 +9,11 @@ use Rattle.sb_meaning.specs.Sorts.{sort_of}
 use Rattle.sb_meaning.specs.Truth.{is_chain, are_pairs}
 use Rattle.sb_script.specs.Brought.{is_regex, are_regexes, is_membership, is_pair, are_several, is_structure, are_structure}
 use Rattle.sb_script.specs.Sums.{Variable}
-use Rattle.sb_script.specs.Fragment.{variables_in, variables_in_each, are_bounded, is_unmarked, fits}
+use Rattle.sb_script.specs.Fragment.{variables_in, variables_in_each, are_bounded, is_unmarked, fits, is_decided}
 use Rattle.sb_script.specs.Fragment.{are_inside, are_in_fragment}
 use Rattle.sb_script.specs.State.{Assertion, asserted, a_mark, live, terms_in as asserted_terms}
 use Rattle.sb_script.proofs.CallerLemmas.{IsAsking, a_membership, a_word_behind, a_word_in_front, asked_looks, membership_asks}
-use Rattle.sb_fragment.specs.Rules.{is_decided, FragmentIsOfEach}
+use Rattle.sb_fragment.specs.Rules.{FragmentIsOfEach}
 
 joined : (R : Term) (Rs : Terms) → (is_regex R && are_regexes Rs) ≡ true → (is_regex R ≡ true → variables_in R ≡ [])
     → (are_regexes Rs ≡ true → variables_in_each Rs ≡ []) → variables_in_each (with_term R Rs) ≡ []

@@ -3,7 +3,8 @@ use Rattle.std.specs.Prelude.{◌≡◌, ℕ, ◌≤◌, true, List, length, map
 use Rattle.std.specs.List.{All, list_all}
 use Rattle.sb_meaning.specs.Terms.{Term}
 use Rattle.sb_term.specs.declared.assertion.Assertion as code
-use Rattle.sb_fragment.specs.Rules.{assertion_in, HasNumberBelow, is_decided}
+use Rattle.sb_script.specs.Fragment.{is_decided}
+use Rattle.sb_fragment.specs.Rules.{assertion_in, HasNumberBelow}
 
 -- so many assertions, from the first on, are decided ones
 pub record AreInside (count : ℕ) (ts : List Term) (live : List code.Assertion) : Type 0 where

@@ -4,7 +4,7 @@ use Rattle.std.specs.List.{list_all, list_any}
 use Rattle.sb_meaning.specs.Terms.{Term, apply, no_terms, with_term}
 use Rattle.sb_meaning.specs.Terms as symbol
 use Rattle.sb_script.specs.Brought.{is_structure}
-use Rattle.sb_script.specs.Fragment.{fits, in_fragment, is_inside, is_unmarked}
+use Rattle.sb_script.specs.Fragment.{fits, in_fragment, is_decided, is_unmarked}
 use Rattle.sb_script.specs.Pieces.{is_ground}
 use Rattle.sb_script.specs.State.{State, Assertion, asserted, a_mark, live}
 use Rattle.sb_term.specs.declared.assertion.Assertion as code
@@ -20,11 +20,6 @@ assertion_in ts a = elim a.term [ Some id ↦ asserted (term_at ts id) | None �
 
 abbrev pub HasNumberBelow : ℕ → code.Assertion → Type 0
 HasNumberBelow n a = IfSome a.term (λ id. id < n)
-
--- the assertion is Boolean structure, within the limits on sizes
-abbrev pub is_decided : Assertion → Bool
-is_decided (asserted t) = is_inside (asserted t) && fits t
-is_decided a_mark = false
 
 -- a check is decided exactly where each live assertion is
 abbrev pub FragmentIsOfEach : Type 0

@@ -7,7 +7,7 @@ ghost use Rattle.sb_script.specs.State.{asserted};
 ghost use Rattle.sb_term.specs.Numbered.{term_at};
 ghost use Rattle.sb_problem.specs.Patterns.{number_of, pattern_in};
 ghost use Rattle.sb_fragment.specs.Measures.{IsMeasure, AreMeasures};
-ghost use Rattle.sb_fragment.specs.Rules.{is_decided};
+ghost use Rattle.sb_script.specs.Fragment.{is_decided};
 
 use crate::fitting::{Fit, fit_of};
 use crate::measure::{Measure, is_within, literal_of, plain_of, total_of};

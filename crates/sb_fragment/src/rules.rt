@@ -4,7 +4,8 @@ ghost use Rattle.std.specs.Prelude.{◌≡◌, ◌<◌, true, false, length, IfO
 ghost use Rattle.sb_term.specs.Numbered.{term_at};
 ghost use Rattle.sb_script.specs.State.{asserted};
 ghost use Rattle.sb_fragment.specs.Measures.{AreMeasures};
-ghost use Rattle.sb_fragment.specs.Rules.{assertion_in, HasNumberBelow, IsBrokenBy, is_broken, is_decided, FragmentIsOfEach};
+ghost use Rattle.sb_script.specs.Fragment.{is_decided};
+ghost use Rattle.sb_fragment.specs.Rules.{assertion_in, HasNumberBelow, IsBrokenBy, is_broken, FragmentIsOfEach};
 
 use crate::measures::Measures;
 use crate::memberships::term_and_regex;

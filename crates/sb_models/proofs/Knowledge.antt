@@ -9,12 +9,12 @@ use Rattle.sb_meaning.specs.Values.{Valuation}
 use Rattle.sb_meaning.specs.Truth.{holds}
 use Rattle.sb_script.specs.State.{Assertion, asserted, a_mark}
 use Rattle.sb_script.specs.Brought.{is_structure}
-use Rattle.sb_script.specs.Fragment.{in_fragment, fits}
+use Rattle.sb_script.specs.Fragment.{in_fragment, fits, is_decided}
 use Rattle.sb_term.specs.declared.assertion.Assertion as code
 use Rattle.sb_term.specs.Numbered.{term_at, Extends}
 use Rattle.sb_fragment.specs.declared.keeper.Fragment.{Fragment}
 use Rattle.sb_fragment.specs.Inside.{AreInside}
-use Rattle.sb_fragment.specs.Rules.{is_decided, FragmentIsOfEach}
+use Rattle.sb_fragment.specs.Rules.{FragmentIsOfEach}
 use Rattle.sb_fragment.proofs.CallerLemmas.{inside_none, inside_all, inside_stays, inside_left, assertions_kept, front_of_front}
 use Rattle.sb_atoms.specs.Given.{GivesValues}
 use Rattle.sb_stack.specs.Stacked.{Stacked, state_of, assertion_in, assertion_of, HasNumberBelow, IsLonger}

@@ -8,7 +8,7 @@ use Rattle.sb_meaning.specs.Truth.{holds}
 use Rattle.sb_script.specs.Brought.{is_regex}
 use Rattle.sb_script.specs.Sizes.{is_regular}
 use Rattle.sb_script.specs.State.{Assertion, asserted, a_mark}
-use Rattle.sb_fragment.specs.Rules.{is_decided}
+use Rattle.sb_script.specs.Fragment.{is_decided}
 use Rattle.sb_fragment.proofs.CallerLemmas.{asked_decided}
 use Rattle.sb_atoms.specs.Given.{GivesValues, GivesEach}
 use Rattle.sb_atoms.proofs.CallerLemmas.{asked_given, asked_value}

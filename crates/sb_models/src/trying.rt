@@ -6,7 +6,7 @@ ghost use Rattle.sb_regex.specs.Numbered.{Extends};
 ghost use Rattle.sb_term.specs.Numbered.{term_at};
 ghost use Rattle.sb_problem.specs.Known.{AreNormals};
 ghost use Rattle.sb_plain.specs.Memory.{IsRight};
-ghost use Rattle.sb_fragment.specs.Rules.{is_decided};
+ghost use Rattle.sb_script.specs.Fragment.{is_decided};
 ghost use Rattle.sb_models.specs.Knowing.{AreTrueBy, IsTruthBy, assertions_of};
 ghost use Rattle.sb_models.specs.Tried.{marks_of, IsOfSame, MayPass};
 

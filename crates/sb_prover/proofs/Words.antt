@@ -31,7 +31,7 @@ pub use Rattle.sb_meaning.specs.Truth.{all_hold, applied, holds, meaning_of, mea
 pub use Rattle.sb_meaning.specs.Values.{Text, Valuation, default_of, is_of, value_in}
 pub use Rattle.sb_script.proofs.CallerLemmas.{asked_regular, entry_keeps}
 pub use Rattle.sb_script.specs.Brought.{is_regex, is_structure, proofs}
-pub use Rattle.sb_script.specs.Fragment.{are_in_fragment, are_inside, in_fragment, is_inside}
+pub use Rattle.sb_script.specs.Fragment.{are_in_fragment, are_inside, in_fragment, is_decided, is_inside}
 pub use Rattle.sb_script.specs.Models.{IsGiven, are_defaults, is_default, is_default_or_occurs, occurs}
 pub use Rattle.sb_script.specs.Names.{Name}
 pub use Rattle.sb_script.specs.Pieces.{are_ground, is_ground}
@@ -62,7 +62,7 @@ pub use Rattle.sb_sound.specs.SoundLaws.{AreTerms, Continues, CountedAgainStaysS
 pub use Rattle.sb_proof.specs.Tapes.{with_bytes}
 pub use Rattle.sb_term.specs.declared.term.Serial.{Serial}
 pub use Rattle.sb_fragment.proofs.CallerLemmas.{all_at}
-pub use Rattle.sb_fragment.specs.Rules.{FragmentIsOfEach, is_decided}
+pub use Rattle.sb_fragment.specs.Rules.{FragmentIsOfEach}
 pub use Rattle.sb_atoms.proofs.CallerLemmas.{no_atoms, regexes_kept}
 pub use Rattle.sb_atoms.specs.Numbered.{HaveRegexesBelow, atoms_in}
 pub use Rattle.sb_stack.proofs.CallerLemmas.{live_laid, value_there}

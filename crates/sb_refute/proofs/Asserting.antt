@@ -1,6 +1,6 @@
 -- What is put of an assertion: the lines of its atoms, and its clause.
 use Rattle.sb_refute.proofs.Words.{◌≡◌, ℕ, ◌^◌, ◌<◌, Bool, true, false, nat_eq, if◌then◌else◌, List, [], ◌∷◌, ◌++◌, length, slice_get, Option, Some, None, Ok, IfSome, refl, sym, ap, subst, ◌∙◌, arith, EvidencesUncounted, ◌≢◌, and_from, lt-ltb, nat_tests, length-map, none-some, same_Some, some-none, Lit, Kept, Regex, Memo, line, AtomOver, follows, AllKept, Asked, with_clause, assertion_line, text_of, is_small, is_small_literal, translation, AssertionLinesAreExact, with_bytes, over, brought_translation, puts_none, puts_one, puts_both, Backing, Backs, IsStatement, KeepsAsserted, asserted_at, unit_at, Asserted, AreDue, IsAssertion, IsClaimed, IsStanding, Leads, LeadsClaimed, placed, Stand, Term, is_structure, Atom, AreDefined}
-use Rattle.sb_rulebook.specs.ClauseRules.{is_decided}
+use Rattle.sb_script.specs.Fragment.{is_decided}
 use Rattle.sb_script.specs.State as state
 use Rattle.sb_refute.proofs.Backs.{backs-clause, backs-without, units-placed}
 use Rattle.sb_refute.proofs.Holding.{gates-more}

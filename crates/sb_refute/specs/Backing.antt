@@ -7,7 +7,7 @@ use Rattle.sb_lit.specs.declared.clause.Lit.{Lit}
 use Rattle.sb_meaning.specs.Terms.{Term}
 use Rattle.sb_deriv.specs.Faithful.{Memo}
 use Rattle.sb_rulebook.specs.Atoms.{AtomOver}
-use Rattle.sb_rulebook.specs.ClauseRules.{is_decided}
+use Rattle.sb_script.specs.Fragment.{is_decided}
 use Rattle.sb_rulebook.specs.Kept.{AllKept, Asked}
 use Rattle.sb_script.specs.State as state
 use Rattle.sb_atoms.specs.Numbered.{Names, atoms_in}

@@ -12,7 +12,7 @@ use Rattle.sb_deriv.specs.Faithful.{Memo}
 use Rattle.sb_rulebook.specs.Atoms.{Atom, AtomOver, is_well_formed}
 use Rattle.sb_rulebook.specs.AtomRules.{has_its_parts, with_regex}
 use Rattle.sb_rulebook.specs.Brought.{is_brought}
-use Rattle.sb_rulebook.specs.ClauseRules.{is_decided}
+use Rattle.sb_script.specs.Fragment.{is_decided}
 use Rattle.sb_rulebook.specs.Gates.{is_gate}
 use Rattle.sb_rulebook.specs.Kept.{AllKept, Asked}
 use Rattle.sb_rulebook.specs.Lines.{atom_line}

@@ -3,7 +3,7 @@ use Rattle.std.specs.Prelude.{ℕ, Bool, true, false, not, ◌&&◌, if◌then�
 use Rattle.sb_lit.specs.declared.clause.Lit.{Lit}
 use Rattle.sb_lit.specs.Clauses.{is_same_literal, are_ascending}
 use Rattle.sb_meaning.specs.Terms.{Term}
-use Rattle.sb_script.specs.Fragment.{is_inside, fits}
+use Rattle.sb_script.specs.Fragment.{is_decided}
 use Rattle.sb_script.specs.State as state
 pub use Rattle.sb_rulebook.specs.Refusals.{Refusal, unknown_id, repeated, hint_idle, rule_broken}
 use Rattle.sb_rulebook.specs.Atoms.{Atom}
@@ -45,11 +45,6 @@ follows_rule asked kept rule clause =
     else if not (are_ascending clause && holds_by kept rule clause) then Err rule_broken
     else if is_counted rule then counting asked (with_clause kept clause 0 [])
     else Ok (with_clause kept clause 0 [])
-
--- The assertion is decided, as far as it alone says: it is of what is brought, and within the limits on sizes.
-abbrev pub is_decided : state.Assertion → Bool
-is_decided (state.asserted t) = is_inside (state.asserted t) && fits t
-is_decided state.a_mark = false
 
 abbrev pub is_this : Lit → Option Lit → Bool
 is_this l None = false

@@ -9,12 +9,12 @@ use Rattle.sb_lang.specs.Regex.{Regex}
 use Rattle.sb_lit.specs.declared.clause.Lit.{Lit}
 use Rattle.sb_meaning.specs.Terms.{Term}
 use Rattle.sb_script.specs.Brought.{is_structure}
-use Rattle.sb_script.specs.Fragment.{fits}
+use Rattle.sb_script.specs.Fragment.{fits, is_decided}
 use Rattle.sb_script.specs.State as state
 use Rattle.sb_rulebook.specs.Refusals.{Refusal, unknown_id, rule_broken}
 use Rattle.sb_rulebook.specs.Atoms.{Atom, AtomOver}
 use Rattle.sb_rulebook.specs.AtomRules.{is_known}
-use Rattle.sb_rulebook.specs.ClauseRules.{is_this, is_decided, is_translation, asserted}
+use Rattle.sb_rulebook.specs.ClauseRules.{is_this, is_translation, asserted}
 use Rattle.sb_rulebook.specs.Kept.{AllKept, Asked, with_clause}
 use Rattle.sb_rulebook.specs.Lines.{assertion_line}
 use Rattle.sb_rulebook.specs.Follows.{follows}
@@ -82,8 +82,8 @@ by_unknown asked k others place l ts live a e h unknown =
     (ap (nat_lt l.atom) (length-map k.atoms (over k.arena)) ∙ unknown)
 
 -- an assertion that is not decided has no literal
-pub undecided : (atoms : List Atom) (t : Term) (l : Lit) (fit : Bool) → fit ≡ is_decided (state.asserted t) → fit ≡ false
-    → false ≡ is_translation atoms (Some t) l
+pub undecided : (atoms : List Atom) (t : Term) (l : Lit) (fit : Bool) → fit ≡ is_decided (state.asserted t)
+    → fit ≡ false → false ≡ is_translation atoms (Some t) l
 undecided atoms t l fit is none = ap (λ b. b && is_this l (translation atoms t)) (sym none ∙ is)
 
 -- and the one that is decided has the literal that is looked for

@@ -135,6 +135,11 @@ is_inside a_mark = false
 abbrev pub are_inside : List Assertion → Bool
 are_inside assertions = list_all is_inside assertions
 
+-- The assertion is decided, as far as it alone says: it is of what is brought, and within the limits on sizes.
+abbrev pub is_decided : Assertion → Bool
+is_decided (asserted term) = is_inside (asserted term) && fits term
+is_decided a_mark = false
+
 -- The check is decided. The limits on sizes count once proofs are written; what is brought keeps all other rules.
 abbrev pub in_fragment : State → Bool
 in_fragment s = (not (is_brought proofs) || are_in_fragment (live s)) && are_inside (live s)

@@ -26,7 +26,7 @@ pub use Rattle.sb_deriv.specs.Faithful.{Memo}
 pub use Rattle.sb_store.specs.Stores.{Grows, IsStore, IsStoreOf, RegexesGrow}
 pub use Rattle.sb_store.specs.declared.store.Store.{Store}
 pub use Rattle.sb_search.specs.Following.{AreRefuted, FollowsByLevel}
-pub use Rattle.sb_fragment.specs.Rules.{is_decided}
+pub use Rattle.sb_script.specs.Fragment.{is_decided}
 pub use Rattle.sb_atoms.specs.Numbered.{AreDistinct, HaveRegexesBelow, Names, atom_in, atoms_in}
 pub use Rattle.sb_stack.specs.Stacked.{Stacked, are_words, have_levels, live_constants, state_of, values_at}
 pub use Rattle.sb_trace.specs.Putting.{CountsTapeFault, IsCounted}

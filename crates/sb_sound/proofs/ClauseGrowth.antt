@@ -16,7 +16,8 @@ use Rattle.sb_rulebook.specs.AtomRules.{is_known, are_known}
 use Rattle.sb_rulebook.specs.Translation.{translation}
 use Rattle.sb_rulebook.specs.Lines.{Rule, gate, order, linear, step, empty}
 use Rattle.sb_rulebook.specs.Kept.{AllKept, Asked, counting, with_clause, rests_of_any}
-use Rattle.sb_rulebook.specs.ClauseRules.{holds_by, is_counted, follows_rule, is_this, is_decided, is_translation, asserted, follows_assertion, refusal_of, follows_learned}
+use Rattle.sb_script.specs.Fragment.{is_decided}
+use Rattle.sb_rulebook.specs.ClauseRules.{holds_by, is_counted, follows_rule, is_this, is_translation, asserted, follows_assertion, refusal_of, follows_learned}
 use Rattle.sb_sound.specs.Tables.{HasWords}
 use Rattle.sb_sound.specs.TermLaws.{HasSorts}
 use Rattle.sb_sound.specs.GateLaws.{GatesHold}

@@ -7,7 +7,8 @@ use Rattle.sb_rulebook.specs.Atoms.{Atom}
 use Rattle.sb_rulebook.specs.Translation.{translation}
 use Rattle.sb_rulebook.specs.Lines.{Rule, gate, order, linear, step, empty}
 use Rattle.sb_rulebook.specs.Kept.{AllKept, Asked, most_counted, with_clause, rests_of_any}
-use Rattle.sb_rulebook.specs.ClauseRules.{is_counted, is_decided, follows_rule, follows_assertion, follows_learned}
+use Rattle.sb_script.specs.Fragment.{is_decided}
+use Rattle.sb_rulebook.specs.ClauseRules.{is_counted, follows_rule, follows_assertion, follows_learned}
 use Rattle.sb_sound.specs.GateLaws.{IsGate}
 use Rattle.sb_sound.specs.BoundLaws.{IsOrder}
 use Rattle.sb_sound.specs.LinearLaws.{IsLinear}

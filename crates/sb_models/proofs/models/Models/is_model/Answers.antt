@@ -1,7 +1,7 @@
 use Rattle.std.proofs.Common.{arith, length, map, sym, ap, ◌∙◌}
 use Rattle.std.proofs.lemmas.List.{length-map}
 use Rattle.std.specs.List.{list_all}
-use Rattle.sb_fragment.specs.Rules.{is_decided}
+use Rattle.sb_script.specs.Fragment.{is_decided}
 use Rattle.sb_proof.specs.Lines.{value_in}
 use Rattle.sb_stack.specs.Stacked.{state_of, live_in}
 use Rattle.sb_models.specs.Tried.{are_kinds}
