@@ -1,6 +1,6 @@
 -- Stores that grow, and which part of one.
-use Rattle.std.specs.Prelude.{◌≡◌, List}
-use Rattle.std.proofs.Common.{refl, sym, subst, ◌∙◌}
+use Rattle.std.specs.Prelude.{List}
+use Rattle.std.proofs.Common.{refl, ◌∙◌}
 use Rattle.sb_lang.specs.Regex.{Regex}
 use Rattle.sb_meaning.specs.Terms.{Term}
 use Rattle.sb_term.specs.Numbered as table
