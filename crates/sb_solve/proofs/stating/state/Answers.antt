@@ -22,8 +22,8 @@ unreachable-requires g c =
     c.requires.sorted is.stands
     (subst (λ (ts : List Term). HasNoLiteral (term_at ts id)) c.table.ensures (c.in_ok-found.ensures.none c.in-None.is))
 
-pub returns-in-Some : goal.returns-in-Some
-returns-in-Some g c =
+pub returns : goal.returns-in-Some
+returns g c =
     let s = c.args.stack.now in
     let asked = asked_in (state_of s) in
     let is = c.assertion_at-stated.ensures in
