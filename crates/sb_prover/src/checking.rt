@@ -22,6 +22,7 @@ ghost use Rattle.sb_sound.specs.SoundLaws.{AreTerms};
 ghost use Rattle.sb_sound.specs.ScriptLaws.{IsFit};
 ghost use Rattle.sb_decide.specs.Knowing.{Knows};
 ghost use Rattle.sb_decide.specs.Ready.{IsDecided};
+ghost use Rattle.sb_solve.specs.Declared.{are_declared};
 ghost use Rattle.sb_solve.specs.Truth.{IsTrue};
 ghost use Rattle.sb_prover.specs.Proving.{IsAbreast, IsProved, HasSpent, HaveLevels};
 ghost use Rattle.sb_prover.specs.Checking.{IsAsked, AreAsked, Finds, AreTruthsOf, IsReadyThen, IsCompleted, IsSolution, SaysTrue, verdict_of, said_by, IsNumbered};
@@ -85,6 +86,7 @@ impl Prover {
         requires fit { IsFit (state_of stack.old) }
         requires sorted { list_all is_well_sorted (live_terms (state_of stack.old)) ≡ true }
         requires regexes { HaveRegexesBelow (length decider.old.store.arena) self.old.evidence.atoms }
+        requires declared { are_declared (state_of stack.old).sorts self.old.evidence.atoms ≡ true }
         requires sound { IsTrue (asked_in (state_of stack.old)) decider.old.store.arena decider.old.store.graph.memo
             self.old.evidence }
         ensures proves { IfOk result (λ v. proves ≡ true → (before : Progress)
@@ -95,6 +97,7 @@ impl Prover {
             (λ v. IsVerdict (state_of stack.old) [] (verdict_in (live_constants stack.old) v)) }
         ensures spent { IfOk result (λ v. HasSpent budget.new v) }
         ensures regexes { OnOk result (HaveRegexesBelow (length decider.new.store.arena) self.new.evidence.atoms) }
+        ensures declared { OnOk result (are_declared (state_of stack.old).sorts self.new.evidence.atoms ≡ true) }
         ensures knows { IfOk result (λ v. Knows decider.new (found v stack.new)) }
         ensures store { OnOk result (KnowsMore decider.old.store decider.new.store) }
         ensures rest { without_words stack.new ≡ without_words stack.old }
@@ -133,6 +136,7 @@ impl Prover {
         requires terms { AreTerms (asked_in (state_of stack.old)) }
         requires sorted { list_all is_well_sorted (live_terms (state_of stack.old)) ≡ true }
         requires regexes { HaveRegexesBelow (length decider.old.store.arena) self.old.evidence.atoms }
+        requires declared { are_declared (state_of stack.old).sorts self.old.evidence.atoms ≡ true }
         requires sound { IsTrue (asked_in (state_of stack.old)) decider.old.store.arena decider.old.store.graph.memo
             self.old.evidence }
         ensures means { IfOk result (SaysTrue stack.old self.new.evidence) }
@@ -147,6 +151,7 @@ impl Prover {
         ensures sound { OnOk result (IsTrue (asked_in (state_of stack.old)) decider.new.store.arena
             decider.new.store.graph.memo self.new.evidence) }
         ensures regexes { OnOk result (HaveRegexesBelow (length decider.new.store.arena) self.new.evidence.atoms) }
+        ensures declared { OnOk result (are_declared (state_of stack.old).sorts self.new.evidence.atoms ≡ true) }
         ensures begun { self.new.begun ≡ self.old.begun }
         ensures levels { OnOk result (HaveLevels (asked_in (state_of stack.old)).live self.old.evidence
             → HaveLevels (asked_in (state_of stack.old)).live self.new.evidence) }
@@ -196,6 +201,7 @@ fn searched<L: Tape>(
     requires terms { AreTerms (asked_in (state_of stack.now)) }
     requires sorted { list_all is_well_sorted (live_terms (state_of stack.now)) ≡ true }
     requires regexes { HaveRegexesBelow (length decider.old.store.arena) evidence.old.atoms }
+    requires declared { are_declared (state_of stack.now).sorts evidence.old.atoms ≡ true }
     requires sound { IsTrue (asked_in (state_of stack.now)) decider.old.store.arena decider.old.store.graph.memo
         evidence.old }
     ensures puts { OnOk result (proves ≡ true → (before : AllKept)
@@ -211,6 +217,7 @@ fn searched<L: Tape>(
     ensures knows { OnOk result (Knows decider.new stack.now) }
     ensures store { OnOk result (KnowsMore decider.old.store decider.new.store) }
     ensures regexes { OnOk result (HaveRegexesBelow (length decider.new.store.arena) evidence.new.atoms) }
+    ensures declared { OnOk result (are_declared (state_of stack.now).sorts evidence.new.atoms ≡ true) }
     ensures levels { OnOk result (HaveLevels (asked_in (state_of stack.now)).live evidence.old
         → HaveLevels (asked_in (state_of stack.now)).live evidence.new) }
     ensures counts { CountsTapeFault result (L.Tape.faults tape.old) (L.Tape.faults tape.new) }

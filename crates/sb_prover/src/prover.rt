@@ -2,13 +2,14 @@
 
 ghost use Rattle.std.specs.Prelude.{◌≡◌, ℕ, List, take, true, Option, IfSome, OnOk};
 ghost use Rattle.sb_rulebook.specs.Judging.{Progress, beginning, met};
-ghost use Rattle.sb_meaning.specs.Terms.{Term};
+ghost use Rattle.sb_meaning.specs.Terms.{Sort, Term};
 ghost use Rattle.sb_rulebook.specs.Kept.{Asked};
 ghost use Rattle.sb_sound.specs.Certified.{last_lines};
 ghost use Rattle.sb_proof.specs.Tapes.{with_bytes};
 ghost use Rattle.sb_trace.specs.Putting.{CountsTapeFault};
 ghost use Rattle.sb_atoms.specs.Numbered.{HaveRegexesBelow};
 ghost use Rattle.sb_prover.specs.Proving.{IsAbreast, HaveLevels, AreLow, leaving, GoesDown, AbreastStays, TrueGoesOn, TrueGrown, RegexesStayBelow, LevelsStay, EntriesMoveLive, EntriesStayFit};
+ghost use Rattle.sb_solve.specs.Declared.{are_declared};
 ghost use Rattle.sb_solve.specs.Truth.{IsTrue};
 ghost use Rattle.sb_store.specs.declared.store.Store.{Store};
 ghost use Rattle.sb_prover.specs.Saying.{first_lines, Tells};
@@ -47,6 +48,7 @@ impl Prover {
     pub fn new(alloc: Global) -> Prover
         ensures abreast { (store : Store) → IsAbreast store result beginning }
         ensures regexes { (n : ℕ) → HaveRegexesBelow n result.evidence.atoms }
+        ensures declared { (sorts : List Sort) → are_declared sorts result.evidence.atoms ≡ true }
         ensures levels { (live : List (Option Term × ℕ)) → HaveLevels live result.evidence }
         ensures sound { (asked : Asked) (store : Store) → IsTrue asked store.arena store.graph.memo result.evidence }
     {

@@ -9,7 +9,7 @@ ghost use Rattle.sb_term.specs.Numbered.{term_at};
 ghost use Rattle.sb_store.specs.Stores.{Grows, IsStoreOf};
 ghost use Rattle.sb_rulebook.specs.Kept.{AllKept, Asked, nothing_kept, dropped_above, all_dropped};
 ghost use Rattle.sb_atoms.specs.Numbered.{atoms_in, HaveRegexesBelow, Extends};
-ghost use Rattle.sb_atoms.specs.Translated.{brought_translation, HasNoLiteral};
+ghost use Rattle.sb_atoms.specs.Translated.{brought_translation, AreDefined, HasNoLiteral};
 ghost use Rattle.sb_trace.specs.Putting.{CountsTapeFault};
 ghost use Rattle.sb_trace.specs.Tracking.{OnlyNumbers};
 ghost use Rattle.sb_refute.specs.Backing.{backing_of, IsLowestEmpty, HasGates, Backs, EvidencesUncounted, IsStatement, KeepsAsserted, AreUpTo, asserted_at, empty_at, left_above, refuted_up_to, left_all};
@@ -231,6 +231,7 @@ impl Evidence {
             → asserted_at self.new.asserted other ≡ asserted_at self.old.asserted other) }
         ensures only { OnlyNumbers self.old.trace self.new.trace }
         ensures extends { Extends self.old.atoms self.new.atoms }
+        ensures defined { AreDefined self.old.atoms self.new.atoms (term_at table.now term) }
         ensures regexes { HaveRegexesBelow (length store.new.arena) self.new.atoms }
         ensures store { Grows table.now store.old store.new }
         ensures graph { store.new.graph ≡ store.old.graph }

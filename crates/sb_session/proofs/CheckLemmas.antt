@@ -1,5 +1,5 @@
 -- A check is answered with its proof, or without one.
-use Rattle.sb_session.proofs.Words.{◌≡◌, ◌⊎◌, ℕ, ◌<◌, Bool, true, false, if◌then◌else◌, List, [], ◌∷◌, map, length, take, drop, codes, Option, Some, None, is_some, Result, Ok, Err, IfOk, IfSome, refl, sym, ap, ◌∙◌, subst, inl, inr, AbreastStays, AnswersCheck, CutCheck, CutOf, CutProof, FindsUnproved, Grows, HasLevels, HasRegexes, HasTrue, Holds, IsAbreast, IsFit, IsKnown, IsProved, IsTracked, IsVerdict, Outside, Progress, ProvesCheck, Proving, SessionState, Sort, Stacked, State, Stop, Store, Term, Verdict, WorldError, end_writes, false≢true, found, is_outside, is_proved, is_sorted_state, is_sat, is_unknown, is_unsat, last_lines, live_constants, moved_by, moved_by-nothing, plain, proof_of, question_in, session_of, settled, state_of, stop_of, verdict_in, verdict_text, without_words, write_at, writing_all, Decider, Knows, newest_format, text_of, header_line, end_line, bytes_of, with_bytes}
+use Rattle.sb_session.proofs.Words.{◌≡◌, ◌⊎◌, ℕ, ◌<◌, Bool, true, false, if◌then◌else◌, List, [], ◌∷◌, map, length, take, drop, codes, Option, Some, None, is_some, Result, Ok, Err, IfOk, IfSome, refl, sym, ap, ◌∙◌, subst, inl, inr, AbreastStays, AnswersCheck, CutCheck, CutOf, CutProof, FindsUnproved, Grows, HasDeclared, HasLevels, HasRegexes, HasTrue, Holds, IsAbreast, IsFit, IsKnown, IsProved, IsTracked, IsVerdict, Outside, Progress, ProvesCheck, Proving, SessionState, Sort, Stacked, State, Stop, Store, Term, Verdict, WorldError, end_writes, false≢true, found, is_outside, is_proved, is_sorted_state, is_sat, is_unknown, is_unsat, last_lines, live_constants, moved_by, moved_by-nothing, plain, proof_of, question_in, session_of, settled, state_of, stop_of, verdict_in, verdict_text, without_words, write_at, writing_all, Decider, Knows, newest_format, text_of, header_line, end_line, bytes_of, with_bytes}
 use Rattle.sb_world.specs.declared.OutPort.TheVariants as out_port
 use Rattle.sb_world.specs.declared.WorldError.TheVariants as world_error
 use Rattle.sb_stack.specs.declared.verdict.Verdict as code
@@ -231,14 +231,16 @@ text_of_rest v old new e = ap (λ (s : Stacked). verdict_text (verdict_in (live_
 pub held_found : (v : code.Verdict) (old new : Stacked) (kept : Decider) (proving : Proving)
     → without_words new ≡ without_words old → Knows kept (found v new) → HasRegexes kept.store proving
     → HasLevels (state_of old) proving → IsFit (state_of old) → is_sorted_state (state_of old) ≡ true
-    → HasTrue (state_of old) kept.store proving → Holds (found v new) kept proving
-held_found v old new kept proving rest knows regexes levels fit sorted sound = record {
+    → HasTrue (state_of old) kept.store proving → HasDeclared (state_of old) proving
+    → Holds (found v new) kept proving
+held_found v old new kept proving rest knows regexes levels fit sorted sound declared = record {
   knows = knows;
   regexes = regexes;
   levels = subst (λ (t : State). HasLevels t proving) same levels;
   fit = subst (λ (t : State). IsFit t) same fit;
   sorted = subst (λ (t : State). is_sorted_state t ≡ true) same sorted;
   sound = subst (λ (t : State). HasTrue t kept.store proving) same sound;
+  declared = subst (λ (t : State). HasDeclared t proving) same declared;
 }
   where
     of : (v : code.Verdict) → record (state_of new) { mode = plain } ≡ record (state_of (found v new)) { mode = plain }

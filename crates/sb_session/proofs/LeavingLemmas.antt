@@ -1,5 +1,6 @@
 -- Where levels are left, what is known of the proof goes along.
-use Rattle.sb_session.proofs.Words.{Entry, EntriesKeepSorts, IsStep, Step, is_sorted_behind, is_sorted_state, step_of, ◌≡◌, ◌≤◌, ℕ, Bool, true, false, List, [], ◌∷◌, ◌++◌, length, take, Option, Some, None, is_some, IfSome, refl, sym, ap, ◌∙◌, subst, AreLow, GoesDown, HasLevels, HasRegexes, HasTrue, HaveLevels, Holds, IsAbreast, IsFit, IsTracked, LeavesProof, LevelsStay, Phase, Progress, Proving, SessionState, Stacked, State, Store, Term, asked_in, assertion_in, at_check, at_end, at_rest, behind, behind_end, is_proved, leaving, length-map, live, met, progress_by, proof_of, state_of, stopped, HaveRegexesBelow, Continues, KnowsStays, Decider, TrueGoesOn, IsLonger, live_laid}
+use Rattle.sb_session.proofs.Words.{AtomOver, is_sorted, Entry, EntriesKeepSorts, IsStep, Step, is_sorted_behind, is_sorted_state, step_of, ◌≡◌, ◌≤◌, ℕ, Bool, true, false, List, [], ◌∷◌, ◌++◌, length, take, Option, Some, None, is_some, IfSome, refl, sym, ap, ◌∙◌, subst, AreLow, GoesDown, HasLevels, HasRegexes, HasTrue, HaveLevels, Holds, IsAbreast, IsFit, IsTracked, LeavesProof, LevelsStay, Phase, Progress, Proving, SessionState, Stacked, State, Store, Term, asked_in, assertion_in, at_check, at_end, at_rest, behind, behind_end, is_proved, leaving, length-map, live, met, progress_by, proof_of, state_of, stopped, HaveRegexesBelow, Continues, KnowsStays, Decider, TrueGoesOn, IsLonger, live_laid}
+use Rattle.sb_session.proofs.DeclaredLemmas.{declared_left}
 use Rattle.sb_script.specs.Steps as meaning
 use Rattle.sb_term.specs.Numbered as table
 use Rattle.sb_stack.specs.declared.stack.Step.TheVariants as code
@@ -28,14 +29,17 @@ pub held_on : KnowsStays → LevelsStay → TrueGoesOn → (old new : Stacked) (
     → length old.scope.sorts ≤ length new.scope.sorts
     → (more : List (Option Term × ℕ)) × ((asked_in (state_of new)).live ≡ (asked_in (state_of old)).live ++ more)
     → IsFit (state_of new) × Continues (asked_in (state_of old)) (asked_in (state_of new))
-    → is_sorted_state (state_of new) ≡ true → Holds old kept proving → Holds new kept proving
-held_on knows levels on old new kept proving terms longer words sorts grows fits sorted h = record {
+    → is_sorted_state (state_of new) ≡ true
+    → ((a : AtomOver ℕ) → is_sorted (state_of old).sorts a ≡ true → is_sorted (state_of new).sorts a ≡ true)
+    → Holds old kept proving → Holds new kept proving
+held_on knows levels on old new kept proving terms longer words sorts grows fits sorted stay h = record {
   knows = knows kept old new terms longer words sorts h.knows;
   regexes = h.regexes;
   levels = subst (λ (live : List (Option Term × ℕ)). HaveLevels live proving.evidence) (sym grows.1)
       (levels (asked_in (state_of old)).live grows.0 proving.evidence h.levels);
   fit = fits.0;
   sorted = sorted;
+  declared = declared_left (state_of old) (state_of new) proving proving stay refl h.declared;
   sound = on (asked_in (state_of old)) (asked_in (state_of new)) kept.store proving.evidence fits.1 h.sound;
 }
 

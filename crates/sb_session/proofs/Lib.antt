@@ -6,6 +6,7 @@ pub mod LeavingLemmas
 pub mod ReadingLemmas
 pub mod TurnLemmas
 pub mod PieceLemmas
+mod DeclaredLemmas
 pub mod EndLemmas
 pub mod ScriptLemmas
 pub mod SolveLemmas

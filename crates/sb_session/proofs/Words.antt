@@ -37,6 +37,8 @@ pub use Rattle.sb_sound.specs.ScriptLaws.{IsFit}
 pub use Rattle.sb_sound.specs.SoundLaws.{Continues}
 pub use Rattle.sb_proof.specs.Tapes.{with_bytes}
 pub use Rattle.sb_term.specs.declared.assertion.Assertion.{Assertion}
+pub use Rattle.sb_rulebook.specs.Atoms.{AtomOver}
+pub use Rattle.sb_solve.specs.Declared.{is_sorted}
 pub use Rattle.sb_atoms.specs.Numbered.{HaveRegexesBelow}
 pub use Rattle.sb_stack.proofs.CallerLemmas.{live_laid}
 pub use Rattle.sb_stack.specs.Stacked.{IsLonger, Stacked, assertion_in, live_constants, state_of, without_words}
@@ -49,7 +51,7 @@ pub use Rattle.sb_decide.specs.Laws.{KnowsStays, LeavesKnown}
 pub use Rattle.sb_decide.specs.declared.decide.Decider.{Decider}
 pub use Rattle.sb_prover.specs.Proving.{AbreastStays, AreLow, GoesDown, HasSpent, HaveLevels, IsAbreast, IsProved, LevelsStay, Proving, TrueGoesOn, leaving}
 pub use Rattle.sb_session.specs.Certifying.{IsCertified}
-pub use Rattle.sb_session.specs.Checking.{AnswersCheck, CutCheck, CutProof, Finds, HasLevels, HasRegexes, HasTrue, Holds, IsKnown, LeavesProof, ProvesCheck, progress_by, session_of}
+pub use Rattle.sb_session.specs.Checking.{AnswersCheck, CutCheck, CutProof, Finds, HasDeclared, HasLevels, HasRegexes, HasTrue, Holds, IsKnown, LeavesProof, ProvesCheck, progress_by, session_of}
 pub use Rattle.sb_session.specs.Commanding.{Answering, Answers, AnswersEntry, CountsStop, CutOf, CutOrNot, CutReply, Fails, Goes, IsTracked, SessionState, Stage, fault_of, is_proved, proof_of, stop_of, went_of, with_lines}
 pub use Rattle.sb_session.specs.Pausing.{NoneLeft, Pauses, is_clean}
 pub use Rattle.sb_session.specs.Progress.{Sofar, status_by}

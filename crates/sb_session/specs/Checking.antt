@@ -19,6 +19,7 @@ use Rattle.sb_sound.specs.ScriptLaws.{IsFit}
 use Rattle.sb_decide.specs.declared.decide.Decider.{Decider}
 use Rattle.sb_decide.specs.Knowing.{Knows}
 use Rattle.sb_atoms.specs.Numbered.{HaveRegexesBelow}
+use Rattle.sb_solve.specs.Declared.{are_declared}
 use Rattle.sb_solve.specs.Truth.{IsTrue}
 use Rattle.sb_store.specs.declared.store.Store.{Store}
 use Rattle.sb_session.specs.Commanding.{SessionState, is_proved, IsTracked, with_lines, CutOf}
@@ -39,6 +40,10 @@ HasLevels s proving = HaveLevels (asked_in s).live proving.evidence
 abbrev pub HasTrue : State → Store → Proving → Type 0
 HasTrue s store proving = IsTrue (asked_in s) store.arena store.graph.memo proving.evidence
 
+-- the atoms of the evidence speak of constants that were declared
+abbrev pub HasDeclared : State → Proving → Type 0
+HasDeclared s proving = are_declared s.sorts proving.evidence.atoms ≡ true
+
 -- What is known while a session goes on: of the live assertions, that they fit and are well sorted, and of the
 -- evidence.
 pub record Holds (stack : Stacked) (decider : Decider) (proving : Proving) : Type 0 where
@@ -48,6 +53,7 @@ pub record Holds (stack : Stacked) (decider : Decider) (proving : Proving) : Typ
   pub fit : IsFit (state_of stack)
   pub sorted : is_sorted_state (state_of stack) ≡ true
   pub sound : HasTrue (state_of stack) decider.store proving
+  pub declared : HasDeclared (state_of stack) proving
 
 -- Where levels are left and so many assertions stay, what the prover knows goes along.
 pub record LeavesProof (level : Option ℕ) (count : ℕ) (old new : Proving) : Type 0 where

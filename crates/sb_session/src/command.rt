@@ -287,6 +287,7 @@ fn answer_entry<W: World>(
     levels_stay();
     entries_move_live();
     entries_stay_fit();
+    entries_lead_on();
     entries_keep_sorts();
     true_stays();
     match stack.apply(entry)? {

@@ -1,5 +1,5 @@
 -- What a search leaves, and what comes of it.
-use Rattle.sb_solve.proofs.Words.{◌≡◌, ◌≤◌, ℕ, Bool, true, List, [], ◌∷◌, length, take, Option, Some, None, refl, sym, ap, subst, ◌∙◌, take-append_seam, Asserted, false≢true, Global, Vec, Lit, Spending, Kept, KeptClause, kept_at, Regex, has_room_for, AtomOver, Stacked, Store, AreDistinct, Backing, IsLowestEmpty, unit_at, Stand, each-reserved, kept-stays, room-for-each, stand-traced, FollowsByLevel, GrowsTo, HaveAtoms, IsValid, IsTaught, AreWanted, AreAmong, AreTaken, Answers, HasCore, IsDone, IsNumbered, IsSearched, Runs, backing_in, Solved, State, IsKeptCore, are_negated, Traced, EmptyClause, written, Strings, Tables, Choices}
+use Rattle.sb_solve.proofs.Words.{◌≡◌, ◌≤◌, ℕ, Bool, true, List, [], ◌∷◌, length, take, Option, Some, None, refl, sym, ap, subst, ◌∙◌, take-append_seam, Asserted, false≢true, Global, Vec, Lit, Spending, Kept, KeptClause, kept_at, Regex, has_room_for, AtomOver, Stacked, Store, AreDistinct, Backing, IsLowestEmpty, unit_at, Stand, each-reserved, kept-stays, room-for-each, stand-traced, FollowsByLevel, GrowsTo, HaveAtoms, IsValid, IsTaught, AreWanted, AreAmong, AreTaken, Answers, HasCore, IsDone, IsNumbered, IsSearched, Runs, backing_in, Solved, State, IsKeptCore, are_negated, Traced, EmptyClause, written, Written, Strings, Tables, Choices}
 use Rattle.sb_theory.specs.Strings as theory
 use Rattle.sb_solve.specs.declared.check.Solved.TheVariants as solved
 
@@ -11,6 +11,9 @@ kept_grown old new id clause g h =
     subst (λ (kept : Kept). kept_at kept id ≡ Some clause) (sym g.1) (kept-stays old g.0 id clause h)
 
 -- The search.
+
+pub atoms_stay : (x y : Strings) (before after : Written) → theory.Writes x y before after → y.atoms ≡ x.atoms
+atoms_stay x y before after writes = writes.atoms
 
 searched_over : (b : Tables) (y : Strings) (z : State) (before after : Spending) (old new : Option (List ℕ))
     (refuted : Option EmptyClause) → has_room_for (length b.strings.atoms) b.engine.kept ≡ true

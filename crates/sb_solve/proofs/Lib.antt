@@ -1,5 +1,6 @@
 mod Words
 pub mod Gathered
+mod Declaring
 pub mod Deciding
 pub mod Entailing
 pub mod LiveRows

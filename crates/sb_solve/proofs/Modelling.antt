@@ -1,11 +1,11 @@
 -- The values of the end of a search make the assertions true that it is about.
-use Rattle.sb_solve.proofs.Words.{◌≡◌, ℕ, zero, suc, ◌+◌, ◌<◌, Bool, true, false, if◌then◌else◌, List, [], ◌∷◌, map, length, get_or, slice_get, Option, Some, None, refl, sym, ap, ap₂, subst, ◌∙◌, arith, list_all, false≢true, and_parts, or_left, or_right, eq-eqb, same_Some, Lit, Kept, Regex, Assigned, Sort, boolean, integer, text, reglan, Term, Terms, constant, word, numeral, apply, parameter, no_terms, with_term, is_same_sort, Value, Valuation, Text, Int, Truth, is_of, default_of, value_in, holds, constant_piece, Assertion, asserted, a_mark, live, Atom, AtomOver, bool_atom, in_atom, HasSorts, TranslationHolds, is_declared, is_one_of, speaks_of, speak_of, Stacked, state_of, live_constants, value_at, values_at, value_there, same_sort, atoms_in, is_in, atoms_of, truth_by, truth_in, word_in, word_or_empty, word_there, is_word_there, are_words_there, AreLiterals, IsAnswered, IsLiteral, term_onto, terms_at, is_sorted, is_sorted_there, is_sorted_at, HasLive, AreTrueAt, ne_eqb, are_characters, is_brought_sort, occurs, occurs_in_some, sort_in, list_all-map}
+use Rattle.sb_solve.proofs.Words.{◌≡◌, ℕ, zero, suc, ◌+◌, ◌<◌, Bool, true, false, if◌then◌else◌, List, [], ◌∷◌, map, length, get_or, slice_get, Option, Some, None, refl, sym, ap, ap₂, subst, ◌∙◌, arith, list_all, false≢true, and_parts, or_left, or_right, eq-eqb, same_Some, Lit, Kept, Regex, Assigned, Sort, boolean, integer, text, reglan, Term, Terms, constant, word, numeral, apply, parameter, no_terms, with_term, is_same_sort, Value, Valuation, Text, Int, Truth, is_of, default_of, value_in, holds, constant_piece, Assertion, asserted, a_mark, live, Atom, AtomOver, bool_atom, in_atom, HasSorts, TranslationHolds, is_declared, is_one_of, speaks_of, speak_of, Stacked, state_of, live_constants, value_at, values_at, value_there, same_sort, atoms_in, is_in, atoms_of, truth_by, truth_in, word_in, word_or_empty, word_there, is_word_there, are_words_there, AreLiterals, IsAnswered, IsLiteral, term_onto, terms_at, are_declared, is_sorted, HasLive, AreTrueAt, ne_eqb, are_characters, is_brought_sort, occurs, occurs_in_some, sort_in, list_all-map}
 use Rattle.std.specs.List.{Contains}
 use Rattle.sb_meaning.specs.Truth as meaning
 use Rattle.sb_term.specs.declared.sort.Sort as code_sort
 use Rattle.sb_solve.specs.Decided as deciding
 use Rattle.sb_solve.proofs.Gathered.{all_at}
-use Rattle.sb_solve.proofs.Deciding.{all_in, term_right}
+use Rattle.sb_solve.proofs.Deciding.{term_right}
 use Rattle.sb_solve.proofs.LiveRows.{live_fits, sorted_there, term_passes}
 
 -- Valuations that agree on the constants that occur in a term give it the same meaning.
@@ -141,7 +141,7 @@ module _ (atoms : List Atom) (kept : Kept) (wanted : List ℕ) (xs : List Assert
 module _ (rs : List Regex) (atoms : List (AtomOver ℕ)) (wanted : List ℕ) (literals : List Lit) (kept : Kept)
     (entries : List Assigned) (theory : List (Option (List ℕ))) (places : List ℕ) (s : Stacked) (h : HasLive s)
     (a : IsAnswered rs atoms wanted literals kept entries theory places (state_of s))
-    (declared : list_all (is_sorted_at (map sort_in s.scope.sorts) atoms) wanted ≡ true)
+    (declared : are_declared (map sort_in s.scope.sorts) atoms ≡ true)
     (characters : are_words_there theory ≡ true) (truths : List Bool)
     (said : (n : ℕ) → truth_in truths n ≡ truth_by atoms entries wanted n)
   where
@@ -160,8 +160,7 @@ module _ (rs : List Regex) (atoms : List (AtomOver ℕ)) (wanted : List ℕ) (li
 
     atom_sorted : (i : ℕ) (x : AtomOver ℕ) → is_in wanted i ≡ true → slice_get atoms i ≡ Some x
         → is_sorted Sorts x ≡ true
-    atom_sorted i x there at =
-        sym (ap (is_sorted_there Sorts) at) ∙ all_in (is_sorted_at Sorts atoms) wanted i declared there
+    atom_sorted i x there at = all_at (is_sorted Sorts) atoms i x declared at
 
     abbrev text_of : Value → List ℕ
     text_of x = elim x [ Text w ↦ w | Int n ↦ [] | Truth b ↦ [] ]

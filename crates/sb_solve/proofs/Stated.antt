@@ -11,6 +11,7 @@ stated_none s x e told below = record {
   puts = leads-none (asked_in (state_of s)) x.arena x.graph.memo e told;
   store = grows_same s.table x;
   regexes = below;
+  declared = λ before. before;
   levels = λ place a h. inl h;
   gates = λ some. absurd (omega (arith, some));
   all = tt;
@@ -103,6 +104,7 @@ stated_more stays s places x y z e f g old told new ls place l h one = record {
       (h.puts before b) one.puts;
   store = grows_both s.table x y z h.store one.store;
   regexes = one.regexes;
+  declared = λ before. one.declared (h.declared before);
   levels = levels_both (asked_in (state_of s)).live place e.asserted f.asserted g.asserted h.levels one.others
       one.level;
   gates = λ some. one.gates;

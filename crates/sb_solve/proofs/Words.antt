@@ -30,7 +30,7 @@ pub use Rattle.sb_script.specs.Scopes.{Naming}
 pub use Rattle.sb_script.specs.State.{live_terms, terms_in}
 pub use Rattle.sb_script.specs.WellSorted.{is_well_sorted}
 pub use Rattle.sb_rulebook.specs.Accepted.{at_level, live_by_level, term_of}
-pub use Rattle.sb_rulebook.specs.AtomRules.{are_known}
+pub use Rattle.sb_rulebook.specs.AtomRules.{are_known, has_its_parts}
 pub use Rattle.sb_rulebook.specs.Atoms.{le_atom, sum_atom}
 pub use Rattle.sb_rulebook.specs.Follows.{follows}
 pub use Rattle.sb_rulebook.specs.Gates.{gate}
@@ -51,13 +51,13 @@ pub use Rattle.sb_store.proofs.CallerLemmas.{grows_both, grows_same}
 pub use Rattle.sb_analyze.specs.Cores.{IsKeptCore, are_negated}
 pub use Rattle.sb_search.specs.Following.{place_holds}
 pub use Rattle.sb_search.specs.Found.{GrowsTo, IsFound, has_value}
-pub use Rattle.sb_search.specs.Writing.{written}
+pub use Rattle.sb_search.specs.Writing.{Written, written}
 pub use Rattle.sb_search.specs.declared.choices.Choices.{Choices}
 pub use Rattle.sb_search.specs.declared.found.Found.{Found}
 pub use Rattle.sb_atoms.proofs.CallerLemmas.{all_say, atoms_kept, atoms_more, earlier_table}
 pub use Rattle.sb_atoms.specs.GateClauses.{atom_at, gate_clauses}
 pub use Rattle.sb_atoms.specs.Numbered.{over}
-pub use Rattle.sb_atoms.specs.Translated.{HasNoLiteral, brought_translation, has_declared, have_declared}
+pub use Rattle.sb_atoms.specs.Translated.{AreDefined, HasNoLiteral, brought_translation, has_declared, have_declared}
 pub use Rattle.sb_stack.proofs.CallerLemmas.{live_laid, same_sort, value_there}
 pub use Rattle.sb_stack.specs.Speaking.{is_one_of, speak_of, speaks_of}
 pub use Rattle.sb_stack.specs.Stacked.{HasNumberBelow, assertion_in, assertion_of, first_level, front_names, levels_above, value_at}
@@ -76,7 +76,8 @@ pub use Rattle.sb_solve.specs.Answered.{AreLiterals, IsAnswered, IsLiteral, term
 pub use Rattle.sb_solve.specs.Decided.{AreKept, IsDecided, IsGiven, IsKept}
 pub use Rattle.sb_solve.specs.Entailed.{AreEntailed, AssertedIsEntailed, ContinuedAreEntailed, DroppedAreEntailed, EntailedInLarger, EntailedOverMore, GateIsEntailed, NoneAreEntailed, RefutedAreContradicted, RefutedAreFalse, SearchedAreEntailed, with_clause}
 pub use Rattle.sb_solve.specs.Gathering.{Closes, Follow}
-pub use Rattle.sb_solve.specs.Modelled.{HasLive, is_sorted, is_sorted_at, is_sorted_there}
+pub use Rattle.sb_solve.specs.Declared.{are_declared, is_sorted}
+pub use Rattle.sb_solve.specs.Modelled.{HasLive}
 pub use Rattle.sb_solve.specs.Searched.{Answers, AreAmong, AreTaken, HasCore, IsDone, IsNumbered, IsSearched, IsValuedBy, Runs, backing_in}
 pub use Rattle.sb_solve.specs.Solved.{AreOfLevels, AreTrueAt, IsSolved, level_at}
 pub use Rattle.sb_solve.specs.Stating.{AllStated, AreStated, IsAssertionAt, IsStated, States}

@@ -1,8 +1,9 @@
 -- Private: the clauses of live assertions, as they are put in front of a search.
-use Rattle.std.specs.Prelude.{◌≡◌, ◌≢◌, ℕ, ◌<◌, List, [], ◌∷◌, length, slice_get, Option, Some}
+use Rattle.std.specs.Prelude.{◌≡◌, ◌≢◌, ℕ, ◌<◌, true, List, [], ◌∷◌, length, slice_get, Option, Some}
 use Rattle.sb_solve.specs.Words.{AllKept, Asserted, Backing, Backs, EvidencesUncounted, Grows, HasGates, HaveRegexesBelow, IsStatement, Lit, Regex, Stacked, Store, Term, asked_in, asserted, asserted_at, atoms_in, live, state_of, translation}
 use Rattle.sb_term.specs.Numbered.{term_at}
 use Rattle.sb_atoms.specs.Numbered as table
+use Rattle.sb_solve.specs.Declared.{are_declared}
 use Rattle.sb_solve.specs.Solved.{AreOfLevels, level_at}
 
 -- the number is of the term of the live assertion at the place, on this level
@@ -30,6 +31,7 @@ pub record States (s : Stacked) (place : ℕ) (x y : Store) (e f : Backing) (old
     pub atoms : table.Extends e.atoms f.atoms
     pub below : HaveRegexesBelow (length x.arena) e.atoms
     pub regexes : HaveRegexesBelow (length y.arena) f.atoms
+    pub declared : are_declared (state_of s).sorts e.atoms ≡ true → are_declared (state_of s).sorts f.atoms ≡ true
     pub others : (other : ℕ) → other ≢ place → asserted_at f.asserted other ≡ asserted_at e.asserted other
     pub level : (a : Asserted) → asserted_at f.asserted place ≡ Some a
         → level_at (asked_in (state_of s)).live place ≡ Some a.level
@@ -50,6 +52,7 @@ pub record AreStated (s : Stacked) (places : List ℕ) (x y : Store) (e f : Back
         → EvidencesUncounted (asked_in (state_of s)) before y.arena y.graph.memo f old new
     pub store : Grows s.table x y
     pub regexes : HaveRegexesBelow (length y.arena) f.atoms
+    pub declared : are_declared (state_of s).sorts e.atoms ≡ true → are_declared (state_of s).sorts f.atoms ≡ true
     pub levels : AreOfLevels (asked_in (state_of s)).live e.asserted f.asserted
     pub gates : 0 < length literals → HasGates (length f.atoms) f.atoms f.kept
     pub all : AllStated s y.arena f places literals

@@ -2,6 +2,7 @@
 
 ghost use Rattle.std.specs.Prelude.{◌≡◌, ◌<◌, ◌≤◌, true, false, length, IfOk, OnOk};
 ghost use Rattle.sb_solve.specs.Words.{All, AllKept, AreTerms, Backs, CountsTapeFault, Evidences, Grows, HaveRegexesBelow, IsCounted, IsStoreOf, asked_in, is_decided, is_well_sorted, list_all, live, live_terms, state_of};
+ghost use Rattle.sb_solve.specs.Declared.{are_declared};
 ghost use Rattle.sb_solve.specs.Solved.{AreOfLevels, IsSolved};
 ghost use Rattle.sb_solve.specs.Truth.{IsTrue};
 
@@ -38,8 +39,7 @@ pub enum Solved {
 /// nothing: no regex is explored to its end for a lemma, and a step is spent for each lemma and each learned clause.
 ///
 /// The time is that of the search, which may be exponential in the atoms, and of what is explored of regexes.
-/// `NoMemory` also where the literal of a live assertion speaks of a constant of another sort than the atom's, as that
-/// of no well-sorted one does. After an error the evidence may be empty and the store too, and
+/// `NoMemory` only for want of memory. After an error the evidence may be empty and the store too, and
 /// nothing more may be put.
 pub fn solve<L: Tape>(
     alloc: Global,
@@ -56,6 +56,7 @@ pub fn solve<L: Tape>(
     requires sorted { list_all is_well_sorted (live_terms (state_of stack.now)) ≡ true }
     requires store { IsStoreOf stack.now.table store.old }
     requires regexes { HaveRegexesBelow (length store.old.arena) evidence.old.atoms }
+    requires declared { are_declared (state_of stack.now).sorts evidence.old.atoms ≡ true }
     ensures puts { OnOk result (proves ≡ true → (before : AllKept)
         → Backs store.old.arena store.old.graph.memo evidence.old before
         → IsCounted (asked_in (state_of stack.now)) before budget.old
@@ -72,6 +73,7 @@ pub fn solve<L: Tape>(
     ensures spends { OnOk result (budget.old.spent ≤ budget.new.spent) }
     ensures store { OnOk result (Grows stack.now.table store.old store.new) }
     ensures regexes { OnOk result (HaveRegexesBelow (length store.new.arena) evidence.new.atoms) }
+    ensures declared { OnOk result (are_declared (state_of stack.now).sorts evidence.new.atoms ≡ true) }
     ensures counts { CountsTapeFault result (L.Tape.faults tape.old) (L.Tape.faults tape.new) }
 {
     regexes_grow();

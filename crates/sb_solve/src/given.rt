@@ -1,14 +1,12 @@
 //! The values that a search's end gives constants.
 
-ghost use Rattle.std.specs.Prelude.{◌≡◌, ℕ, true, false, map, ◌||◌, ◌==◌, slice_get, IfOk, OnOk, IfSome, IfNone};
-ghost use Rattle.sb_solve.specs.Words.{Names, atom_in, bool_atom, is_declared, list_all, sort_in};
-ghost use Rattle.sb_meaning.specs.Sorts.{is_same_sort};
-ghost use Rattle.sb_solve.specs.Modelled.{is_sorted, is_sorted_at};
+ghost use Rattle.std.specs.Prelude.{◌≡◌, ℕ, true, false, ◌||◌, ◌==◌, slice_get, IfOk, OnOk, IfSome, IfNone};
+ghost use Rattle.sb_solve.specs.Words.{Names, atom_in, bool_atom};
 ghost use Rattle.sb_solve.specs.Values.{is_constant, constant_is, makes_true, truth_by, truth_in, is_word_there, are_words_there};
 
 use sb_atoms::{Atom, AtomId, Atoms};
 use sb_lit::Lit;
-use sb_term::{Serial, Sort};
+use sb_term::Serial;
 use sb_trail::Trail;
 use sb_word::Word;
 use std::alloc::{AllocError, Global};
@@ -106,54 +104,4 @@ fn read_one(word: &Option<Word>)
     if let Some(word) = word {
         let _codes = word.codes();
     }
-}
-
-/// Whether the constant of each of these atoms that is one of a constant alone is declared with the atom's sort.
-pub(crate) fn are_declared(atoms: &Atoms, wanted: &[u64], sorts: &[Sort]) -> bool
-    ensures { result ≡ list_all (is_sorted_at (map sort_in sorts.now) atoms.now) wanted.now }
-{
-    wanted
-        .iter()
-        .all(|atom| is_declared_at(atoms, *atom, sorts))
-}
-
-/// Whether the atom's constant is, where it is one of a constant alone.
-fn is_declared_at(atoms: &Atoms, atom: u64, sorts: &[Sort]) -> bool
-    ensures { result ≡ is_sorted_at (map sort_in sorts.now) atoms.now atom }
-{
-    let id = AtomId::of(Lit {
-        atom,
-        positive: true,
-    });
-    if id.number() >= atoms.len() {
-        return true;
-    }
-    is_declared_in(atoms.describe(id), sorts)
-}
-
-/// Whether the atom's constant is, where it is one of a constant alone.
-fn is_declared_in(described: &Atom, sorts: &[Sort]) -> bool
-    ensures { result ≡ is_sorted (map sort_in sorts.now) (atom_in described.now) }
-{
-    match described {
-        Atom::Bool(serial) => has_sort(sorts, *serial, Sort::Bool),
-        Atom::In(serial, _) => has_sort(sorts, *serial, Sort::String),
-        Atom::And(_) | Atom::Iff(..) => true,
-    }
-}
-
-/// Whether a constant is declared with the sort.
-fn has_sort(sorts: &[Sort], serial: Serial, sort: Sort) -> bool
-    ensures { result ≡ is_declared (map sort_in sorts.now) (sort_in sort) serial.0 }
-{
-    match sorts.get(serial.0 as usize) {
-        Some(other) => is_same_sort(sort, *other),
-        None => false,
-    }
-}
-
-fn is_same_sort(sort: Sort, other: Sort) -> bool
-    ensures { result ≡ is_same_sort (sort_in sort) (sort_in other) }
-{
-    sort == other
 }

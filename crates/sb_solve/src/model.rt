@@ -4,11 +4,12 @@
 ghost use Rattle.std.specs.Prelude.{◌≡◌, ℕ, true, List, IfOk};
 ghost use Rattle.sb_solve.specs.Words.{Kept, Lit, Regex, state_of};
 ghost use Rattle.sb_solve.specs.Answered.{IsAnswered};
+ghost use Rattle.sb_solve.specs.Declared.{are_declared};
 ghost use Rattle.sb_solve.specs.Modelled.{HasLive};
 ghost use Rattle.sb_solve.specs.Solved.{AreTrueAt};
 ghost use Rattle.sb_solve.specs.Values.{are_words_there};
 
-use crate::given::{are_declared, read, truths};
+use crate::given::{read, truths};
 use sb_atoms::Atoms;
 use sb_sound::translations::translation_holds;
 use sb_stack::Stack;
@@ -27,8 +28,6 @@ pub struct Values {
 /// about, and the trail and the theory's words are those of the search's end.
 ///
 /// Linear in the atoms that are wanted, the theory's words, and the largest serial of a Bool constant that is true.
-/// `AllocError` also where one of these atoms is of a constant of another sort, as none is of which the literal of a
-/// well-sorted term speaks.
 pub fn model(
     alloc: Global,
     atoms: &Atoms,
@@ -37,6 +36,7 @@ pub fn model(
     words: Vec<Option<Word>>,
     stack: &Stack,
 ) -> Result<Values, AllocError>
+    requires { are_declared (state_of stack.now).sorts atoms.now ≡ true }
     ensures given { IfOk result (λ values. (rs : List Regex) (places : List ℕ) (literals : List Lit) (kept : Kept)
         → IsAnswered rs atoms.now wanted.now literals kept trail.now.literals words.items places (state_of stack.now)
         → AreTrueAt stack.now places values.words.items values.truths.items) }
@@ -44,9 +44,6 @@ pub fn model(
 {
     translation_holds();
     live(stack);
-    if !are_declared(atoms, wanted, stack.sorts()) {
-        return Err(AllocError);
-    }
     let truths = truths(alloc, atoms, wanted, trail)?;
     read(&words);
     Ok(Values { words, truths })

@@ -2,8 +2,9 @@
 
 ghost use Rattle.std.specs.Prelude.{◌≡◌, [], true, take, length, IfOk, OnOk};
 ghost use Rattle.sb_clauses.specs.Propagation.{has_room_for};
-ghost use Rattle.sb_solve.specs.Words.{AreDistinct, CountsTapeFault, HaveRegexesBelow, IsStore, Stand, Stands};
+ghost use Rattle.sb_solve.specs.Words.{AreDistinct, CountsTapeFault, HaveRegexesBelow, IsStore, Stand, Stands, state_of};
 ghost use Rattle.sb_refute.specs.Backing.{IsLowestEmpty};
+ghost use Rattle.sb_solve.specs.Declared.{are_declared};
 ghost use Rattle.sb_solve.specs.Searched.{AreAmong, AreTaken, HasCore, HasModel, IsDone, IsNumbered, Runs, backing_in};
 ghost use Rattle.sb_solve.specs.Wanted.{AreWanted};
 
@@ -49,6 +50,7 @@ pub(crate) fn search_for<L: Tape>(
 ) -> Result<Solved, TapeFault>
     requires store { IsStore store.old }
     requires regexes { HaveRegexesBelow (length store.old.arena) evidence.old.atoms }
+    requires declared { are_declared (state_of stack.now).sorts evidence.old.atoms ≡ true }
     ensures done { IfOk result (IsDone stack.now literals.now proves store.old evidence.old budget.old
         (L.Tape.told tape.old) store.new evidence.new budget.new (L.Tape.told tape.new)) }
     ensures counts { CountsTapeFault result (L.Tape.faults tape.old) (L.Tape.faults tape.new) }
@@ -125,6 +127,7 @@ fn run<L: Tape>(
     requires stands { Stands tables.old.strings [] }
     requires trail { tables.old.engine.trail.literals ≡ [] }
     requires known { has_room_for (length tables.old.strings.atoms) tables.old.engine.kept ≡ true }
+    requires declared { are_declared (state_of stack.now).sorts tables.old.strings.atoms ≡ true }
     ensures runs { IfOk result (Runs stack.now tables.old budget.old (L.Tape.told tape.old) tables.new budget.new
         (L.Tape.told tape.new)) }
     ensures counts { CountsTapeFault result (L.Tape.faults tape.old) (L.Tape.faults tape.new) }
@@ -153,6 +156,7 @@ fn run<L: Tape>(
 
 /// The values that the end of a search gives. The theory's words are taken.
 fn values_of(alloc: Global, tables: &mut Tables, stack: &Stack) -> Result<Values, AllocError>
+    requires { are_declared (state_of stack.now).sorts tables.old.strings.atoms ≡ true }
     ensures model { IfOk result
         (λ values. HasModel stack.now tables.old values.words.items values.truths.items) }
     ensures rest { OnOk result (tables.new

@@ -15,6 +15,7 @@ solve-requires g c =
           (c.in_ok-places.ensures s c.requires.knows c.requires.asked));
       decided = c.requires.inside;
       sorted = c.requires.sorted;
+      declared = c.requires.declared;
       store = c.requires.knows.taken.store;
       regexes = c.requires.regexes;
     }
@@ -31,6 +32,7 @@ returns-in_err-places g c =
       knows = IfOk-from_err x.result _ x.ensures.0;
       store = IfOk-from_err x.result _ x.ensures.0;
       regexes = IfOk-from_err x.result _ x.ensures.0;
+      declared = IfOk-from_err x.result _ x.ensures.0;
       levels = IfOk-from_err x.result _ x.ensures.0;
       counts = counts_none x.result p.0 (g.L.Tape.faults c.args.tape.now) p.1 p.2;
     }
@@ -60,6 +62,7 @@ returns-then-is_empty g c =
       knows = c.requires.knows;
       store = more_same old.store;
       regexes = c.requires.regexes;
+      declared = c.requires.declared;
       levels = λ h. h;
       counts = refl;
     }
@@ -76,6 +79,7 @@ returns-in_err-solved g c =
       knows = IfOk-from_err x.result _ x.ensures.0;
       store = IfOk-from_err x.result _ x.ensures.0;
       regexes = IfOk-from_err x.result _ x.ensures.0;
+      declared = IfOk-from_err x.result _ x.ensures.0;
       levels = IfOk-from_err x.result _ x.ensures.0;
       counts = counts_on Solved x.result p.0 _ _ _ p.1 p.2 c.in_err-solved.ensures.counts;
     }
@@ -102,6 +106,7 @@ returns g c =
       knows = c.knows_grown.ensures old x.store s e.store c.requires.knows;
       store = e.store.more;
       regexes = e.regexes;
+      declared = e.declared;
       levels = levels-known (asked_in (state_of s)).live before x.evidence e.levels;
       counts = e.counts;
     }

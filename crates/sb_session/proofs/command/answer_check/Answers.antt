@@ -19,6 +19,7 @@ find_verdict-requires g c =
         levels = h.levels;
         fit = h.fit;
         sorted = h.sorted;
+        declared = h.declared;
         sound = c.true_stays.ensures.grown (asked_in (state_of s)) s.table old new c.args.prover.now.evidence e.store
             h.regexes h.sound;
       };

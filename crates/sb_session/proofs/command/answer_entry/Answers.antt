@@ -4,6 +4,7 @@ use Rattle.sb_store.proofs.CallerLemmas.{more_same}
 use Rattle.sb_store.specs.Stores.{KnowsMore}
 use Rattle.sb_session.proofs.CommandLemmas.{by_answer, by_exit, by_left, moved_by, whole_reply, whole_reply_by, cut_reply, check_replies, cut_check_reply}
 use Rattle.sb_session.proofs.CheckLemmas.{never_spent}
+use Rattle.sb_session.proofs.DeclaredLemmas.{declared_left, sorts_on}
 use Rattle.sb_session.proofs.LeavingLemmas.{held_on, sorted_on, count_live, levels_left, regexes_left, tracked_left, sound_left}
 use Rattle.sb_session.proofs.command.answer_entry.Goals as goal
 
@@ -47,7 +48,9 @@ returns-in_ok-write_all-in-Answer-clause-held g c =
     e.grows)
     e.words e.constants (c.entries_move_live.ensures entry (state_of s) (state_of t) _ is)
     (c.entries_stay_fit.ensures entry (state_of s) (state_of t) _ is c.requires.held.fit)
-    (sorted_on c.entries_keep_sorts.ensures entry (state_of s) (state_of t) _ is c.requires.held.sorted) c.requires.held
+    (sorted_on c.entries_keep_sorts.ensures entry (state_of s) (state_of t) _ is c.requires.held.sorted)
+    (sorts_on c.entries_lead_on.ensures.entries entry (state_of s) (state_of t) _ is c.requires.held.fit)
+    c.requires.held
 
 pub returns-in_err-write_all-in-Exit-clause-err : goal.returns-in_err-write_all-in-Exit-clause-err
 returns-in_err-write_all-in-Exit-clause-err g c =
@@ -88,7 +91,9 @@ returns-in_ok-write_all-in-Exit-clause-held g c =
     (moved_by c.apply.result c.in_ok-text.field-0 (code.Exit c.in-Exit.text) _ _ c.in_ok-text.was c.in-Exit.is e.grows)
     e.words e.constants (c.entries_move_live.ensures entry (state_of s) (state_of t) _ is)
     (c.entries_stay_fit.ensures entry (state_of s) (state_of t) _ is c.requires.held.fit)
-    (sorted_on c.entries_keep_sorts.ensures entry (state_of s) (state_of t) _ is c.requires.held.sorted) c.requires.held
+    (sorted_on c.entries_keep_sorts.ensures entry (state_of s) (state_of t) _ is c.requires.held.sorted)
+    (sorts_on c.entries_lead_on.ensures.entries entry (state_of s) (state_of t) _ is c.requires.held.fit)
+    c.requires.held
 
 -- A check.
 
@@ -106,6 +111,7 @@ answer_check-requires g c =
           e.words e.constants (c.entries_move_live.ensures entry (state_of s) (state_of t) _ is)
           (c.entries_stay_fit.ensures entry (state_of s) (state_of t) _ is c.requires.held.fit)
           (sorted_on c.entries_keep_sorts.ensures entry (state_of s) (state_of t) _ is c.requires.held.sorted)
+          (sorts_on c.entries_lead_on.ensures.entries entry (state_of s) (state_of t) _ is c.requires.held.fit)
           c.requires.held;
     }
 
@@ -187,6 +193,9 @@ returns-in_ok-write_all-in-Left-clause-held g c =
           c.args.prover.now c.leave.new.prover left.proof h.levels;
       fit = fits.0;
       sorted = sorted_on c.entries_keep_sorts.ensures entry (state_of s) (state_of t) _ is h.sorted;
+      declared = declared_left (state_of s) (state_of t) c.args.prover.now c.leave.new.prover
+          (sorts_on c.entries_lead_on.ensures.entries entry (state_of s) (state_of t) _ is h.fit) left.proof.atoms
+          h.declared;
       sound = sound_left level (length t.assertions) (state_of s) (state_of t) moves.0 moves.1 (count_live t)
           c.args.decider.now.store c.leave.new.decider.store c.args.prover.now c.leave.new.prover left.store left.proof
           fits.1 h.levels h.sound;

@@ -12,6 +12,7 @@ check-requires c =
       fit = h.fit;
       sorted = c.live_are_well_sorted.ensures (state_of c.args.stack.now) h.sorted;
       regexes = h.regexes;
+      declared = h.declared;
       sound = h.sound;
     }
 
@@ -32,7 +33,7 @@ returns-clause-held c =
     (λ v known.
     subst (λ (w : Verdict). Holds (found w c.check.new.stack) c.check.new.decider c.check.new.self) (sym known.0)
     (held_found c.in-Ok.verdict c.args.stack.now c.check.new.stack c.check.new.decider c.check.new.self e.rest e.knows
-    e.regexes (e.levels h.levels) h.fit h.sorted e.sound))
+    e.regexes (e.levels h.levels) h.fit h.sorted e.sound e.declared))
     c.if_known.ensures.some
 
 pub returns-clause-spent : goal.returns-clause-spent

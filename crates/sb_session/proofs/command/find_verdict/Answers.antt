@@ -14,6 +14,7 @@ check-requires g c =
       fit = h.fit;
       sorted = c.live_are_well_sorted.ensures (state_of c.args.stack.now) h.sorted;
       regexes = h.regexes;
+      declared = h.declared;
       sound = h.sound;
     }
 
@@ -22,7 +23,7 @@ returns-clause-held g c =
     let e = c.in-Ok.ensures in
     let h = c.requires.held in
     held_found c.in-Ok.verdict c.args.stack.now c.check.new.stack c.check.new.decider c.check.new.self e.rest e.knows
-    e.regexes (e.levels h.levels) h.fit h.sorted e.sound
+    e.regexes (e.levels h.levels) h.fit h.sorted e.sound e.declared
 
 pub returns-then-not-proved-clause-ok : goal.returns-then-not-proved-clause-ok
 returns-then-not-proved-clause-ok g c = λ p tracked.

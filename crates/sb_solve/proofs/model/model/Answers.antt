@@ -1,4 +1,4 @@
-use Rattle.sb_solve.proofs.Words.{sym, ◌∙◌, IfOk-from_err}
+use Rattle.sb_solve.proofs.Words.{IfOk-from_err}
 use Rattle.sb_solve.proofs.Modelling.{true_at}
 use Rattle.sb_solve.proofs.model.model.Goals as goal
 
@@ -8,7 +8,7 @@ returns c =
       given = λ rs places literals kept a.
           true_at rs c.args.atoms.now c.args.wanted.now literals kept c.args.trail.now.literals c.args.words.items
           places c.args.stack.now c.live.ensures a
-          (rw c.sorts.ensures.value at (sym c.are_declared.ensures ∙ c.if-not-are_declared.false))
+          c.requires
           (rw c.deref.ensures.value at c.read.ensures) c.in_ok-truths.truths.items c.in_ok-truths.ensures
           c.translation_holds.ensures;
       characters = rw c.deref.ensures.value at c.read.ensures;

@@ -1,5 +1,5 @@
-use Rattle.sb_solve.proofs.Words.{[], refl, sym, subst, IsFound, Found, all_known, IfOk-from_err, err_from_is_err_and, counts_none, counts_on, CountsTapeFault, false≢true}
-use Rattle.sb_solve.proofs.Ended.{runs_to}
+use Rattle.sb_solve.proofs.Words.{[], refl, sym, subst, IsFound, Found, all_known, IfOk-from_err, err_from_is_err_and, counts_none, counts_on, CountsTapeFault, false≢true, ℕ, ◌≡◌, true, List, AtomOver, are_declared, state_of}
+use Rattle.sb_solve.proofs.Ended.{atoms_stay, runs_to}
 use Rattle.sb_solve.proofs.searching.run.Goals as goal
 
 pub search-requires-clause-passes : goal.search-requires-clause-passes
@@ -9,6 +9,11 @@ search-requires-clause-passes g c =
       clauses = all_known b.strings.atoms b.engine.kept c.requires.known;
       assumed = λ l h. absurd (false≢true h);
     }
+
+pub values_of-requires : goal.values_of-requires
+values_of-requires g c =
+    subst (λ (atoms : List (AtomOver ℕ)). are_declared (state_of c.args.stack.now).sorts atoms ≡ true)
+    (sym (atoms_stay _ _ _ _ c.in_ok-found.ensures.puts)) c.requires.declared
 
 pub returns-in_err-found : goal.returns-in_err-found
 returns-in_err-found g c =

@@ -1,4 +1,4 @@
-use Rattle.sb_solve.proofs.Words.{◌≡◌, List, ℕ, length, true, sym, ap, subst, IfOk-from_err, err_from_is_err_and, Kept, has_room_for, AtomOver, AreDistinct, Backing, IsLowestEmpty, counts_none, AreAmong, HasCore, AreWanted}
+use Rattle.sb_solve.proofs.Words.{◌≡◌, List, ℕ, length, true, sym, ap, subst, IfOk-from_err, err_from_is_err_and, Kept, has_room_for, AtomOver, AreDistinct, Backing, IsLowestEmpty, counts_none, AreAmong, HasCore, AreWanted, are_declared, state_of}
 use Rattle.sb_solve.proofs.Ended.{core_of, done, room_left, stand_left}
 use Rattle.sb_solve.proofs.searching.search_for.Goals as goal
 
@@ -9,6 +9,8 @@ run-requires g c =
       stands = t.stands;
       trail = t.trail;
       known = subst (λ (e : Backing). has_room_for (length e.atoms) e.kept ≡ true) (sym t.backing) t.stand.known;
+      declared = subst (λ (e : Backing). are_declared (state_of c.args.stack.now).sorts e.atoms ≡ true) (sym t.backing)
+          c.requires.declared;
     }
 
 pub put_back-requires : goal.put_back-requires

@@ -1,5 +1,6 @@
-use Rattle.sb_solve.proofs.Words.{◌≡◌, ◌<◌, ℕ, List, length, Option, Some, refl, sym, ap, subst, ◌∙◌, option_map, IfSome, IfOk-from_err, err_from_is_err_and, Term, term_at, asked_in, state_of, atoms_in, brought_translation, Asserted, EvidencesUncounted, Grows, HasNoLiteral, IsStatement, IsStoreOf, live, structure-is, counts_on}
+use Rattle.sb_solve.proofs.Words.{◌≡◌, ◌<◌, ℕ, List, length, Option, Some, refl, sym, ap, subst, ◌∙◌, option_map, IfSome, IfOk-from_err, err_from_is_err_and, Term, term_at, asked_in, state_of, atoms_in, brought_translation, AreDefined, Asserted, EvidencesUncounted, Grows, HasNoLiteral, IsStatement, IsStoreOf, live, structure-is, counts_on}
 use Rattle.sb_graph.specs.Findings.{Findings}
+use Rattle.sb_solve.proofs.Declaring.{declared_more}
 use Rattle.sb_solve.proofs.LiveRows.{has_literal}
 use Rattle.sb_solve.proofs.stating.state.Goals as goal
 
@@ -46,6 +47,9 @@ returns g c =
         atoms = h.extends;
         below = c.requires.regexes;
         regexes = h.regexes;
+        declared = declared_more (state_of s).sorts c.args.evidence.now.atoms f.atoms (term_at s.table id) h.extends
+            (subst (λ (ts : List Term). AreDefined c.args.evidence.now.atoms f.atoms (term_at ts id)) c.table.ensures
+            c.statement.ensures.defined) is.statement.declared;
         others = h.others;
         level = λ a there.
             ap (option_map (λ (one : Option Term × ℕ). one.1)) is.statement.live

@@ -1,4 +1,4 @@
-use Rattle.sb_prover.proofs.Words.{[], length, refl, sym, ap, subst, ◌∙◌, Backs, CountsTapeFault, Decided, HasSpent, HaveLevels, HaveRegexesBelow, IfOk-from_err, IsDecided, IsProved, IsTrue, IsVerdict, Knows, Proving, Said, Solution, asked_in, counts_on, err_from_is_err_and, false≢true, found, line, live_constants, question_in, state_of, text_of, verdict_in, verdict_line, verdict_of, with_bytes, more_same}
+use Rattle.sb_prover.proofs.Words.{[], length, refl, sym, ap, subst, ◌∙◌, Backs, CountsTapeFault, Decided, HasSpent, HaveLevels, HaveRegexesBelow, IfOk-from_err, IsDecided, IsProved, IsTrue, IsVerdict, Knows, Proving, Said, Solution, asked_in, counts_on, err_from_is_err_and, false≢true, found, line, live_constants, question_in, state_of, text_of, verdict_in, verdict_line, verdict_of, with_bytes, more_same, ◌≡◌, true, are_declared}
 use Rattle.sb_stack.specs.declared.verdict.Verdict.{Verdict}
 use Rattle.sb_prover.proofs.Proved.{solved-proved}
 use Rattle.sb_prover.proofs.Solutions.{said-same, solved-verdict}
@@ -14,6 +14,8 @@ solution-requires g c =
       decided = c.requires.decided;
       terms = c.entries_lead_on.ensures.terms (state_of s) c.requires.fit;
       sorted = c.requires.sorted;
+      declared = subst (λ (p : Proving). are_declared (state_of s).sorts p.evidence.atoms ≡ true) first
+          c.requires.declared;
       regexes = subst (λ (p : Proving). HaveRegexesBelow (length old.store.arena) p.evidence.atoms) first
           c.requires.regexes;
       sound = subst (λ (p : Proving). IsTrue (asked_in (state_of s)) old.store.arena old.store.graph.memo p.evidence)
@@ -29,6 +31,7 @@ returns g c =
       verdict = (subst (λ (d : Decided). IsDecided c.args.decider.now s d) c.in-Dead.is c.requires.decided).1;
       spent = tt;
       regexes = c.requires.regexes;
+      declared = c.requires.declared;
       knows = record { inside = knows.inside; taken = knows.taken; words = knows.words; declared = knows.declared };
       store = more_same c.args.decider.now.store;
       rest = refl;
@@ -46,6 +49,7 @@ returns-in_err-begin g c =
       verdict = IfOk-from_err x.result _ x.ensures.0;
       spent = IfOk-from_err x.result _ x.ensures.0;
       regexes = IfOk-from_err x.result _ x.ensures.0;
+      declared = IfOk-from_err x.result _ x.ensures.0;
       knows = IfOk-from_err x.result _ x.ensures.0;
       store = IfOk-from_err x.result _ x.ensures.0;
       rest = refl;
@@ -63,6 +67,7 @@ returns-in_err-solution g c =
       verdict = IfOk-from_err x.result _ x.ensures.0;
       spent = IfOk-from_err x.result _ x.ensures.0;
       regexes = IfOk-from_err x.result _ x.ensures.0;
+      declared = IfOk-from_err x.result _ x.ensures.0;
       knows = IfOk-from_err x.result _ x.ensures.0;
       store = IfOk-from_err x.result _ x.ensures.0;
       rest = c.in_err-solution.ensures.rest;
@@ -82,6 +87,7 @@ returns-in_err-say_solution g c =
       verdict = IfOk-from_err x.result _ x.ensures.0;
       spent = IfOk-from_err x.result _ x.ensures.0;
       regexes = IfOk-from_err x.result _ x.ensures.0;
+      declared = IfOk-from_err x.result _ x.ensures.0;
       knows = IfOk-from_err x.result _ x.ensures.0;
       store = IfOk-from_err x.result _ x.ensures.0;
       rest = c.in_ok-solution.ensures.rest;
@@ -126,6 +132,7 @@ returns-2 g c =
           e.sound e.means);
       spent = subst (HasSpent c.solution.new.budget) (sym c.verdict_of.ensures) e.spent;
       regexes = e.regexes;
+      declared = e.declared;
       knows = subst (λ (v : Verdict). Knows new (found v c.solution.new.stack)) (sym c.verdict_of.ensures) e.knows;
       store = e.store;
       rest = e.rest;

@@ -1,4 +1,4 @@
-use Rattle.sb_prover.proofs.Words.{◌≡◌, ℕ, List, [], ◌∷◌, length, refl, sym, ap, ◌∙◌, AtomOver, HaveRegexesBelow, Regex, asserted_at, atoms_in, no_atoms, nothing_kept}
+use Rattle.sb_prover.proofs.Words.{◌≡◌, ℕ, List, [], ◌∷◌, length, refl, sym, ap, ◌∙◌, AtomOver, HaveRegexesBelow, Regex, Sort, true, are_declared, asserted_at, atoms_in, no_atoms, nothing_kept}
 use Rattle.sb_prover.proofs.Leaving.{none-there}
 use Rattle.sb_prover.proofs.prover.Prover.new.Goals as goal
 
@@ -22,6 +22,15 @@ returns-clause-abreast c = λ x. record {
 
 pub returns-clause-regexes : goal.returns-clause-regexes
 returns-clause-regexes c = λ n. none-below [] n c.new.result.atoms (c.new.ensures.backs [] [] 1).atoms
+
+none-declared : (rs : List Regex) (sorts : List Sort) (atoms : List (AtomOver ℕ)) → [] ≡ atoms_in rs atoms
+    → are_declared sorts atoms ≡ true
+none-declared rs sorts [] h = refl
+none-declared rs sorts (a ∷ atoms) h = absurd (cc (h))
+
+pub returns-clause-declared : goal.returns-clause-declared
+returns-clause-declared c = λ sorts.
+    none-declared [] sorts c.new.result.atoms (c.new.ensures.backs [] [] 1).atoms
 
 pub returns-clause-levels : goal.returns-clause-levels
 returns-clause-levels c = λ live place a there.

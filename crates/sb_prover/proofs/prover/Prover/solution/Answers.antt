@@ -1,4 +1,4 @@
-use Rattle.sb_prover.proofs.Words.{length, ap, refl, sym, subst, ◌∙◌, Backs, CountsTapeFault, Decided, HaveLevels, HaveRegexesBelow, IfOk-from_err, IsDecided, IsSolution, IsTrue, Proving, Solved, Spending, Store, asked_in, counts_none, counts_on, err_from_is_err_and, state_of, KnowsMore, more_same}
+use Rattle.sb_prover.proofs.Words.{length, ap, refl, sym, subst, ◌∙◌, Backs, CountsTapeFault, Decided, HaveLevels, HaveRegexesBelow, IfOk-from_err, IsDecided, IsSolution, IsTrue, Proving, Solved, Spending, Store, asked_in, counts_none, counts_on, err_from_is_err_and, state_of, KnowsMore, more_same, ◌≡◌, true, are_declared}
 use Rattle.sb_prover.specs.declared.checking.Solution.TheVariants as solution
 use Rattle.sb_prover.proofs.Solutions.{inside-of, asked-of, empty-known, counts-none, ready-then, solved-again, solved-now, solved-true, says-true, spent-all}
 use Rattle.sb_prover.proofs.prover.Prover.solution.Goals as goal
@@ -15,6 +15,8 @@ searched-requires g c =
       asked = asked-of old s c.args.decided c.requires.decided c.in_default.not-Outside;
       terms = c.requires.terms;
       sorted = c.requires.sorted;
+      declared = subst (λ (p : Proving). are_declared (state_of s).sorts p.evidence.atoms ≡ true) same
+          c.requires.declared;
       regexes = subst (λ (p : Proving). HaveRegexesBelow (length old.store.arena) p.evidence.atoms) same
           c.requires.regexes;
       sound = subst (λ (p : Proving). IsTrue (asked_in (state_of s)) old.store.arena old.store.graph.memo p.evidence)
@@ -46,6 +48,7 @@ returns-in-Outside g c =
       rest = refl;
       sound = c.requires.sound;
       regexes = c.requires.regexes;
+      declared = c.requires.declared;
       begun = refl;
       levels = λ h. h;
       counts = refl;
@@ -71,6 +74,7 @@ returns-in-Some g c =
       rest = refl;
       sound = c.requires.sound;
       regexes = c.requires.regexes;
+      declared = c.requires.declared;
       begun = refl;
       levels = λ h. h;
       counts = refl;
@@ -89,6 +93,7 @@ returns-in_err-solved g c =
       rest = refl;
       sound = IfOk-from_err x.result _ x.ensures.0;
       regexes = IfOk-from_err x.result _ x.ensures.0;
+      declared = IfOk-from_err x.result _ x.ensures.0;
       begun = ap (λ (p : Proving). p.begun) c.self.view_is;
       levels = IfOk-from_err x.result _ x.ensures.0;
       counts = counts_on Solved x.result p.0 _ _ _ p.1 p.2 c.in_err-solved.ensures.counts;
@@ -107,6 +112,7 @@ returns-in_err-solution g c =
       rest = c.in_err-solution.ensures.rest;
       sound = IfOk-from_err x.result _ x.ensures.0;
       regexes = IfOk-from_err x.result _ x.ensures.0;
+      declared = IfOk-from_err x.result _ x.ensures.0;
       begun = ap (λ (p : Proving). p.begun) c.self.view_is;
       levels = IfOk-from_err x.result _ x.ensures.0;
       counts = subst (λ old. CountsTapeFault x.result old (g.L.Tape.faults c.searched.new.tape))
@@ -152,6 +158,7 @@ returns g c =
           c.requires.terms c.args.proves old.store mid.store e f _ budget told telling t
           (counts-none s t.kept _ c.new.ensures t.counted) found.puts found.sound);
       regexes = subst (λ (x : Store). HaveRegexesBelow (length x.arena) f.atoms) stays found.regexes;
+      declared = found.declared;
       begun = ap (λ (p : Proving). p.begun) c.self.view_is;
       levels = λ h.
           found.levels (subst (λ (p : Proving). HaveLevels (asked_in (state_of s)).live p.evidence) same h);

@@ -1,3 +1,4 @@
+use Rattle.sb_atoms.specs.Translated.{AreDefined}
 use Rattle.sb_store.proofs.CallerLemmas.{termed}
 use Rattle.sb_refute.proofs.Words.{◌≡◌, length, ℕ, Some, IfSome, List, option_map, refl, sym, ap, subst, ◌∙◌, IfOk-weaker, IfOk-from_err, err_from_is_err_and, AtomOver, atoms_in, Extends, HaveRegexesBelow, brought_translation, OnlyNumbers, only_numbers_same, counts_none, Asserted, Backing, Backs, HasGates, asserted_at, backing_of, term_at}
 use Rattle.sb_refute.proofs.Backs.{backs-grown}
@@ -74,6 +75,8 @@ returns g c =
           c.lines.ensures.rest.0;
       extends = subst (Extends old.atoms) (sym same)
           (subst (λ (e : Backing). Extends e.atoms atoms) c.self.view_is c.translate.ensures.extends);
+      defined = subst (λ (ts : List (AtomOver ℕ)). AreDefined old.atoms ts t) (sym same)
+          (subst (λ (e : Backing). AreDefined e.atoms atoms t) c.self.view_is c.translate.ensures.defined);
       regexes = subst (HaveRegexesBelow (length more)) (sym same) c.translate.ensures.regexes;
       store = termed c.regexes_grow.ensures.arena _ _ _ _ _ c.translate.ensures.arena
           (λ h. (c.translate.ensures.normals, c.translate.ensures.right));
@@ -98,6 +101,9 @@ returns-in_err-found g c =
           (only_numbers_same c.self.inside.parts.trace);
       extends = subst (λ (f : Backing). Extends f.atoms c.translate.new.self) c.self.view_is
           c.translate.ensures.extends;
+      defined = subst (λ (f : Backing).
+          AreDefined f.atoms c.translate.new.self (term_at c.args.table.now c.args.term)) c.self.view_is
+          c.translate.ensures.defined;
       regexes = c.translate.ensures.regexes;
       store = termed c.regexes_grow.ensures.arena _ _ _ _ _ c.translate.ensures.arena
           (λ h. (c.translate.ensures.normals, c.translate.ensures.right));

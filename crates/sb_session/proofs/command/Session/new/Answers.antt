@@ -17,5 +17,6 @@ invariant_of-result c = λ goes. record {
   levels = c.new-3.ensures.levels (asked_in (state_of c.new.result)).live;
   fit = subst IsFit (sym c.new.ensures.state) c.entries_lead_on.ensures.start;
   sorted = ap (λ (s : State). is_sorted_state s) c.new.ensures.state ∙ c.start_is_sorted.ensures [];
+  declared = c.new-3.ensures.declared (state_of c.new.result).sorts;
   sound = c.new-3.ensures.sound (asked_in (state_of c.new.result)) c.new-2.result.store;
 }
