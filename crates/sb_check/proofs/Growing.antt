@@ -32,6 +32,7 @@ stands_grown j rs plain normals models h e n r m = record {
       regexes = numbers_kept j.kept.arena rs j.kept.regexes.order e h.over.whole.regexes;
       plain = r;
       atoms = regexes_kept j.kept.arena rs j.kept.atoms e h.over.whole.atoms;
+      brought = h.over.whole.brought;
     };
     normals = n;
     measures = h.over.measures;
