@@ -1,6 +1,6 @@
 -- The clauses of an atom, in order, say that it is as true as what it says of its literals.
-use Rattle.std.proofs.Common.{◌≡◌, ℕ, Bool, true, false, not, ◌&&◌, ◌==◌, if◌then◌else◌, List, [], ◌∷◌, ◌++◌, refl, sym, ap₂, subst, ◌∙◌, arith, inl, inr}
-use Rattle.std.specs.List.{list_all, list_any, flat_map}
+use Rattle.std.proofs.Common.{◌≡◌, ℕ, Bool, true, false, not, ◌&&◌, ◌==◌, if◌then◌else◌, List, [], ◌∷◌, refl, sym, ap₂, subst, ◌∙◌, arith, inl, inr}
+use Rattle.std.specs.List.{list_any, flat_map}
 use Rattle.std.specs.Ordering.{is_lt, bool_cmp}
 use Rattle.std.proofs.Math.Bool.{and-true}
 use Rattle.std.proofs.lemmas.Bool.{and_parts, false≢true, or_left, or_right, or_cases, eqb-true, le-ltb, eq-eqb}

@@ -1,5 +1,5 @@
 -- The clauses of an atom that speaks of literals, as a search takes them.
-use Rattle.std.specs.Prelude.{ℕ, Bool, true, false, ◌||◌, ◌==◌, if◌then◌else◌, List, [], ◌∷◌, get_or}
+use Rattle.std.specs.Prelude.{ℕ, Bool, false, ◌||◌, ◌==◌, if◌then◌else◌, List, [], ◌∷◌, get_or}
 use Rattle.std.specs.List.{flat_map}
 use Rattle.sb_lit.specs.declared.clause.Lit.{Lit}
 use Rattle.sb_rulebook.specs.Atoms.{AtomOver, bool_atom}

@@ -1,11 +1,10 @@
-use Rattle.std.proofs.Common.{◌≡◌, List, sym, ap, ◌∙◌}
+use Rattle.std.proofs.Common.{ap, ◌∙◌}
 use Rattle.std.specs.List.{list_all, flat_map}
-use Rattle.sb_lit.specs.declared.clause.Lit.{Lit}
 use Rattle.sb_lit.specs.Clauses.{are_ascending}
-use Rattle.sb_rulebook.specs.Gates.{clauses_of, is_gate}
+use Rattle.sb_rulebook.specs.Gates.{is_gate}
 use Rattle.sb_sound.specs.GateLaws.{all_hold}
 use Rattle.sb_atoms.specs.Numbered.{atoms_in}
-use Rattle.sb_atoms.specs.GateClauses.{atom_at, clause_of, gate_clauses}
+use Rattle.sb_atoms.specs.GateClauses.{atom_at, clause_of}
 use Rattle.sb_atoms.proofs.GateFacts.{all_ascend, all_gates, names_there}
 use Rattle.sb_atoms.proofs.Saying.{all_say}
 use Rattle.sb_atoms.proofs.gates.gate_clauses.Goals as goal
