@@ -1,6 +1,9 @@
-//! Words and their literals.
+//! Words and their literals; numerals, and integers as terms.
 
-use sb_word::{CodesError, LiteralError, Word, print_literal, read_character, read_literal};
+use sb_word::{
+    CodesError, LiteralError, Word, print_int, print_literal, read_character, read_literal,
+    read_numeral,
+};
 use std::alloc::{AllocError, Global};
 use std::process::Abort;
 use std::test::Fail;
@@ -64,6 +67,35 @@ static DIGITS: [(&[u8], Option<u32>); 6] = [
     (b"g", None),
 ];
 
+/// Bytes, and the number of the numeral that they are.
+static NUMERALS: [(&[u8], Option<u64>); 10] = [
+    (b"0", Some(0)),
+    (b"7", Some(7)),
+    (b"65536", Some(65536)),
+    (b"18446744073709551615", Some(0xffff_ffff_ffff_ffff)),
+    (b"18446744073709551616", None),
+    (b"007", None),
+    (b"00", None),
+    (b"", None),
+    (b"1a", None),
+    (b"-5", None),
+];
+
+/// Integers, and their texts as terms.
+static INTEGERS: [(i128, &str); 5] = [
+    (0, "0"),
+    (5, "5"),
+    (-5, "(- 5)"),
+    (
+        0x7fff_ffff_ffff_ffff_ffff_ffff_ffff_ffff,
+        "170141183460469231731687303715884105727",
+    ),
+    (
+        -0x8000_0000_0000_0000_0000_0000_0000_0000,
+        "(- 170141183460469231731687303715884105728)",
+    ),
+];
+
 /// Expects the characters of the numbers' word to be them, and its literal to have this text.
 fn expect_literal(
     rt: &impl Abort,
@@ -124,9 +156,35 @@ fn expect_others(rt: &impl Abort, alloc: Global) {
     }
 }
 
+/// Expects the integer to be printed as this text.
+fn expect_integer(
+    rt: &impl Abort,
+    alloc: Global,
+    number: i128,
+    text: &str,
+) -> Result<(), AllocError> {
+    let printed = print_int(alloc, number)?;
+    let told = printed.as_str() == text;
+    drop(printed);
+    assert!(rt; told);
+    Ok(())
+}
+
+/// Numerals are read, and integers printed.
+fn expect_numbers(rt: &impl Abort, alloc: Global) -> Result<(), AllocError> {
+    for row in &NUMERALS {
+        assert!(rt; read_numeral(row.0) == row.1);
+    }
+    for row in &INTEGERS {
+        expect_integer(rt, alloc, row.0, row.1)?;
+    }
+    Ok(())
+}
+
 #[test]
 fn words_and_their_literals(rt: HostRuntime) -> Result<(), Fail> {
     expect_words(&rt, rt.alloc())?;
     expect_others(&rt, rt.alloc());
+    expect_numbers(&rt, rt.alloc())?;
     Ok(())
 }
