@@ -183,7 +183,7 @@ cut_at_end ending o bytes kept session before now end cutting =
     })
 
 -- the first entries, and what is left behind them
-begins_first : (ended : Bool) (bytes : List ℕ) (entries more : List Entry) (left : List ℕ)
+pub begins_first : (ended : Bool) (bytes : List ℕ) (entries more : List Entry) (left : List ℕ)
     → Begins ended bytes (entries ++ more) left → (behind : List ℕ) × Begins ended bytes entries behind
 begins_first ended bytes [] more left h = (bytes, refl)
 begins_first ended bytes (entry ∷ entries) more left h =

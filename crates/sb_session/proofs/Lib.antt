@@ -11,3 +11,4 @@ pub mod EndLemmas
 pub mod ScriptLemmas
 pub mod SolveLemmas
 pub mod CertifyingLemmas
+pub mod ReplyingLemmas

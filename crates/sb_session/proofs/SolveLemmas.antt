@@ -1,7 +1,8 @@
 -- From the outcome of a run to its status.
-use Rattle.std.proofs.Common.{◌≡◌, ◌+◌, ◌<◌, ◌≤◌, ◌⊎◌, ℕ, Bool, true, false, List, [], ◌∷◌, ◌++◌, length, take, drop, Option, Some, None, IfSome, Result, Ok, Err, IfOk, OnErr, append_assoc, length-append, refl, sym, ap, ◌∙◌, subst, inl, inr, arith}
-use Rattle.sb_session.proofs.Words.{Along, Asked, Begins, CountsFaults, CountsStop, CutShort, Entry, GoesOn, IsBounded, Outside, PastLimit, Rose, Run, SolveStatus, Stage, Stop, Write, asks_proof, beginning_is_first, beginning_stays, beginnings, created, false≢true, is_exit, open_at, opened, source_of, status_by, take-append-drop, take-append-le, take-append_seam}
+use Rattle.std.proofs.Common.{◌≡◌, ◌+◌, ◌<◌, ◌≤◌, ◌⊎◌, ℕ, Bool, true, false, List, [], ◌∷◌, ◌++◌, length, take, drop, Option, Some, None, IfSome, Result, Ok, Err, IfOk, OnErr, append_assoc, length-append, refl, sym, ap, ap₂, ◌∙◌, subst, inl, inr, arith}
+use Rattle.sb_session.proofs.Words.{Along, Asked, Begins, asked_by, asked_for, CountsFaults, CountsStop, CutShort, Entry, GoesOn, IsBounded, Outside, PastLimit, Rose, Run, SolveStatus, Stage, Stop, Write, asks_proof, beginning_is_first, beginning_stays, beginnings, created, false≢true, is_exit, open_at, opened, source_of, status_by, take-append-drop, take-append-le, take-append_seam}
 use Rattle.sb_world.specs.declared.InPort.TheVariants as in_port
+use Rattle.sb_words.specs.SolverWords.{script_of, proof_of}
 use Rattle.sb_session.specs.declared.command.Stop.TheVariants as stop
 use Rattle.sb_session.specs.declared.solve.SolveStatus.TheVariants.{Done, Unfinished, Usage, Fault, NoMemory, InputLimit}
 
@@ -12,6 +13,16 @@ run_by asked (Ok s) old new f g ok err = ok.0
 run_by asked (Err stop.Fault) old new f g ok err = err
 run_by asked (Err stop.NoMemory) old new f g ok err = err
 run_by asked (Err stop.Spent) old new f g ok err = err
+
+-- and for what words ask
+pub run_asked : (words : List (List ℕ)) (script proof : Option (List ℕ)) (limit : ℕ) (r : Result SolveStatus Stop)
+    (old new : Outside) (f g : ℕ) → script ≡ script_of words → proof ≡ proof_of words
+    → IfOk r (λ s. Run (asked_for script proof limit) s old new × CountsFaults s f g)
+    → OnErr r (CutShort (asked_for script proof limit) old new) → Run (asked_by words limit) (status_by r) old new
+run_asked words script proof limit r old new f g s p ok err =
+    subst (λ (a : Asked). Run a (status_by r) old new)
+    (ap₂ (λ (s p : Option (List ℕ)). asked_for s p limit) s p)
+    (run_by (asked_for script proof limit) r old new f g ok err)
 
 pub counts_by : (P : SolveStatus → Type 0) (r : Result SolveStatus Stop) (f g : ℕ)
     → IfOk r (λ s. P s × CountsFaults s f g) → CountsStop r f g → CountsFaults (status_by r) f g
@@ -50,7 +61,7 @@ goes_on_behind bytes left front behind e h =
     )
 
 -- creating an output leaves the script
-script_opened : (asked : Asked) (old : Outside) → (opened asked old).script_in.left ≡ source_of asked.script old
+pub script_opened : (asked : Asked) (old : Outside) → (opened asked old).script_in.left ≡ source_of asked.script old
 script_opened asked old = by_proof asked.proof
   where
     by_proof : (proof : Option (List ℕ))

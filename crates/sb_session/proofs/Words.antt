@@ -56,7 +56,8 @@ pub use Rattle.sb_session.specs.Commanding.{Answering, Answers, AnswersEntry, Co
 pub use Rattle.sb_session.specs.Pausing.{NoneLeft, Pauses, is_clean}
 pub use Rattle.sb_session.specs.Progress.{Sofar, status_by}
 pub use Rattle.sb_session.specs.Reading.{AllAnswered, Answered, Cut, CutBetween, GoesOn, IsAll, IsFront, UpToExit, beginnings, end_writes, unfinished_writes, work}
-pub use Rattle.sb_session.specs.Solve.{AnsweredToTheEnd, AnsweredToTheExit, AnsweredUnfinished, Asked, CountsFaults, CutInScript, CutShort, IsBounded, PastLimit, Run, asked_by, asked_for, asks_proof, created, opened}
+pub use Rattle.sb_session.specs.Replying.{AnswersBy, AnswersUpTo, Asked, EndsBy, IsAnswered, IsAnsweredOn, IsCut, IsReadOf, IsTouched, MayFind, Reached, asked_by, asked_for, asks_proof}
+pub use Rattle.sb_session.specs.Solve.{AnsweredToTheEnd, AnsweredToTheExit, AnsweredUnfinished, CountsFaults, CutInScript, CutShort, IsBounded, PastLimit, Run, created, opened}
 pub use Rattle.sb_session.specs.Underway.{AllRead, IsRead, StaysOpen, Underway}
 pub use Rattle.sb_session.specs.declared.command.Stop.{Stop}
 pub use Rattle.sb_session.specs.declared.command.Went.{Went}

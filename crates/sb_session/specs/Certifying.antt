@@ -5,7 +5,8 @@ use Rattle.sb_reader.specs.Entries.{Entry, HoldsNoEntry, Begins}
 use Rattle.sb_script.specs.Replies.{is_exit}
 use Rattle.sb_rulebook.specs.Accepted.{Accepted}
 use Rattle.sb_session.specs.Reading.{IsFront, IsAll}
-use Rattle.sb_session.specs.Solve.{Asked, opened}
+use Rattle.sb_session.specs.Replying.{Asked}
+use Rattle.sb_session.specs.Solve.{opened}
 
 -- All entries of the script stand in front of these bytes of it, up to the end or to (exit).
 abbrev pub AreAllEntries : Outside → List Entry → Type 0

@@ -1,4 +1,5 @@
 pub mod Commanding
+pub mod Replying
 pub mod Reading
 pub mod Progress
 pub mod Solve

@@ -1,5 +1,5 @@
 -- What a run of the solver does outside, by its status.
-use Rattle.std.specs.Prelude.{◌≡◌, ℕ, ◌<◌, ◌≤◌, Bool, true, false, List, [], ◌∷◌, ◌++◌, ◌⊎◌, length, Option, None, Some, is_some}
+use Rattle.std.specs.Prelude.{◌≡◌, ℕ, ◌<◌, ◌≤◌, Bool, true, false, List, [], ◌∷◌, ◌++◌, ◌⊎◌, length, Option, None, Some}
 use Rattle.sb_world.specs.Outside.{Outside, open_at, create_at, source_of, Rose}
 use Rattle.sb_world.specs.Moved.{moved_by, writing, writing_all}
 use Rattle.sb_world.specs.declared.InPort.TheVariants as in_port
@@ -8,28 +8,11 @@ use Rattle.sb_reader.specs.Tokens.{is_open_gap}
 use Rattle.sb_reader.specs.Entries.{Entry, Begins}
 use Rattle.sb_script.specs.Replies.{is_exit}
 use Rattle.sb_script.specs.Scripts.{unfinished_line}
-use Rattle.sb_words.specs.SolverWords.{script_of, proof_of}
 use Rattle.sb_session.specs.declared.solve.SolveStatus.{SolveStatus}
 use Rattle.sb_session.specs.declared.solve.SolveStatus.TheVariants.{Done, Unfinished, Usage, Fault, NoMemory, InputLimit}
 use Rattle.sb_session.specs.Commanding.{CutOf}
+use Rattle.sb_session.specs.Replying.{Asked, asks_proof}
 use Rattle.sb_session.specs.Reading.{IsFront, IsAll, UpToExit, AllAnswered, Cut, end_writes}
-
--- What is asked of a run.
-pub record Asked : Type 0 where
-  -- the file that holds the script; without one standard input does
-  pub script : Option (List ℕ)
-  -- the file to which the proof goes, where one is asked for
-  pub proof : Option (List ℕ)
-  -- a script of so many bytes is not read to its end
-  pub limit : ℕ
-
--- what is asked by the names of a script and of a proof
-abbrev pub asked_for : Option (List ℕ) → Option (List ℕ) → ℕ → Asked
-asked_for script proof limit = record { script = script; proof = proof; limit = limit }
-
--- what the program's words ask, where they are taken, and no more bytes than so many are to be read
-abbrev pub asked_by : List (List ℕ) → ℕ → Asked
-asked_by words limit = asked_for (script_of words) (proof_of words) limit
 
 abbrev pub created : Option (List ℕ) → Outside → Outside
 created None o = o
@@ -38,10 +21,6 @@ created (Some name) o = create_at out_port.Proof (Some name) o
 -- the outside once the script is opened, and what takes the proof is created
 abbrev pub opened : Asked → Outside → Outside
 opened asked o = created asked.proof (open_at in_port.Script asked.script o)
-
--- whether a proof is asked for
-abbrev pub asks_proof : Asked → Bool
-asks_proof asked = is_some asked.proof
 
 -- All of the script was read, it ends outside a form, each entry is answered, and the proof is ended.
 pub record AnsweredToTheEnd (asked : Asked) (old new : Outside) : Type 0 where

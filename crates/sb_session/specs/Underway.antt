@@ -8,7 +8,8 @@ use Rattle.sb_session.specs.declared.solve.Pause.TheVariants.{Exited, Waiting, E
 use Rattle.sb_session.specs.Progress.{Sofar}
 use Rattle.sb_session.specs.Reading.{IsFront, IsAll}
 use Rattle.sb_session.specs.Pausing.{Pauses, NoneLeft}
-use Rattle.sb_session.specs.Solve.{Asked, opened, asks_proof}
+use Rattle.sb_session.specs.Replying.{Asked, asks_proof}
+use Rattle.sb_session.specs.Solve.{opened}
 
 -- The session pauses, or an entry is answered and the next may come.
 abbrev pub Turns : Option Pause → Outside → List ℕ → feed.Unanswered → SessionState → Outside → Type 0

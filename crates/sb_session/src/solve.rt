@@ -16,7 +16,8 @@ ghost use Rattle.sb_session.specs.Progress.{Sofar, status_by};
 ghost use Rattle.sb_session.specs.Reading.{Cut};
 ghost use Rattle.sb_session.specs.Pausing.{Pauses};
 ghost use Rattle.sb_session.specs.Underway.{Turns, StaysOpen, IsRead, AllRead};
-ghost use Rattle.sb_session.specs.Solve.{Asked, asked_for, asked_by, asks_proof, created, opened, Run, WrongWords, CountsFaults, CutShort, CutInText, IsBounded};
+ghost use Rattle.sb_session.specs.Replying.{Asked, AnswersBy, asked_for, asked_by, asks_proof};
+ghost use Rattle.sb_session.specs.Solve.{created, opened, Run, WrongWords, CountsFaults, CutShort, CutInText, IsBounded};
 
 use crate::command::{Session, Stop, Went};
 use sb_reader::{Ending, Feed, Next};
@@ -56,6 +57,14 @@ const PIECE: usize = 0x1_0000;
 pub fn solve_top<W: World>(alloc: Global, words: &[String], world: &mut W) -> SolveStatus
     ensures usage { are_taken (map string_bytes words.now) ≡ false
         → WrongWords result (W.outside world.old) (W.outside world.new) }
+
+    // What is read of the script, and what is answered. Who relies on the answers alone needs no other clause, and none
+    // of the definitions of proofs.
+    ensures answers { are_taken (map string_bytes words.now) ≡ true
+        → AnswersBy (asked_by (map string_bytes words.now) (2 ^ 32)) result (W.outside world.old)
+        (W.outside world.new) }
+
+    // The same with the lines of the proof.
     ensures run { are_taken (map string_bytes words.now) ≡ true
         → Run (asked_by (map string_bytes words.now) (2 ^ 32)) result (W.outside world.old) (W.outside world.new) }
     ensures faults { CountsFaults result (W.faults world.old) (W.faults world.new) }
@@ -93,6 +102,8 @@ pub fn solve_within<W: World>(
 ) -> SolveStatus
     ensures usage { are_taken (map string_bytes words.now) ≡ false
         → WrongWords result (W.outside world.old) (W.outside world.new) }
+    ensures answers { are_taken (map string_bytes words.now) ≡ true
+        → AnswersBy (asked_by (map string_bytes words.now) limit) result (W.outside world.old) (W.outside world.new) }
     ensures run { are_taken (map string_bytes words.now) ≡ true
         → Run (asked_by (map string_bytes words.now) limit) result (W.outside world.old) (W.outside world.new) }
     ensures faults { CountsFaults result (W.faults world.old) (W.faults world.new) }
