@@ -6,7 +6,8 @@ use Rattle.sb_reader.specs.Entries.{Entry}
 use Rattle.sb_words.specs.SolverWords.{are_taken}
 use Rattle.sb_session.specs.declared.solve.SolveStatus.{SolveStatus}
 use Rattle.sb_session.specs.declared.solve.SolveStatus.TheVariants as status
-use Rattle.sb_session.specs.Solve.{Asked, asked_by, asks_proof, opened, IsBounded}
+use Rattle.sb_session.specs.Replying.{Asked, asked_by, asks_proof}
+use Rattle.sb_session.specs.Solve.{opened, IsBounded}
 use Rattle.sb_session.specs.Certifying.{AreAllEntries, IsCertified}
 use Rattle.sb_rulebook.specs.Accepted.{Accepted}
 use Rattle.sb_sound.specs.Outcomes.{AreEntriesOf}

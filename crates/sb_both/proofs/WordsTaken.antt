@@ -3,7 +3,7 @@ use Rattle.std.proofs.Common.{◌≡◌, ◌^◌, true, refl}
 use Rattle.clap.proofs.OnLiterals.{clap_on_literals}
 use Rattle.sb_words.specs.SolverWords as solve_words
 use Rattle.sb_words.specs.CheckerWords as check_words
-use Rattle.sb_session.specs.Solve.{asked_by}
+use Rattle.sb_session.specs.Replying.{asked_by}
 use Rattle.sb_check.specs.Running.{IsAsked}
 use Rattle.sb_both.specs.Runs.{solver_words, of_solver, checker_words, of_checker}
 
