@@ -88,7 +88,7 @@ pub use Rattle.sb_refute.specs.Backing.{AreUpTo, Backing, Backs, Evidences, IsEm
 pub use Rattle.sb_refute.specs.declared.evidence.Asserted.{Asserted}
 pub use Rattle.sb_refute.specs.declared.evidence.EmptyClause.{EmptyClause}
 pub use Rattle.sb_solve.proofs.CallerLemmas.{backs-again, true-behind}
-pub use Rattle.sb_solve.specs.Declared.{are_declared}
+pub use Rattle.sb_solve.specs.SortedAtoms.{are_declared}
 pub use Rattle.sb_solve.specs.Solved.{AreOfLevels, AreTrueAt, IsSolved, IsValued, OccursAt}
 pub use Rattle.sb_solve.specs.Truth.{IsTrue}
 pub use Rattle.sb_solve.specs.Values.{are_words_there, is_word_there, truth_in, word_in, word_or_empty, word_there}

@@ -76,7 +76,7 @@ pub use Rattle.sb_solve.specs.Answered.{AreLiterals, IsAnswered, IsLiteral, term
 pub use Rattle.sb_solve.specs.Decided.{AreKept, IsDecided, IsGiven, IsKept}
 pub use Rattle.sb_solve.specs.Entailed.{AreEntailed, AssertedIsEntailed, ContinuedAreEntailed, DroppedAreEntailed, EntailedInLarger, EntailedOverMore, GateIsEntailed, NoneAreEntailed, RefutedAreContradicted, RefutedAreFalse, SearchedAreEntailed, with_clause}
 pub use Rattle.sb_solve.specs.Gathering.{Closes, Follow}
-pub use Rattle.sb_solve.specs.Declared.{are_declared, is_sorted}
+pub use Rattle.sb_solve.specs.SortedAtoms.{are_declared, is_sorted}
 pub use Rattle.sb_solve.specs.Modelled.{HasLive}
 pub use Rattle.sb_solve.specs.Searched.{Answers, AreAmong, AreTaken, HasCore, IsDone, IsNumbered, IsSearched, IsValuedBy, Runs, backing_in}
 pub use Rattle.sb_solve.specs.Solved.{AreOfLevels, AreTrueAt, IsSolved, level_at}

@@ -3,7 +3,7 @@ pub mod Wanted
 pub mod Gathering
 pub mod Values
 pub mod Decided
-pub mod Declared
+pub mod SortedAtoms
 pub mod Entailed
 pub mod Truth
 pub mod Answered

@@ -3,7 +3,7 @@ use Rattle.std.specs.Prelude.{◌≡◌, ◌≢◌, ℕ, ◌<◌, true, List, []
 use Rattle.sb_solve.specs.Words.{AllKept, Asserted, Backing, Backs, EvidencesUncounted, Grows, HasGates, HaveRegexesBelow, IsStatement, Lit, Regex, Stacked, Store, Term, asked_in, asserted, asserted_at, atoms_in, live, state_of, translation}
 use Rattle.sb_term.specs.Numbered.{term_at}
 use Rattle.sb_atoms.specs.Numbered as table
-use Rattle.sb_solve.specs.Declared.{are_declared}
+use Rattle.sb_solve.specs.SortedAtoms.{are_declared}
 use Rattle.sb_solve.specs.Solved.{AreOfLevels, level_at}
 
 -- the number is of the term of the live assertion at the place, on this level

@@ -2,7 +2,7 @@
 
 ghost use Rattle.std.specs.Prelude.{◌≡◌, ◌<◌, ◌≤◌, true, false, length, IfOk, OnOk};
 ghost use Rattle.sb_solve.specs.Words.{All, AllKept, AreTerms, Backs, CountsTapeFault, Evidences, Grows, HaveRegexesBelow, IsCounted, IsStoreOf, asked_in, is_decided, is_well_sorted, list_all, live, live_terms, state_of};
-ghost use Rattle.sb_solve.specs.Declared.{are_declared};
+ghost use Rattle.sb_solve.specs.SortedAtoms.{are_declared};
 ghost use Rattle.sb_solve.specs.Solved.{AreOfLevels, IsSolved};
 ghost use Rattle.sb_solve.specs.Truth.{IsTrue};
 

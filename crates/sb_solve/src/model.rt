@@ -4,7 +4,7 @@
 ghost use Rattle.std.specs.Prelude.{◌≡◌, ℕ, true, List, IfOk};
 ghost use Rattle.sb_solve.specs.Words.{Kept, Lit, Regex, state_of};
 ghost use Rattle.sb_solve.specs.Answered.{IsAnswered};
-ghost use Rattle.sb_solve.specs.Declared.{are_declared};
+ghost use Rattle.sb_solve.specs.SortedAtoms.{are_declared};
 ghost use Rattle.sb_solve.specs.Modelled.{HasLive};
 ghost use Rattle.sb_solve.specs.Solved.{AreTrueAt};
 ghost use Rattle.sb_solve.specs.Values.{are_words_there};

@@ -4,7 +4,7 @@ ghost use Rattle.std.specs.Prelude.{◌≡◌, [], true, take, length, IfOk, OnO
 ghost use Rattle.sb_clauses.specs.Propagation.{has_room_for};
 ghost use Rattle.sb_solve.specs.Words.{AreDistinct, CountsTapeFault, HaveRegexesBelow, IsStore, Stand, Stands, state_of};
 ghost use Rattle.sb_refute.specs.Backing.{IsLowestEmpty};
-ghost use Rattle.sb_solve.specs.Declared.{are_declared};
+ghost use Rattle.sb_solve.specs.SortedAtoms.{are_declared};
 ghost use Rattle.sb_solve.specs.Searched.{AreAmong, AreTaken, HasCore, HasModel, IsDone, IsNumbered, Runs, backing_in};
 ghost use Rattle.sb_solve.specs.Wanted.{AreWanted};
 
