@@ -15,7 +15,7 @@ pub returns-in_err-take-in-Line-clause-err : goal.returns-in_err-take-in-Line-cl
 returns-in_err-take-in-Line-clause-err g c =
     let e = err_from_is_err_and c.from_residual-in_err-take-in-Line.result
     c.from_residual-in_err-take-in-Line.ensures.1 in
-    turn_refused c.from_residual-in_err-take-in-Line.result e.0 c.in_err-take-in-Line.field-0 _ c.in-Line.ended _
+    turn_refused c.from_residual-in_err-take-in-Line.result e.0 c.in_err-take-in-Line.field-0.0 _ c.in-Line.ended _
     c.line.result.now _ _ _ _ e.1 e.2 c.refusal_is_final.ensures c.in-Line.is c.in_ok-ended.ensures.ok c.line.ensures
     c.in_err-take-in-Line.ensures.err
 
