@@ -56,7 +56,7 @@ pub use Rattle.sb_search.specs.declared.choices.Choices.{Choices}
 pub use Rattle.sb_search.specs.declared.found.Found.{Found}
 pub use Rattle.sb_atoms.proofs.CallerLemmas.{all_say, atoms_kept, atoms_more, earlier_table}
 pub use Rattle.sb_atoms.specs.GateClauses.{atom_at, gate_clauses}
-pub use Rattle.sb_atoms.specs.Numbered.{over}
+pub use Rattle.sb_atoms.specs.Numbered.{Names, over}
 pub use Rattle.sb_atoms.specs.Translated.{AreDefined, HasNoLiteral, brought_translation, has_declared, have_declared}
 pub use Rattle.sb_stack.proofs.CallerLemmas.{live_laid, same_sort, value_there}
 pub use Rattle.sb_stack.specs.Speaking.{is_one_of, speak_of, speaks_of}

@@ -23,7 +23,7 @@ unreachable-requires g c =
     c.requires.sorted is.stands
     (subst (λ (ts : List Term). HasNoLiteral (term_at ts id)) c.table.ensures (c.in_ok-found.ensures.none c.in-None.is))
 
-pub returns : goal.returns-in-Some
+pub returns : goal.returns
 returns g c =
     let s = c.args.stack.now in
     let asked = asked_in (state_of s) in
