@@ -1,6 +1,7 @@
 -- Atoms over declared constants stay so, since constants keep their sorts.
-use Rattle.sb_session.proofs.Words.{◌≡◌, ℕ, Bool, true, false, if◌then◌else◌, List, [], ◌∷◌, Option, Some, None, slice_get, refl, sym, ap, ◌∙◌, subst, false≢true, AtomOver, Entry, HasDeclared, IsFit, IsStep, Proving, Sort, State, Step, asked_in, list_all, step_of, is_sorted}
+use Rattle.sb_session.proofs.Words.{◌≡◌, ℕ, Bool, true, false, if◌then◌else◌, List, [], ◌∷◌, Option, Some, None, refl, sym, ap, ◌∙◌, subst, false≢true, AtomOver, Entry, HasDeclared, IsFit, IsStep, Proving, Sort, State, Step, asked_in, step_of, is_sorted}
 use Rattle.std.proofs.Common.{◌==◌, zero, suc}
+use Rattle.std.specs.List.{list_all, slice_get}
 use Rattle.std.proofs.lemmas.Bool.{and_parts}
 use Rattle.std.proofs.lemmas.Option.{same_Some}
 use Rattle.sb_facts.proofs.CallerLemmas.{all_weaker, equal_itself, same_number}
@@ -114,15 +115,15 @@ atom_still before now defaults keeps (iff_atom l m) h = refl
 
 keeps_by : (x : meaning.Step) (old new : State) (step : Step) → IsStep x step old new → IsFit old → LeadsOn old x
     → KeepsSorts (asked_in old) (asked_in new) × IsFit new
-keeps_by (meaning.leaves (meaning.above level) text s) old new (code.Left bytes count) h fit leads =
+keeps_by (meaning.leaves (meaning.above level) reply s) old new (code.Left bytes count) h fit leads =
     subst (λ (t : State). KeepsSorts (asked_in old) (asked_in t) × IsFit t) (sym h.1.1) (leads.0.sorts, leads.1)
-keeps_by (meaning.leaves meaning.all text s) old new (code.Left bytes count) h fit leads =
+keeps_by (meaning.leaves meaning.all reply s) old new (code.Left bytes count) h fit leads =
     subst (λ (t : State). KeepsSorts (asked_in old) (asked_in t) × IsFit t) (sym h.1.1) leads
-keeps_by (meaning.answers text s) old new (code.Answer bytes) h fit leads =
+keeps_by (meaning.answers reply s) old new (code.Answer bytes) h fit leads =
     subst (λ (t : State). KeepsSorts (asked_in old) (asked_in t) × IsFit t) (sym h.1) (leads.0.sorts, leads.1)
 keeps_by (meaning.checks []) old new code.Check h fit leads =
     subst (λ (t : State). KeepsSorts (asked_in old) (asked_in t) × IsFit t) (sym h) (λ v has. has, fit)
-keeps_by (meaning.exits text) old new (code.Exit bytes) h fit leads =
+keeps_by (meaning.exits reply) old new (code.Exit bytes) h fit leads =
     subst (λ (t : State). KeepsSorts (asked_in old) (asked_in t) × IsFit t) (sym h.1) (λ v has. has, fit)
 keeps_by _ old new _ h fit leads = absurd h
 
