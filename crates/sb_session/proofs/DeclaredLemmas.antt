@@ -33,7 +33,7 @@ fits_at : (sorts : List Sort) (n : ℕ) (x : Value) → list_all has_default sor
 fits_at sorts n x defaults here serial j there = by (n == serial) refl
   where
     by : (b : Bool) → (n == serial) ≡ b → is_of j (if b then x else default_of j) ≡ true
-    by true is = here j (ap (slice_get sorts) (same_number n serial is) ∙ there)
+    by true is = here j (ap (slice_get sorts) (sym (same_number n serial is)) ∙ there)
     by false is = at_place has_default sorts serial j defaults there
 
 -- no value of another sort is of this one
@@ -139,4 +139,4 @@ pub declared_left : (old new : State) (before left : Proving)
     → left.evidence.atoms ≡ before.evidence.atoms → HasDeclared old before → HasDeclared new left
 declared_left old new before left stay same h =
     ap (list_all (is_sorted new.sorts)) same
-    ∙ all_weaker (is_sorted old.sorts) (is_sorted new.sorts) before.evidence.atoms stay h
+    ∙ all_weaker (is_sorted old.sorts) (is_sorted new.sorts) stay before.evidence.atoms h
