@@ -3,7 +3,7 @@ use Rattle.std.specs.Prelude.{ℕ, ◌^◌, List, [], ◌∷◌, Some, codes}
 use Rattle.sb_reader.specs.Entries.{Entry}
 use Rattle.sb_rulebook.specs.Accepted.{Accepted}
 use Rattle.sb_sound.specs.Outcomes.{AreEntriesOf}
-use Rattle.sb_session.specs.Solve as solve
+use Rattle.sb_session.specs.Replying as solve
 use Rattle.sb_check.specs.Running as check
 
 -- The proof is accepted along with all entries of the script.
