@@ -1,7 +1,7 @@
 -- The meaning of a term under a valuation, and its truth (SMT-LIB 2.6: theories Core, Ints and Unicode Strings).
 use Rattle.std.specs.Prelude.{ℕ, ℤ, pos, ◌+ℤ◌, ◌-ℤ◌, ◌*ℤ◌, Bool, true, false, not, ◌&&◌, ◌||◌, ◌==◌, if◌then◌else◌, List, [], ◌∷◌, length}
 use Rattle.std.specs.Ordering.{int_cmp, is_lt, is_eq}
-use Rattle.std.specs.List.{list_all, flat_map}
+use Rattle.std.specs.List.{list_all, list_any, flat_map}
 use Rattle.sb_lang.specs.RegLan as reglan
 use Rattle.sb_lang.specs.RegLan.{RegLan}
 use Rattle.sb_lang.specs.Membership.{in_re, is_word}
@@ -39,12 +39,10 @@ reglan_in (means_reglan R) = R ∷ []
 reglan_in _ = []
 
 abbrev pub all_true : List Bool → Bool
-all_true [] = true
-all_true (b ∷ bs) = b && all_true bs
+all_true bs = list_all (λ b. b) bs
 
 abbrev pub some_true : List Bool → Bool
-some_true [] = false
-some_true (b ∷ bs) = b || some_true bs
+some_true bs = list_any (λ b. b) bs
 
 -- implication leans to the right
 abbrev pub implied : List Bool → Bool
@@ -225,5 +223,4 @@ holds term v = all_true (truth_in (meaning_of v term))
 
 -- each term is true under the valuation
 abbrev pub all_hold : List Term → Valuation → Bool
-all_hold [] v = true
-all_hold (t ∷ ts) v = holds t v && all_hold ts v
+all_hold ts v = list_all (λ t. holds t v) ts

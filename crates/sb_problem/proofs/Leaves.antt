@@ -1,5 +1,6 @@
 -- Words and ranges.
 use Rattle.std.proofs.Common.{◌≡◌, ℕ, ◌≤◌, ◌<◌, true, false, nat_le, if◌then◌else◌, List, [], ◌∷◌, length, get_or, refl, sym, ap, ◌∙◌, arith, Result, IfOk}
+use Rattle.std.proofs.lemmas.Bool.{and_parts}
 use Rattle.std.proofs.lemmas.Bool.Decides.{nat_tests}
 use Rattle.sb_class.proofs.CallerLemmas.{in_ranges-one}
 use Rattle.sb_class.specs.Ranges.{Range, in_range, in_ranges, rises_from, IsCanonical}
@@ -7,7 +8,7 @@ use Rattle.sb_lang.specs.Regex.{Regex, none, set}
 use Rattle.sb_lang.specs.Constructors.{any_character, mkset}
 use Rattle.sb_lang.specs.Normal.{range_regex}
 use Rattle.sb_regex.specs.Numbered.{Names}
-use Rattle.sb_word.specs.Words.{IsWord, are_characters}
+use Rattle.sb_word.specs.Words.{IsWord, is_character, are_characters}
 
 -- what is named by a regex that is the same
 pub named : {E : Type 0} (rs : List Regex) (found : Result ℕ E) (r s : Regex) → s ≡ r → IfOk found (λ id. Names rs id r)
@@ -54,7 +55,8 @@ unfolding rises_from
 one_canonical a b h k = grind (arith, nat_tests)
 
 last_character : (b : ℕ) → are_characters (b ∷ []) ≡ true → b ≤ 0x2ffff
-last_character b h = grind (arith, nat_tests)
+last_character b h =
+    let inside : is_character b ≡ true = (and_parts (is_character b) true h).0 in grind (arith, nat_tests, inside)
 
 set_of_one : (r : Range) → mkset (r ∷ []) ≡ set (r ∷ [])
 unfolding mkset
