@@ -1,15 +1,14 @@
 -- What commands do: what holds of what each row of the table makes holds of what the command of a form does.
-use Rattle.std.proofs.Common.{◌≡◌, ℕ, Bool, true, false, ◌&&◌, if◌then◌else◌, List, [], ◌∷◌, map, codes, Option, Some, None, IfSome, sym, ap, ◌∙◌, refl}
+use Rattle.std.proofs.Common.{◌≡◌, ℕ, Bool, true, false, ◌&&◌, if◌then◌else◌, List, [], ◌∷◌, codes, Option, Some, None, IfSome, sym, ap, ◌∙◌, refl}
 use Rattle.std.specs.Prelude.{option_map}
 use Rattle.std.specs.List.{list_all}
 use Rattle.std.specs.Cmp.Lexicographic.{same_text}
 use Rattle.sb_reader.specs.Forms.{Form, Keyword, Numeral, Words, Group, more}
 use Rattle.sb_script.specs.Names.{Name, is_name, found_in}
-use Rattle.sb_script.specs.Brought.{a_command, is_brought}
 use Rattle.sb_script.specs.Texts.{number_of}
 use Rattle.sb_script.specs.Commands.{Parameter, list_of, symbol_in, declarable, is_sort_form, is_parameter, parameters_of, is_item, is_assumption_form, constant_shape, function_shape, definition_shape, logic_shape, option_shape, assert_shape, assuming_shape, value_shape, keyword_shape, info_shape, levels_shape, echo_shape, bare}
 use Rattle.sb_script.specs.Steps.{is_unsupported}
-use Rattle.sb_script.specs.Replies.{Effect, Shape, commands, answered_by, answered, shaped_by, shaped}
+use Rattle.sb_script.specs.Replies.{Effect, Shape, commands, shaped_by, shaped}
 use Rattle.sb_script.proofs.FoundLemmas.{Each}
 
 module _ (P : Effect → Type 0) where
@@ -107,13 +106,8 @@ module _ (P : Effect → Type 0) where
   abbrev pub Row : Name × Shape → Type 0
   Row row = Unless (is_name row.0 (codes "exit")) (Gives row.1)
 
-  answered_gives : P is_unsupported → (b : Bool) (shape : Shape) → Gives shape → Gives (answered_by b shape)
-  answered_gives out true shape gives forms = gives forms
-  answered_gives out false shape gives forms = mapped (λ effect. is_unsupported) (λ effect. out) (shape forms)
-
   rows_give : P is_unsupported → (rows : List (Name × Shape)) → Each Row rows → (name : Name)
-      → is_name name (codes "exit") ≡ false → (forms : List Form)
-      → IfSome (shaped_by (map answered rows) name forms) P
+      → is_name name (codes "exit") ≡ false → (forms : List Form) → IfSome (shaped_by rows name forms) P
   rows_give out [] each name other forms = out
   rows_give out (row ∷ rows) each name other forms =
       step (is_name name row.0) refl (rows_give out rows each.1 name other forms)
@@ -122,13 +116,12 @@ module _ (P : Effect → Type 0) where
       given true is gives = absurd (Prim.cc (is))
       given false is gives = gives
 
-      step : (b : Bool) → is_name name row.0 ≡ b → IfSome (shaped_by (map answered rows) name forms) P
-          → IfSome (elim (if b then Some (answered row).1 else found_in (map answered rows) name) as
+      step : (b : Bool) → is_name name row.0 ≡ b → IfSome (shaped_by rows name forms) P
+          → IfSome (elim (if b then Some row.1 else found_in rows name) as
           (λ _. Option Effect) [ Some shape ↦ shape forms | None ↦ Some is_unsupported ]) P
       step true same rest =
           let key = ap (λ n. is_name n (codes "exit")) (same_text name row.0 (sym same)) in
-          answered_gives out (is_brought (a_command row.0)) row.1
-          (given (is_name row.0 (codes "exit")) (sym key ∙ other) each.0) forms
+          given (is_name row.0 (codes "exit")) (sym key ∙ other) each.0 forms
       step false same rest = rest
 
   pub command_gives : P is_unsupported → Each Row commands → (name : Name) → is_name name (codes "exit") ≡ false

@@ -11,7 +11,6 @@ pub data Feature : Type 0 where
   a_symbol : Symbol → Feature
   -- a sort that constants may have
   a_sort : Sort → Feature
-  a_command : Name → Feature
   an_option : Name → Feature
   -- numerals as terms
   numerals : Feature
@@ -24,10 +23,7 @@ pub data Feature : Type 0 where
   -- the proof of a check, so that the limits on sizes count, past which there is none
   proofs : Feature
 
--- the commands, the options, the symbols and the sorts of constants that are to come
-abbrev pub commands_to_come : List Name
-commands_to_come = codes "check-sat-assuming" ∷ codes "get-unsat-assumptions" ∷ []
-
+-- the options, the symbols and the sorts of constants that are to come
 abbrev pub options_to_come : List Name
 options_to_come = codes ":reproducible-resource-limit" ∷ []
 
@@ -141,7 +137,6 @@ abbrev mutual
 abbrev pub is_brought : Feature → Bool
 is_brought (a_symbol s) = is_brought_symbol s
 is_brought (a_sort sort) = is_brought_sort sort
-is_brought (a_command name) = not (is_among commands_to_come name)
 is_brought (an_option name) = not (is_among options_to_come name)
 is_brought numerals = false
 is_brought lets = true

@@ -1,4 +1,4 @@
--- Computed examples of what commands do by their shapes, of those too that are not answered yet.
+-- Computed examples of what commands do by their shapes.
 use Rattle.std.specs.Prelude.{◌≡◌, [], ◌∷◌, codes, Some, None, refl}
 use Rattle.sb_reader.specs.Forms.{Form, Symbol, QuotedSymbol, Keyword, Numeral, Words}
 use Rattle.sb_script.specs.ReadingExamples.{group}
@@ -28,21 +28,21 @@ two_numbers = refl
 a_name_of_levels : shaped_by commands (codes "pop") (x ∷ []) ≡ None
 a_name_of_levels = refl
 
--- before they are answered, such commands are left out, and a wrong shape comes first
-not_answered_yet : shaped (codes "get-unsat-assumptions") [] ≡ Some is_unsupported
-not_answered_yet = refl
+-- a wrong shape comes first, also of what is left out
+asks_for_assumptions : shaped (codes "get-unsat-assumptions") [] ≡ Some get_unsat_assumptions
+asks_for_assumptions = refl
 
 a_number_too_many : shaped (codes "get-unsat-assumptions") (one ∷ []) ≡ None
 a_number_too_many = refl
 
-assumes_later : shaped (codes "check-sat-assuming") (group (x ∷ []) ∷ []) ≡ Some is_unsupported
-assumes_later = refl
+assumes : shaped (codes "check-sat-assuming") (group (x ∷ []) ∷ []) ≡ Some (check_sat_assuming (x ∷ []))
+assumes = refl
 
 assumes_no_list : shaped (codes "check-sat-assuming") (x ∷ []) ≡ None
 assumes_no_list = refl
 
-asks_for_a_core_later : shaped (codes "get-unsat-core") [] ≡ Some is_unsupported
-asks_for_a_core_later = refl
+asks_for_a_core : shaped (codes "get-unsat-core") [] ≡ Some is_unsupported
+asks_for_a_core = refl
 
 asks_for_too_much : shaped (codes "get-unsat-core") (one ∷ []) ≡ None
 asks_for_too_much = refl
@@ -117,9 +117,6 @@ resets = refl
 
 resets_assertions : shaped_by commands (codes "reset-assertions") [] ≡ Some reset_assertions
 resets_assertions = refl
-
-unsat_assumptions : shaped_by commands (codes "get-unsat-assumptions") [] ≡ Some get_unsat_assumptions
-unsat_assumptions = refl
 
 -- these are answered
 echoes : shaped (codes "echo") (Words (codes "a") ∷ []) ≡ Some (echo (codes "a"))

@@ -15,7 +15,7 @@ use Rattle.sb_script.specs.Faults.{Fault}
 use Rattle.sb_script.specs.Reading.{read, first_again}
 use Rattle.sb_script.specs.Errors as error
 use Rattle.sb_script.specs.Errors.{Error, first_of}
-use Rattle.sb_script.specs.Brought.{a_command, functions, definitions, is_brought}
+use Rattle.sb_script.specs.Brought.{functions, definitions, is_brought}
 use Rattle.sb_script.specs.Commands.{Parameter, list_of, symbol_in, logic_shape, option_shape, constant_shape, function_shape, definition_shape, assert_shape, value_shape, keyword_shape, info_shape, levels_shape, assuming_shape, echo_shape, bare}
 use Rattle.sb_script.specs.State.{State, Mode, plain, satisfied, refuted, undecided, asserted, Assumption, names_of, constants_of, declared, defined, marked, with_assertion, pushed, popped, without_assertions, start_behind}
 use Rattle.sb_script.specs.Steps.{Step, answers, leaves, checks, exits, above, all, line, quoted, success, fails_by, succeeds, is_unsupported, refusal_error, fault_error, refused_term, list_text}
@@ -328,14 +328,6 @@ commands =
     ∷ (codes "reset", bare reset)
     ∷ (codes "exit", bare exit) ∷ []
 
--- a command that is to come is left out, where it has its shape
-abbrev pub answered_by : Bool → Shape → Shape
-answered_by true shape = shape
-answered_by false shape = λ forms. option_map (λ effect. is_unsupported) (shape forms)
-
-abbrev pub answered : Name × Shape → Name × Shape
-answered row = (row.0, answered_by (is_brought (a_command row.0)) row.1)
-
 -- What a command does, by its name, by a table, with what follows the name. A name that is not in the table is of a
 -- command that is left out.
 abbrev pub shaped_by : List (Name × Shape) → Name → Shape
@@ -343,7 +335,7 @@ shaped_by table name arguments =
     elim (found_in table name) [ Some shape ↦ shape arguments | None ↦ Some is_unsupported ]
 
 abbrev pub shaped : Name → Shape
-shaped name arguments = shaped_by (map answered commands) name arguments
+shaped name arguments = shaped_by commands name arguments
 
 -- what the command of a form does: a list that begins with a symbol without bars
 abbrev pub command_of : Form → Option Effect

@@ -1,4 +1,4 @@
--- Computed examples of commands step by step, of those too that are not answered yet: options, levels, assumptions.
+-- Computed examples of commands step by step: options, levels, assumptions.
 use Rattle.std.specs.Prelude.{◌≡◌, ℕ, negsuc, true, false, List, [], ◌∷◌, ◌++◌, length, codes, refl}
 use Rattle.std.specs.Fmt.{digits}
 use Rattle.sb_reader.specs.declared.feed.Refusal.TheVariants.{StrayClose, BadToken, TooDeep, BareToken}

@@ -318,6 +318,13 @@ refused_or_marked :
 refused_or_marked = refl
 
 -- a definition is no literal of an assumption, and ends what a check found
+no_literal :
+    said_by (define (codes "g") [] (codes "Bool") (name (codes "true")) ∷ command (Symbol (codes "check-sat-assuming") ∷
+    group (name (codes "g") ∷ []) ∷ []) ∷ command (Symbol (codes "check-sat-assuming") ∷ group
+    (of (codes "not") (name (codes "g") ∷ []) ∷ []) ∷ []) ∷ [])
+    ≡ codes "success\n(error \"not a literal\")\n(error \"not a literal\")\n"
+no_literal = refl
+
 ends_a_model : (run (define (codes "g") [] (codes "Bool") (name (codes "true")) ∷ command (Symbol (codes "get-model") ∷
     []) ∷ []) (settled (is_sat ((0, Text (codes "z")) ∷ [])) a_script)).0
     ≡ codes "success\n(error \"no model\")\n"
