@@ -5,7 +5,8 @@ use Rattle.std.proofs.lemmas.List.{append_assoc}
 use Rattle.sb_rulebook.specs.Refusals.{Refusal}
 use Rattle.sb_rulebook.specs.Lines.{Line}
 use Rattle.sb_rulebook.specs.Reading.{LineText, read}
-use Rattle.sb_rulebook.specs.Judging.{Event, ends, Phase, at_rest, at_check, at_end, behind_end, stopped, Progress, met, meets, stop, takes_in, takes_lines, takes_read, takes, takes_all, is_at_check, through, along, closed, closed_in}
+use Rattle.sb_rulebook.specs.Judging.{Event, ends, Phase, at_rest, at_check, at_end, behind_end, stopped, Progress, met, meets, stop, takes_in, is_at_check, closed, closed_in}
+use Rattle.sb_rulebook.specs.JudgingTexts.{takes_lines, takes_read, takes, takes_all, through, along}
 use Rattle.sb_rulebook.specs.JudgingLaws.{LinesAreTakenInOrder, EventsAreMetInOrder, CheckGoesThroughInOrder, WaitingCheckTookAll, CheckTakesFirstLines, ProofGoesAlongInOrder, RefusalIsFinal}
 
 pub lines_in_order : LinesAreTakenInOrder

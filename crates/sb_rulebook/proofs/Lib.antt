@@ -7,6 +7,7 @@ mod ReadFacts
 mod ReadLines
 mod LineFacts
 mod JudgingFacts
+mod PrintedFacts
 mod Accepting
 mod SameFacts
 mod NumberFacts

@@ -8,7 +8,8 @@ use Rattle.sb_rulebook.specs.Reading.{LineText, read}
 use Rattle.sb_rulebook.specs.Kept.{AllKept, nothing_kept}
 use Rattle.sb_rulebook.specs.Follows.{follows}
 use Rattle.sb_rulebook.specs.Verdicts.{Question, refusal_of}
-use Rattle.sb_rulebook.specs.Judging.{Event, leaves_above, leaves_all, asks, ends, Phase, at_rest, at_check, at_end, behind_end, stopped, Progress, beginning, met, meets, stop, takes_first, takes_verdict, takes_kept, takes_at_check, takes_last, takes_in, takes_lines, takes_read, takes, takes_all, is_at_check, through, along}
+use Rattle.sb_rulebook.specs.Judging.{Event, leaves_above, leaves_all, asks, ends, Phase, at_rest, at_check, at_end, behind_end, stopped, Progress, beginning, met, meets, stop, takes_first, takes_verdict, takes_kept, takes_at_check, takes_last, takes_in, is_at_check}
+use Rattle.sb_rulebook.specs.JudgingTexts.{takes_lines, takes_read, takes, takes_all, through, along}
 use Rattle.sb_rulebook.specs.KeptLaws.{IsOrderly, BeginningIsOrderly, TakingKeepsOrder, MeetingKeepsOrder, ProofsKeepOrder}
 use Rattle.sb_rulebook.proofs.KeptFacts.{nothing_is_orderly, line_keeps_order, dropping_keeps_order, all_dropped_keeps_order, counting_again_keeps_order}
 

@@ -12,7 +12,8 @@ use Rattle.sb_rulebook.specs.Refusals.{Refusal, reason}
 use Rattle.sb_rulebook.specs.Lines.{Said, said_sat, said_unsat, said_unknown, said_unsupported}
 use Rattle.sb_rulebook.specs.Kept.{Asked}
 use Rattle.sb_rulebook.specs.Verdicts.{Question}
-use Rattle.sb_rulebook.specs.Judging.{Event, leaves_above, leaves_all, asks, Outcome, accepted, refused, goes_on, judged}
+use Rattle.sb_rulebook.specs.Judging.{Event, leaves_above, leaves_all, asks, Outcome, accepted, refused, goes_on}
+use Rattle.sb_rulebook.specs.JudgingTexts.{judged}
 
 -- The events of a script.
 

@@ -1,6 +1,6 @@
 -- Atoms: what the literals of a proof speak of, and when an atom is true. Atoms stand in a table and are named by
 -- their number in it; an atom names only those before it.
-use Rattle.std.specs.Prelude.{ℕ, ℤ, pos, ◌+ℤ◌, ◌*ℤ◌, neg_ℤ, Bool, true, false, not, ◌&&◌, ◌||◌, ◌==◌, nat_lt, int_le, if◌then◌else◌, List, [], ◌∷◌, ◌++◌, length, slice_get, Option, unwrap_or}
+use Rattle.std.specs.Prelude.{ℕ, ℤ, pos, ◌+ℤ◌, ◌*ℤ◌, neg_ℤ, Bool, true, false, not, ◌&&◌, ◌||◌, ◌==◌, nat_lt, int_le, if◌then◌else◌, List, [], ◌∷◌, ◌++◌, map, length, slice_get, Option, Some, None, option_map, unwrap_or}
 use Rattle.std.specs.List.{list_all, list_any, flat_map, position_from}
 use Rattle.std.specs.Ordering.{int_eq, is_gt}
 use Rattle.std.specs.Cmp.Lexicographic.{pointwise}
@@ -11,7 +11,7 @@ use Rattle.sb_lang.specs.Membership.{is_word}
 use Rattle.sb_lang.specs.Regex.{Regex}
 use Rattle.sb_lang.specs.Order.{regex_eq}
 use Rattle.sb_lang.specs.Language.{language}
-use Rattle.sb_meaning.specs.Terms.{boolean, integer, text}
+use Rattle.sb_meaning.specs.Terms.{Sort, boolean, integer, text}
 use Rattle.sb_meaning.specs.Values.{Valuation, Text, Int, Truth, value_in}
 use Rattle.sb_script.specs.Pieces.{Piece, constant_piece, word_piece}
 use Rattle.sb_script.specs.Sums.{Variable, Summand, int_constant, length_of, serial_of, size_limit, is_within, is_same_variable}
@@ -33,6 +33,54 @@ pub data AtomOver (R : Type 0) : Type 0 where
 
 abbrev pub Atom : Type 0
 Atom = AtomOver Regex
+
+-- What stands in an atom.
+
+-- the literals that it speaks of
+abbrev pub literals_in : {R : Type 0} → AtomOver R → List Lit
+literals_in (and_atom ls) = ls
+literals_in (iff_atom l m) = l ∷ m ∷ []
+literals_in _ = []
+
+abbrev pub piece_constants : Piece → List (ℕ × Sort)
+piece_constants (constant_piece serial) = (serial, text) ∷ []
+piece_constants (word_piece w) = []
+
+abbrev pub variable_constant : Variable → ℕ × Sort
+variable_constant (int_constant serial) = (serial, integer)
+variable_constant (length_of serial) = (serial, text)
+
+-- the constants, each by its serial with the sort that it has
+abbrev pub constants_in : {R : Type 0} → AtomOver R → List (ℕ × Sort)
+constants_in (bool_atom serial) = (serial, boolean) ∷ []
+constants_in (in_atom ps r) = flat_map piece_constants ps
+constants_in (le_atom x k) = variable_constant x ∷ []
+constants_in (sum_atom k ss) = map (λ s. variable_constant s.1) ss
+constants_in _ = []
+
+-- what stands for its regex
+abbrev pub regex_in : {R : Type 0} → AtomOver R → Option R
+regex_in (in_atom ps r) = Some r
+regex_in _ = None
+
+-- the constant of a concatenation that is one constant
+abbrev pub constant_of : List Piece → Option ℕ
+constant_of (constant_piece serial ∷ []) = Some serial
+constant_of _ = None
+
+-- the constant of a membership of it alone, and what stands for the regex
+abbrev pub member_in : {R : Type 0} → AtomOver R → Option (ℕ × R)
+member_in (in_atom ps r) = option_map (λ serial. (serial, r)) (constant_of ps)
+member_in _ = None
+
+-- the atom over what else stands for regexes
+abbrev pub map_atom : {R S : Type 0} → (R → S) → AtomOver R → AtomOver S
+map_atom f (bool_atom serial) = bool_atom serial
+map_atom f (in_atom ps r) = in_atom ps (f r)
+map_atom f (le_atom x k) = le_atom x k
+map_atom f (sum_atom k ss) = sum_atom k ss
+map_atom f (and_atom ls) = and_atom ls
+map_atom f (iff_atom l m) = iff_atom l m
 
 -- Which atoms are well formed.
 

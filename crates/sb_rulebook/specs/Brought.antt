@@ -1,9 +1,8 @@
 -- What of proofs is brought so far, by what is to come. A line of a kind, atom or rule that is to come, or of such a
 -- form of one, is refused by rule. Which is which stands here alone.
-use Rattle.std.specs.Prelude.{ℕ, Bool, true, false, nat_le, List, [], ◌∷◌}
+use Rattle.std.specs.Prelude.{ℕ, Bool, true, false, nat_le, is_some, List}
 use Rattle.sb_lit.specs.declared.clause.Lit.{Lit}
-use Rattle.sb_script.specs.Pieces.{constant_piece}
-use Rattle.sb_rulebook.specs.Atoms.{AtomOver, in_atom, le_atom, sum_atom}
+use Rattle.sb_rulebook.specs.Atoms.{AtomOver, in_atom, le_atom, sum_atom, constant_of}
 use Rattle.sb_rulebook.specs.Lines.{Line, regex_line, atom_line, rule_line, Node, path_node, Rule, order, linear, step}
 
 -- formats are numbered from 1
@@ -19,9 +18,8 @@ is_brought_node (path_node a b) = false
 is_brought_node _ = true
 
 -- Memberships are those of one constant.
-abbrev pub is_brought_atom : AtomOver ℕ → Bool
-is_brought_atom (in_atom (constant_piece serial ∷ []) r) = true
-is_brought_atom (in_atom ps r) = false
+abbrev pub is_brought_atom : {R : Type 0} → AtomOver R → Bool
+is_brought_atom (in_atom ps r) = is_some (constant_of ps)
 is_brought_atom (le_atom x k) = false
 is_brought_atom (sum_atom k ss) = false
 is_brought_atom _ = true

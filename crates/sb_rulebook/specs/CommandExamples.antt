@@ -6,7 +6,8 @@ use Rattle.sb_script.specs.State.{State}
 use Rattle.sb_script.specs.Replies as command
 use Rattle.sb_script.specs.Replies.{Effect}
 use Rattle.sb_script.specs.ReadingExamples.{group}
-use Rattle.sb_rulebook.specs.Judging.{Event, judged}
+use Rattle.sb_rulebook.specs.Judging.{Event}
+use Rattle.sb_rulebook.specs.JudgingTexts.{judged}
 use Rattle.sb_rulebook.specs.Accepted.{events_of, state_behind, answer}
 use Rattle.sb_rulebook.specs.LineLaws.{bytes_of}
 use Rattle.sb_rulebook.specs.ProofExamples.{computing, proof}

@@ -4,7 +4,6 @@ use Rattle.std.specs.Prelude.{ℕ, ◌+◌, Bool, true, false, ◌&&◌, nat_le,
 use Rattle.sb_rulebook.specs.Refusals.{Refusal, misplaced, missing_line}
 use Rattle.sb_rulebook.specs.Brought.{newest_format}
 use Rattle.sb_rulebook.specs.Lines.{Line, header_line, verdict_line, end_line, Said}
-use Rattle.sb_rulebook.specs.Reading.{LineText, texts_of, read}
 use Rattle.sb_rulebook.specs.Kept.{AllKept, nothing_kept, count_again, dropped_above, all_dropped}
 use Rattle.sb_rulebook.specs.Follows.{follows}
 use Rattle.sb_rulebook.specs.Verdicts.{Question, refusal_of}
@@ -102,45 +101,34 @@ takes_in at_end line p = if p.begun then takes_last line p else takes_first line
 takes_in behind_end line p = stop misplaced p
 takes_in (stopped n refusal) line p = p
 
--- lines are due
-abbrev pub takes_lines : Phase → Bool
-takes_lines at_rest = false
-takes_lines (at_check q) = true
-takes_lines at_end = true
-takes_lines behind_end = true
-takes_lines (stopped n refusal) = false
+abbrev pub take_line : Line → Progress → Progress
+take_line line p = takes_in p.phase line p
 
-abbrev pub takes_read : Result Line Refusal → Progress → Progress
-takes_read (Ok line) p = takes_in p.phase line p
-takes_read (Err refusal) p = if takes_lines p.phase then stop refusal p else p
+-- A script. What is taken may be lines, or texts that are read as lines.
 
-abbrev pub takes : LineText → Progress → Progress
-takes text p = takes_read (read text) p
-
--- all of these lines
-abbrev pub takes_all : List LineText → Progress → Progress
-takes_all [] p = p
-takes_all (text ∷ texts) p = takes_all texts (takes text p)
-
--- A script.
+-- all of these, one behind the other
+abbrev pub takes_each : {A : Type 0} → (A → Progress → Progress) → List A → Progress → Progress
+takes_each take [] p = p
+takes_each take (x ∷ xs) p = takes_each take xs (take x p)
 
 abbrev pub is_at_check : Phase → Bool
 is_at_check (at_check q) = true
 is_at_check _ = false
 
--- where a check waits it takes its lines; with the lines that are left
-abbrev pub through : Progress → List LineText → Progress × List LineText
-through p [] = (p, [])
-through p (text ∷ texts) = if is_at_check p.phase then through (takes text p) texts else (p, text ∷ texts)
+-- where a check waits it takes its lines; with those that are left
+abbrev pub goes_through : {A : Type 0} → (A → Progress → Progress) → Progress → List A → Progress × List A
+goes_through take p [] = (p, [])
+goes_through take p (x ∷ xs) = if is_at_check p.phase then goes_through take (take x p) xs else (p, x ∷ xs)
 
--- the events of a script, each with the lines that are due then; with the lines that are left
-abbrev pub along : Progress → List Event → List LineText → Progress × List LineText
-along p [] texts = (p, texts)
-along p (e ∷ es) texts = let r = through (meets e p) texts in along r.0 es r.1
+-- the events of a script, each with the lines that are due then; with those that are left
+abbrev pub goes_along : {A : Type 0} → (A → Progress → Progress) → Progress → List Event → List A
+    → Progress × List A
+goes_along take p [] xs = (p, xs)
+goes_along take p (e ∷ es) xs = let r = goes_through take (meets e p) xs in goes_along take r.0 es r.1
 
 -- all events of a script and all lines of a proof
-abbrev pub along_all : Progress → List Event → List LineText → Progress
-along_all p es texts = let r = along p (es ++ ends ∷ []) texts in takes_all r.1 r.0
+abbrev pub goes_along_all : {A : Type 0} → (A → Progress → Progress) → Progress → List Event → List A → Progress
+goes_along_all take p es xs = let r = goes_along take p (es ++ ends ∷ []) xs in takes_each take r.1 r.0
 
 -- What becomes of a proof.
 
@@ -169,7 +157,3 @@ closed_in _ p = stop missing_line p
 
 abbrev pub closed : Progress → Progress
 closed p = closed_in p.phase p
-
--- what becomes of a proof, by its bytes: its lines are numbered from 1
-abbrev pub judged : List Event → List ℕ → Outcome
-judged es bytes = outcome_of (closed (along_all beginning es (texts_of bytes)))

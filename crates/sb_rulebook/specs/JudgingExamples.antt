@@ -9,7 +9,8 @@ use Rattle.sb_rulebook.specs.Lines.{said_unsat, said_unknown}
 use Rattle.sb_rulebook.specs.Verdicts.{Question}
 use Rattle.sb_rulebook.specs.Reading.{LineText, texts_of}
 use Rattle.sb_rulebook.specs.LineLaws.{bytes_of}
-use Rattle.sb_rulebook.specs.Judging.{Event, leaves_above, leaves_all, asks, Progress, beginning, met, takes, along, along_all, Outcome, accepted, refused, goes_on, outcome_of, judged}
+use Rattle.sb_rulebook.specs.Judging.{Event, leaves_above, leaves_all, asks, Progress, beginning, met, Outcome, accepted, refused, goes_on, outcome_of}
+use Rattle.sb_rulebook.specs.JudgingTexts.{takes, along, along_all, judged}
 use Rattle.sb_rulebook.specs.Accepted.{events_of}
 use Rattle.sb_rulebook.specs.ProofExamples.{computing, question_with, question, proof, judged_lines, changed}
 

@@ -2,7 +2,8 @@
 use Rattle.std.specs.Prelude.{◌≡◌, ℕ, true, if◌then◌else◌, List, [], ◌++◌}
 use Rattle.sb_rulebook.specs.Reading.{LineText}
 use Rattle.sb_rulebook.specs.Refusals.{Refusal}
-use Rattle.sb_rulebook.specs.Judging.{Event, stopped, Progress, takes_all, is_at_check, through, along, along_all, closed}
+use Rattle.sb_rulebook.specs.Judging.{Event, stopped, Progress, is_at_check, closed}
+use Rattle.sb_rulebook.specs.JudgingTexts.{takes_all, through, along, along_all}
 
 -- Lines are taken one behind the other.
 abbrev pub LinesAreTakenInOrder : Type 0

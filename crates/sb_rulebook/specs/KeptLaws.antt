@@ -14,7 +14,8 @@ use Rattle.sb_rulebook.specs.Reading.{LineText}
 use Rattle.sb_rulebook.specs.Kept.{AllKept, Asked, nothing_kept, is_dead, count_again, dropped_above, all_dropped}
 use Rattle.sb_rulebook.specs.Splits.{is_dead_regex}
 use Rattle.sb_rulebook.specs.Follows.{follows}
-use Rattle.sb_rulebook.specs.Judging.{Event, Progress, beginning, meets, takes, along_all}
+use Rattle.sb_rulebook.specs.Judging.{Event, Progress, beginning, meets}
+use Rattle.sb_rulebook.specs.JudgingTexts.{takes, along_all}
 
 -- by a test of equals: none is the same as one before it
 abbrev pub are_distinct : {A : Type 0} → (A → A → Bool) → List A → Bool

@@ -18,10 +18,13 @@ pub mod ClauseRules
 pub mod Follows
 pub mod Verdicts
 pub mod Judging
+pub mod JudgingTexts
 pub mod JudgingLaws
 pub mod Tables
 pub mod KeptLaws
 pub mod Accepted
+pub mod Printed
+pub mod PrintedLaws
 pub mod Relevant
 pub mod ProofExamples
 pub mod TranslationExamples

@@ -19,7 +19,8 @@ use Rattle.sb_rulebook.specs.Refusals.{bad_word, bad_number, unended, misplaced,
 use Rattle.sb_rulebook.specs.Lines.{said_unsat}
 use Rattle.sb_rulebook.specs.LineLaws.{bytes_of}
 use Rattle.sb_rulebook.specs.Verdicts.{Question}
-use Rattle.sb_rulebook.specs.Judging.{asks, Outcome, accepted, refused, judged}
+use Rattle.sb_rulebook.specs.Judging.{asks, Outcome, accepted, refused}
+use Rattle.sb_rulebook.specs.JudgingTexts.{judged}
 use Rattle.sb_rulebook.specs.Accepted.{answer}
 
 -- what the examples compute by

@@ -4,7 +4,7 @@ use Rattle.sb_reader.specs.Forms.{Form, Symbol, Words}
 use Rattle.sb_reader.specs.Entries.{Entry, Command}
 use Rattle.sb_script.specs.ReadingExamples.{group, range}
 use Rattle.sb_script.specs.State as state
-use Rattle.sb_rulebook.specs.Judging.{judged}
+use Rattle.sb_rulebook.specs.JudgingTexts.{judged}
 use Rattle.sb_rulebook.specs.Accepted.{events, answer}
 use Rattle.sb_rulebook.specs.ProofExamples.{computing}
 

@@ -5,6 +5,7 @@ ghost use Rattle.sb_rulebook.specs.Follows.{RefusedLineLeavesKept};
 ghost use Rattle.sb_rulebook.specs.JudgingLaws.{LinesAreTakenInOrder, EventsAreMetInOrder, CheckGoesThroughInOrder, WaitingCheckTookAll, CheckTakesFirstLines, ProofGoesAlongInOrder, RefusalIsFinal};
 ghost use Rattle.sb_rulebook.specs.KeptLaws.{NothingIsOrderly, LineKeepsOrder, DroppingKeepsOrder, AllDroppedKeepsOrder, CountingAgainKeepsOrder, BeginningIsOrderly, TakingKeepsOrder, MeetingKeepsOrder, ProofsKeepOrder, AtomHasItsNumber, RegexHasItsNumber, AtomIsThereByNumber, RegexIsThereByNumber, RegexIsDeadByNumber};
 ghost use Rattle.sb_rulebook.specs.LineLaws.{LineHasOneText, TextHasOneLine, TextIsRead, TextIsOneLine, TextsAreLines, PrintedLinesAreRead, PrintedProofIsRead};
+ghost use Rattle.sb_rulebook.specs.PrintedLaws.{CheckTakesPrintedLines, PrintedProofGoesAlong, PrintedProofIsAccepted};
 ghost use Rattle.sb_rulebook.specs.TranslationLaws.{FittingIsTranslated, LiveAreTranslated, TranslatedFits, TranslationStays};
 
 /// The test of an expansion, which looks at finitely many characters, decides whether each character is in one class,
@@ -48,6 +49,21 @@ pub fn printed_lines_are_read()
 /// The bytes of printed lines alone are read as the lines, one by one.
 pub fn printed_proof_is_read()
     ensures { PrintedProofIsRead }
+{}
+
+/// A check that takes all of some lines takes all of their texts, and comes as far.
+pub fn check_takes_printed_lines()
+    ensures { CheckTakesPrintedLines }
+{}
+
+/// The texts of printed lines come as far along a script as the lines do.
+pub fn printed_proof_goes_along()
+    ensures { PrintedProofGoesAlong }
+{}
+
+/// A proof that is printed line by line is accepted by its bytes.
+pub fn printed_proof_is_accepted()
+    ensures { PrintedProofIsAccepted }
 {}
 
 /// A line that is refused adds nothing to what is kept.
