@@ -11,7 +11,8 @@ use Rattle.sb_rulebook.specs.Reading.{LineText, read, texts_of}
 use Rattle.sb_rulebook.specs.Kept.{AllKept, Asked, nothing_kept, count_again, dropped_above, all_dropped}
 use Rattle.sb_rulebook.specs.Follows.{follows}
 use Rattle.sb_rulebook.specs.Verdicts.{Question, refusal_of}
-use Rattle.sb_rulebook.specs.Judging.{Event, leaves_above, leaves_all, asks, ends, Phase, at_rest, at_check, at_end, behind_end, stopped, Progress, stop, takes_first, takes_verdict, takes_kept, takes_at_check, takes_last, takes_in, takes_read, takes, takes_all, is_at_check, through, along, beginning, accepted, outcome_of, closed}
+use Rattle.sb_rulebook.specs.Judging.{Event, leaves_above, leaves_all, asks, ends, Phase, at_rest, at_check, at_end, behind_end, stopped, Progress, stop, takes_first, takes_verdict, takes_kept, takes_at_check, takes_last, takes_in, is_at_check, beginning, accepted, outcome_of, closed}
+use Rattle.sb_rulebook.specs.JudgingTexts.{takes_read, takes, takes_all, through, along}
 use Rattle.sb_sound.specs.CountLaws.{is_counted_line, LinesAreCounted}
 use Rattle.sb_sound.specs.SoundLaws.{AreTerms, IsSound, MeansSo, NothingIsSound, LineStaysSound, FollowsByRule, ContinuedStaysSound, DroppedStaysSound, AllDroppedIsSound, CountedAgainStaysSound, VerdictMeansSo}
 use Rattle.sb_sound.specs.AcceptedLaws.{IsHistory, is_counted_read, is_verdict_read, counted_among, AllMeanSo, AcceptedMeansSo}

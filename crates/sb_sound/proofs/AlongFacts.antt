@@ -2,6 +2,7 @@
 use Rattle.std.proofs.Common.{◌≡◌, ℕ, Bool, true, false, if◌then◌else◌, List, [], ◌∷◌, ◌++◌, Option, None, refl, sym, subst, ap, ◌∙◌, append_assoc}
 use Rattle.std.proofs.lemmas.Bool.{false≢true}
 use Rattle.std.proofs.lemmas.List.{append-nil}
+use Rattle.std.specs.List.{list_all}
 use Rattle.std.specs.Fmt.{digits}
 use Rattle.sb_reader.specs.Entries.{Entry}
 use Rattle.sb_script.specs.State.{State, plain, satisfied, refuted, undecided}
@@ -10,16 +11,20 @@ use Rattle.sb_script.specs.Steps.{Step, answers, leaves, checks, exits, Leaving,
 use Rattle.sb_script.specs.Replies.{step_of}
 use Rattle.sb_script.specs.Scripts.{Along}
 use Rattle.sb_script.specs.Verdicts.{Verdict, is_sat, is_unsat, is_unknown, is_outside, settled, IsReply}
-use Rattle.sb_rulebook.specs.Lines.{Said}
-use Rattle.sb_rulebook.specs.LineLaws.{TextsAreLines}
+use Rattle.sb_rulebook.specs.Brought.{newest_format}
+use Rattle.sb_rulebook.specs.Lines.{header_line, end_line, Said}
+use Rattle.sb_rulebook.specs.LineLaws.{has_text, TextIsOneLine, TextsAreLines}
 use Rattle.sb_rulebook.specs.Reading.{LineText, texts_of}
 use Rattle.sb_rulebook.specs.Kept.{AllKept}
-use Rattle.sb_rulebook.specs.Judging.{Event, asks, ends, Phase, at_rest, at_check, at_end, behind_end, stopped, Progress, beginning, met, meets, takes_all, is_at_check, through, along, accepted, outcome_of, closed, judged}
+use Rattle.sb_rulebook.specs.Judging.{Event, asks, ends, Phase, at_rest, at_check, at_end, behind_end, stopped, Progress, beginning, met, meets, is_at_check, accepted, outcome_of, closed}
+use Rattle.sb_rulebook.specs.JudgingTexts.{takes_all, through, along, judged}
 use Rattle.sb_rulebook.specs.JudgingLaws.{CheckGoesThroughInOrder, EventsAreMetInOrder}
+use Rattle.sb_rulebook.specs.Printed.{IsPrintedProof}
+use Rattle.sb_rulebook.specs.PrintedLaws.{CheckTakesPrintedLines, PrintedProofGoesAlong}
 use Rattle.sb_rulebook.specs.Accepted.{question_in, event_of_leaving, events_of, events}
-use Rattle.sb_sound.specs.Certified.{AreWholeLines, Proves, FindsProved, behind, KeepsStep, CertifiesOn, last_lines}
+use Rattle.sb_sound.specs.Certified.{Proves, FindsProved, behind, KeepsStep, CertifiesOn, last_lines_in, last_lines}
 use Rattle.sb_sound.specs.CertifiedLaws.{CertifiedUpTo, CertifiedIsAccepted, CertifiedToExitIsAccepted, CertifiedFollows, CertifiedGoesOn}
-use Rattle.sb_sound.proofs.WholeLines.{whole_none, whole_both, texts_apart}
+use Rattle.sb_sound.proofs.WholeLines.{AnyPrinted, printed_none, printed_both, whole_of, texts_apart}
 use Rattle.sb_sound.proofs.EventFacts.{events_from, same_events, is_exits, entry_exits}
 
 -- Entries are in front of all others: their events in front of those of the others, and their lines in front of theirs.
@@ -29,7 +34,7 @@ record Leads (before : List Entry → List Event) (p : Progress) (front : List E
     in_front : (others : List Entry) → before others ≡ front ++ events next others
     taken : (more : List ℕ) → along p front (texts_of (lines ++ more)) ≡ (q, texts_of more)
     rests : q.phase ≡ at_rest
-    whole : AreWholeLines lines
+    printed : AnyPrinted lines
 
 meets_at_rest : (e : Event) (p : Progress) → p.phase ≡ at_rest → meets e p ≡ met e p
 meets_at_rest e p h = ap (λ (phase : Phase). elim phase as (λ _. Progress) [
@@ -60,7 +65,17 @@ unfolding digits
 last_taken true said kept next = refl
 last_taken false said kept next = refl
 
-module _ (are_lines : TextsAreLines) (checks_in_order : CheckGoesThroughInOrder) (events_in_order : EventsAreMetInOrder)
+-- the last lines are printed
+last_printed : (p : Progress) → AnyPrinted (last_lines p)
+last_printed p = (last_lines_in p, (step p.begun, refl))
+  where
+    step : (b : Bool) → list_all has_text (if b then end_line ∷ [] else header_line newest_format ∷ end_line ∷ [])
+        ≡ true
+    step true = refl
+    step false = refl
+
+module _ (are_lines : TextsAreLines) (one_line : TextIsOneLine) (takes_printed : CheckTakesPrintedLines)
+    (checks_in_order : CheckGoesThroughInOrder) (events_in_order : EventsAreMetInOrder)
   where
     -- where no check waits no line is taken
     idle : (p : Progress) (texts : List LineText) → is_at_check p.phase ≡ false → through p texts ≡ (p, texts)
@@ -69,11 +84,11 @@ module _ (are_lines : TextsAreLines) (checks_in_order : CheckGoesThroughInOrder)
         ∙ ap (λ (b : Bool). if b then through p texts else (p, texts)) h
 
     -- a check takes its lines, and leaves those behind them
-    check_takes : (p q : Progress) (lines more : List ℕ) → AreWholeLines lines → through p (texts_of lines) ≡ (q, [])
+    check_takes : (p q : Progress) (lines more : List ℕ) → AnyPrinted lines → through p (texts_of lines) ≡ (q, [])
         → q.phase ≡ at_rest → through p (texts_of (lines ++ more)) ≡ (q, texts_of more)
-    check_takes p q lines more whole follow rests =
+    check_takes p q lines more printed follow rests =
         let behind_it = texts_of more in
-        ap (through p) (texts_apart are_lines lines more whole)
+        ap (through p) (texts_apart are_lines lines more (whole_of one_line lines printed))
         ∙ checks_in_order p (texts_of lines) behind_it
         ∙ ap (λ (r : Progress × List LineText). if is_at_check r.0.phase then through r.0 behind_it
         else (r.0, r.1 ++ behind_it)) follow
@@ -90,7 +105,7 @@ module _ (are_lines : TextsAreLines) (checks_in_order : CheckGoesThroughInOrder)
       taken = λ more. ap (λ (own : List ℕ). (p, texts_of (own ++ more))) h.0
           ∙ ap (λ (r : Progress). (r, texts_of more)) (sym (keeps h.1));
       rests = ap (λ (r : Progress). r.phase) (keeps h.1) ∙ rest;
-      whole = subst AreWholeLines (sym h.0) whole_none;
+      printed = subst AnyPrinted (sym h.0) printed_none;
     }
     step_leads s p (leaves what bytes new) lines reply found t q rest goes h keeps =
         let left = meets (event_of_leaving what) p in
@@ -100,17 +115,19 @@ module _ (are_lines : TextsAreLines) (checks_in_order : CheckGoesThroughInOrder)
               ∙ idle left (texts_of more) (ap is_at_check (leaving_rests what p rest))
               ∙ ap (λ (r : Progress). (r, texts_of more)) (sym (keeps h.1));
           rests = ap (λ (r : Progress). r.phase) (keeps h.1) ∙ leaving_rests what p rest;
-          whole = subst AreWholeLines (sym h.0) whole_none;
+          printed = subst AnyPrinted (sym h.0) printed_none;
         }
     step_leads s p (checks given) lines reply found t q rest goes h keeps =
         let proves : Proves p q (question_in s given) lines h.0 = h.1.1 in
+        let own : AnyPrinted lines = (proves.printed, proves.are_printed) in
+        let asking = meets (asks (question_in s given)) p in
         record {
           in_front = λ others. ap (λ es. asks (question_in s given) ∷ es)
               (sym (settled_same h.0 s others) ∙ ap (λ (u : State). events u others) (sym h.4));
-          taken = λ more. check_takes (meets (asks (question_in s given)) p) q lines more proves.whole
-              proves.lines_follow proves.answered;
+          taken = λ more. check_takes asking q lines more own
+              (takes_printed asking q proves.printed lines proves.are_printed proves.lines_follow) proves.answered;
           rests = proves.answered;
-          whole = proves.whole;
+          printed = own;
         }
     step_leads s p (exits bytes) lines reply found t q rest goes h keeps = absurd (false≢true (sym goes))
 
@@ -134,7 +151,7 @@ module _ (are_lines : TextsAreLines) (checks_in_order : CheckGoesThroughInOrder)
       in_front = λ others. refl;
       taken = λ more. refl;
       rests = rest;
-      whole = whole_none;
+      printed = printed_none;
     }
 
     leads_both : (first : List Entry → List Event) (p q r : Progress) (es fs : List Event) (xs ys : List ℕ)
@@ -149,7 +166,7 @@ module _ (are_lines : TextsAreLines) (checks_in_order : CheckGoesThroughInOrder)
           ∙ ap (λ (l : Progress × List LineText). along l.0 fs l.1) (h.taken (ys ++ more))
           ∙ k.taken more;
       rests = k.rests;
-      whole = whole_both xs ys h.whole k.whole;
+      printed = printed_both xs ys h.printed k.printed;
     }
 
     -- entries in front of all others, with some events
@@ -191,7 +208,7 @@ module _ (are_lines : TextsAreLines) (checks_in_order : CheckGoesThroughInOrder)
     pub follows_so_far : CertifiedFollows
     follows_so_far entries bytes s p h =
         let leads = leads_from_start entries bytes (s, p) h in (
-          leads.whole,
+          whole_of one_line bytes leads.printed,
           (
             ap (λ (b : List ℕ). along beginning (events state.start entries) (texts_of b)) (sym (append-nil bytes))
                 ∙ leads.taken [],
@@ -223,10 +240,27 @@ module _ (are_lines : TextsAreLines) (checks_in_order : CheckGoesThroughInOrder)
         ∙ idle closing last refl)
         ∙ last_taken p.begun p.said p.kept p.next
 
-    pub all_accepted : CertifiedIsAccepted
-    all_accepted entries bytes s p h =
+    -- so they are an accepted proof, line by line
+    lines_accepted : PrintedProofGoesAlong → (entries : List Entry) (es : List Event) (bytes : List ℕ) (p : Progress)
+        → events state.start entries ≡ es
+        → ((more : List ℕ) → along beginning es (texts_of (bytes ++ more)) ≡ (p, texts_of more)) → p.phase ≡ at_rest
+        → AnyPrinted bytes → IsPrintedProof entries (bytes ++ last_lines p)
+    lines_accepted goes entries es bytes p same taken rest printed =
+        let all = printed_both bytes (last_lines p) printed (last_printed p) in (
+          all.0,
+          all.1,
+          (
+            p.said,
+            ap (λ (q : Progress). outcome_of (closed q))
+                (sym (goes beginning (events state.start entries) all.0 (bytes ++ last_lines p) all.1))
+                ∙ ap (λ gs. judged gs (bytes ++ last_lines p)) same ∙ ends_accepted es bytes p taken rest,
+          ),
+        )
+
+    pub all_accepted : PrintedProofGoesAlong → CertifiedIsAccepted
+    all_accepted goes entries bytes s p h =
         let leads = leads_from_start entries bytes (s, p) h in
-        (p.said, ends_accepted (events state.start entries) bytes p leads.taken leads.rests)
+        lines_accepted goes entries (events state.start entries) bytes p refl leads.taken leads.rests leads.printed
 
     -- the entry that ends the run
     exit_ends : (s : State) (p : Progress) (x : Step) (lines reply : List ℕ) (found : Option Verdict)
@@ -245,8 +279,8 @@ module _ (are_lines : TextsAreLines) (checks_in_order : CheckGoesThroughInOrder)
       ),
     )
 
-    pub to_exit_accepted : CertifiedToExitIsAccepted
-    to_exit_accepted entries others exit bytes lines reply found s p after h exits_run answered =
+    pub to_exit_accepted : PrintedProofGoesAlong → CertifiedToExitIsAccepted
+    to_exit_accepted goes entries others exit bytes lines reply found s p after h exits_run answered =
         let leads = leads_from_start entries bytes (s, p) h in
         let ended = exit_ends s p (step_of exit s) lines reply found after (entry_exits exit s ∙ exits_run)
         answered.replies (keeps_if_none s exit found p after.1 answered.keeps) in
@@ -256,9 +290,6 @@ module _ (are_lines : TextsAreLines) (checks_in_order : CheckGoesThroughInOrder)
           ended.0,
           (
             ended.1.0,
-            (
-              p.said,
-              ap (λ gs. judged gs (bytes ++ last_lines p)) whole ∙ ends_accepted es bytes p leads.taken leads.rests,
-            ),
+            lines_accepted goes (entries ++ exit ∷ others) es bytes p whole leads.taken leads.rests leads.printed,
           ),
         )

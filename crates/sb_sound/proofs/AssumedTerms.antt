@@ -16,21 +16,13 @@ use Rattle.sb_sound.specs.TermLaws.{HasSorts}
 use Rattle.sb_sound.specs.SoundLaws.{PlacesHold}
 use Rattle.sb_sound.specs.TruthLaws.{terms_at}
 use Rattle.sb_sound.proofs.PassFacts.{all_weaker, Contains-cases, Contains-none}
-use Rattle.sb_sound.proofs.ScriptHistory.{assumption_fits}
+use Rattle.sb_sound.specs.ScriptLaws.{assumption_fits}
 use Rattle.sb_sound.proofs.FittingValues.{declared_there}
 
 -- Terms that are all true.
 
-pub hold_each : (ts : List Term) (v : Valuation) → all_hold ts v ≡ list_all (λ t. holds t v) ts
-hold_each [] v = refl
-hold_each (t ∷ ts) v = ap (λ b. holds t v && b) (hold_each ts v)
-
 pub hold_both : (ts us : List Term) (v : Valuation) → all_hold (ts ++ us) v ≡ (all_hold ts v && all_hold us v)
-hold_both ts us v =
-    hold_each (ts ++ us) v
-    ∙ list_all-append (λ t. holds t v) ts us
-    ∙ ap (λ b. b && list_all (λ t. holds t v) us) (sym (hold_each ts v))
-    ∙ ap (λ b. all_hold ts v && b) (sym (hold_each us v))
+hold_both ts us v = list_all-append (λ t. holds t v) ts us
 
 -- Assumptions.
 

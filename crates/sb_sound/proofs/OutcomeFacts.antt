@@ -5,7 +5,8 @@ use Rattle.sb_reader.specs.Entries.{Entry, Begins}
 use Rattle.sb_reader.specs.Laws.{OneEntry, NoEntry}
 use Rattle.sb_script.specs.State as state
 use Rattle.sb_rulebook.specs.Reading.{texts_of}
-use Rattle.sb_rulebook.specs.Judging.{Event, beginning, along_all, Outcome, accepted, refused, goes_on, outcome_of, closed, judged}
+use Rattle.sb_rulebook.specs.Judging.{Event, beginning, Outcome, accepted, refused, goes_on, outcome_of, closed}
+use Rattle.sb_rulebook.specs.JudgingTexts.{along_all, judged}
 use Rattle.sb_rulebook.specs.Accepted.{events}
 use Rattle.sb_sound.specs.Outcomes.{AreEntriesOf}
 use Rattle.sb_sound.specs.OutcomeLaws.{SameEvents, OneOutcome}

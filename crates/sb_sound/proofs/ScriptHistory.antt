@@ -13,9 +13,8 @@ use Rattle.sb_script.specs.Names.{Name, begins_term}
 use Rattle.sb_script.specs.Scopes.{Named, a_constant, a_definition, a_marked_name, a_term, named}
 use Rattle.sb_script.specs.Symbols.{is_theory_name}
 use Rattle.sb_script.specs.Brought.{is_brought_sort}
-use Rattle.sb_script.specs.Errors.{Error, first_of}
 use Rattle.sb_script.specs.Errors as error
-use Rattle.sb_script.specs.State.{Assertion, asserted, a_mark, Assumption, Mode, Options, Level, State, empty_level, start, over_levels, names_of, in_level, in_level_of_names, with_name, declared, with_assertion, pushed}
+use Rattle.sb_script.specs.State.{Assertion, asserted, a_mark, Mode, Options, Level, State, empty_level, start, over_levels, names_of, in_level, in_level_of_names, with_name, declared, with_assertion, pushed}
 use Rattle.sb_script.specs.Commands.{Parameter}
 use Rattle.sb_script.specs.Steps.{Step, answers, leaves, checks, exits, Leaving, above, all}
 use Rattle.sb_script.specs.Replies.{bound_from, Assumed, an_assumption, an_error, assumed_name, assumed_bare, is_not, assumed_form, assumptions_in, step_of}
@@ -30,7 +29,7 @@ use Rattle.sb_sound.specs.SoundLaws.{KeepsSorts, Continues, GoesOn}
 use Rattle.sb_sound.specs.AcceptedLaws.{IsHistory, ScriptIsHistory}
 use Rattle.sb_sound.proofs.Accepting.{slice_get-more, Contains-slice_get}
 use Rattle.sb_sound.proofs.PassFacts.{all_weaker, all_append, all_push}
-use Rattle.sb_sound.specs.ScriptLaws.{fits_in, all_in, kind_fits, naming_fits, assertion_fits, Fits, AllFit, has_default, IsFit, StartIsFit, FitMeansTerms, LeadsOn, EntriesLeadOn}
+use Rattle.sb_sound.specs.ScriptLaws.{fits_in, all_in, kind_fits, naming_fits, assertion_fits, Fits, AllFit, assumption_fits, has_default, IsFit, StartIsFit, FitMeansTerms, LeadsOn, EntriesLeadOn}
 use Rattle.sb_sound.proofs.ReadTerms.{named_fits, fits_without, read_fits}
 
 -- Sorts grow at the end.
@@ -140,10 +139,6 @@ same_live live = record { more = []; whole = sym (append-nil live) }
 abbrev pub Leaves : State → Leaving → State → Type 0
 Leaves s (above level) now = GoesOn level (asked_in s) (asked_in now) × IsFit now
 Leaves s all now = KeepsSorts (asked_in s) (asked_in now) × IsFit now
-
--- the assumption is of a Bool constant
-abbrev pub assumption_fits : List Sort → Assumption → Bool
-assumption_fits sorts a = is_declared sorts boolean a.0
 
 abbrev pub IsKept : State → Step → Type 0
 IsKept s (answers bytes now) = Goes s now

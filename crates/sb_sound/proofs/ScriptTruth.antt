@@ -2,7 +2,7 @@
 use Rattle.std.proofs.Common.{◌≡◌, ℕ, Bool, true, List, [], ◌∷◌, ◌++◌, map, Option, Some, None, sym, subst, ◌∙◌}
 use Rattle.std.specs.List.{list_all, list_any}
 use Rattle.std.specs.Prelude.{slice_get}
-use Rattle.std.proofs.lemmas.Bool.{true≢false, and_parts, and_from}
+use Rattle.std.proofs.lemmas.Bool.{and_parts, and_from, false≢true}
 use Rattle.sb_reader.specs.Entries.{Entry}
 use Rattle.sb_meaning.specs.Terms.{Term}
 use Rattle.sb_meaning.specs.Values.{Value, Valuation}
@@ -12,23 +12,27 @@ use Rattle.sb_script.specs.State.{State, Assumption, assumed, names_of, constant
 use Rattle.sb_script.specs.Verdicts.{each_once}
 use Rattle.sb_script.specs.Steps.{Step, answers, leaves, checks, exits, above, all}
 use Rattle.sb_script.specs.Replies.{step_of}
+use Rattle.sb_rulebook.specs.Atoms.{clause_holds}
 use Rattle.sb_rulebook.specs.Lines.{Said, said_sat, said_unsat, said_unknown, said_unsupported}
 use Rattle.sb_rulebook.specs.Reading.{LineText, texts_of}
 use Rattle.sb_rulebook.specs.Kept.{AllKept, count_again, rests_of}
 use Rattle.sb_rulebook.specs.Verdicts.{denies, denied_by}
 use Rattle.sb_rulebook.specs.Judging.{Event, leaves_above, leaves_all, Progress, beginning, meets}
-use Rattle.sb_rulebook.specs.Accepted.{live_by_level, question_in, events_of, state_behind, events}
+use Rattle.sb_rulebook.specs.Accepted.{asked_in, live_by_level, question_in, events_of, state_behind, events}
+use Rattle.sb_sound.specs.Tables.{HasWords}
 use Rattle.sb_sound.specs.TermLaws.{HasSorts}
 use Rattle.sb_sound.specs.SoundLaws.{LevelsHold, AreContradicted, AreContradictedAt, IsUnsat, MeansSo}
 use Rattle.sb_sound.specs.VerdictLaws.{IsModel}
 use Rattle.sb_sound.specs.AcceptedLaws.{AllMeanSo, counted_among, AcceptedScriptMeansSo}
 use Rattle.sb_sound.specs.TruthLaws.{terms_at, AreContradictory, IsTrueUnsat, IsTrueSat, IsTrueOf, AreTrueBehind, AreTrue, AcceptedScriptIsTrue}
-use Rattle.sb_sound.specs.ScriptLaws.{IsFit, EmptyClauseRefutes}
-use Rattle.sb_sound.proofs.ScriptHistory.{IsKept, names_fit, assumption_fits, start_fits, entry_keeps}
+use Rattle.sb_sound.specs.ScriptLaws.{assumption_fits, ClauseRefutes, IsFit}
+use Rattle.sb_sound.proofs.ScriptHistory.{IsKept, names_fit, start_fits, entry_keeps}
 use Rattle.sb_sound.proofs.FittingValues.{has_sorts, has_words}
 use Rattle.sb_sound.proofs.AssumedTerms.{hold_both, given_hold, unless_mark, live_hold, asserted_hold, places_hold}
 use Rattle.sb_sound.proofs.PassFacts.{all_filter, all_contained}
 use Rattle.sb_sound.proofs.SomeFacts.{some_once, all_once}
+use Rattle.sb_sound.proofs.VerdictFacts.{refuted}
+use Rattle.sb_sound.proofs.NamedFacts.{named_false}
 
 module _ (s : State) (fit : IsFit s) where
   sorts_of : (v : Valuation) → fits (constants_of s) v ≡ true → HasSorts v s.sorts
@@ -146,10 +150,24 @@ pub script_true : AcceptedScriptMeansSo → AcceptedScriptIsTrue
 script_true means entries bytes verdicts h =
     true_along entries state.start start_fits beginning (texts_of bytes) verdicts (means entries bytes verdicts h)
 
--- The empty clause is true under no valuation.
-pub empty_clause : EmptyClauseRefutes
-empty_clause s kept id level fit sound there model =
-    let v = model.0 in
-    let parts = and_parts (fits (constants_of s) v) (all_hold (live_terms s) v) model.1 in
-    absurd (true≢false (sym (sound.clauses id (record { literals = []; level = level }) there v
-    (has_words (constants_of s) v parts.0) (sorts_of s fit v parts.0) (levels_hold s fit v parts.1 level))))
+-- A kept clause each of whose literals denies an assumption is true under no valuation that makes all of them true.
+pub clause_refutes : ClauseRefutes
+clause_refutes s given kept id clause fit bools sound there refuting =
+    let q = question_in s given in
+    let denied : Assumption → Bool = λ a. list_any (λ l. denies l (slice_get kept.atoms l.atom) a) clause.literals in
+    let named = denied_by q kept clause in
+    let fine = all_filter (assumption_fits s.sorts) denied (each_once given)
+    (all_once (assumption_fits s.sorts) given bools) in
+    let kept_true : (v : Valuation) → HasWords v → HasSorts v s.sorts
+    → ((level : ℕ) → LevelsHold v (asked_in s).live level) → clause_holds v kept.atoms clause.literals ≡ true =
+    λ v words sorts levels. sound.clauses id clause there v words sorts (levels clause.level) in (
+      no_model s fit given bools given bools
+          (λ v words sorts levels hold.
+          false≢true (sym (refuted q kept clause refuting v (kept_true v words sorts levels)) ∙ hold)),
+      record {
+        some = some_once denied given;
+        contradicted = no_model s fit given bools named fine
+            (λ v words sorts levels hold.
+            false≢true (sym (named_false q kept clause refuting v (kept_true v words sorts levels)) ∙ hold));
+      },
+    )

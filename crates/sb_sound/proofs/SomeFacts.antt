@@ -53,7 +53,7 @@ none_same test (x ∷ xs) = step (test x) refl (none_same test xs)
     step true is rest = rest
     step false is rest = ap (λ b. b || list_any test (filter (λ a. not (test a)) xs)) is ∙ rest
 
-filter_twice : (p q : Assumption → Bool) (xs : List Assumption)
+pub filter_twice : (p q : Assumption → Bool) (xs : List Assumption)
     → filter p (filter q xs) ≡ filter (λ a. q a && p a) xs
 filter_twice p q [] = refl
 filter_twice p q (x ∷ xs) = step (q x) (filter_twice p q xs)

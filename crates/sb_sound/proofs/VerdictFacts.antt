@@ -1,13 +1,14 @@
 -- A clause whose literals deny assumptions refutes them.
 use Rattle.std.proofs.Common.{◌≡◌, ℕ, Bool, true, false, not, ◌&&◌, eqb, nat_eq, if◌then◌else◌, List, [], ◌∷◌, slice_get, Option, Some, None, refl, sym, ap, ◌∙◌}
 use Rattle.std.specs.Cmp.Lexicographic.{pointwise}
+use Rattle.std.specs.List.{list_all}
 use Rattle.std.proofs.lemmas.Bool.{and_parts, eqb-true, false≢true}
 use Rattle.sb_lit.specs.declared.clause.Lit.{Lit}
 use Rattle.sb_lit.specs.Kept.{KeptClause, kept_at}
 use Rattle.sb_meaning.specs.Values.{Valuation}
 use Rattle.sb_script.specs.State.{Assumption}
 use Rattle.sb_rulebook.specs.Refusals.{Refusal, unknown_id}
-use Rattle.sb_rulebook.specs.Atoms.{Atom, bool_atom, truth_at, truths_of, literal_holds}
+use Rattle.sb_rulebook.specs.Atoms.{Atom, bool_atom, clause_holds, truth_at, truths_of, literal_holds}
 use Rattle.sb_rulebook.specs.Verdicts.{Question, is_same_truth, assumption_holds, denies, denies_assumption, refutes, are_live, is_listed, unless_wrong}
 use Rattle.sb_rulebook.specs.Brought.{has_rests}
 use Rattle.sb_rulebook.specs.Kept.{AllKept, rests_of}
@@ -59,6 +60,16 @@ listed-places kept id (Some ns) h listed is =
     let parts = and_parts (has_rests kept.format) (pointwise nat_eq (rests_of kept id) ns) h in
     sym same ∙ same_numbers (rests_of kept id) ns parts.1
 
+-- where the clause is true, not all assumptions hold
+pub refuted : (q : Question) (kept : AllKept) (clause : KeptClause) → refutes q kept clause ≡ true
+    → (v : Valuation) → clause_holds v kept.atoms clause.literals ≡ true
+    → list_all (assumption_holds v) q.assumptions ≡ false
+refuted q kept clause refuting v true_so =
+    let found =
+    both_pass (denies_assumption q kept) (literal_holds (truths_of v kept.atoms)) clause.literals refuting true_so in
+    one_fails (denies found.0 (slice_get kept.atoms found.0.atom)) (assumption_holds v) q.assumptions found.1
+    (λ a denied. denied_fails v kept.atoms found.0 a found.2 denied)
+
 -- what a clause of an `unsat` that follows passes
 pub record PassesUnsat (q : Question) (kept : AllKept) (id : ℕ) (places : Option (List ℕ)) (clause : KeptClause) :
     Type 0 where
@@ -99,11 +110,6 @@ unsat_refutes q kept id places follows = step (kept_at kept.clauses id) refl fol
           inside = passes.inside;
           clause = clause;
           there = at;
-          refutes = λ v true_so.
-              let found =
-              both_pass (denies_assumption q kept) (literal_holds (truths_of v kept.atoms)) clause.literals
-              passes.refuting true_so in
-              one_fails (denies found.0 (slice_get kept.atoms found.0.atom)) (assumption_holds v) q.assumptions found.1
-              (λ a denied. denied_fails v kept.atoms found.0 a found.2 denied);
+          refutes = refuted q kept clause passes.refuting;
           listed = listed-places kept id places passes.listed;
         }

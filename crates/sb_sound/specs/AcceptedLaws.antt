@@ -8,7 +8,8 @@ use Rattle.sb_rulebook.specs.Lines.{Line, verdict_line, Said}
 use Rattle.sb_rulebook.specs.Reading.{LineText, texts_of, read}
 use Rattle.sb_rulebook.specs.Kept.{AllKept, Asked, count_again}
 use Rattle.sb_rulebook.specs.Verdicts.{Question}
-use Rattle.sb_rulebook.specs.Judging.{Event, leaves_above, leaves_all, asks, ends, Progress, beginning, meets, through, accepted, judged}
+use Rattle.sb_rulebook.specs.Judging.{Event, leaves_above, leaves_all, asks, ends, Progress, beginning, meets, accepted}
+use Rattle.sb_rulebook.specs.JudgingTexts.{through, judged}
 use Rattle.sb_rulebook.specs.Accepted.{events, asked_in}
 use Rattle.sb_sound.specs.CountLaws.{is_counted_line}
 use Rattle.sb_sound.specs.SoundLaws.{AreTerms, KeepsSorts, Continues, GoesOn, MeansSo}

@@ -10,11 +10,11 @@ use Rattle.sb_script.specs.Verdicts.{Verdict, is_sat, is_unsat, is_unknown, is_o
 use Rattle.sb_rulebook.specs.Brought.{newest_format}
 use Rattle.sb_rulebook.specs.Lines.{Line, header_line, end_line, text_of, Said, said_sat, said_unsat, said_unknown, said_unsupported}
 use Rattle.sb_rulebook.specs.LineLaws.{is_one_line, bytes_of}
-use Rattle.sb_rulebook.specs.Reading.{texts_of}
 use Rattle.sb_rulebook.specs.Kept.{AllKept}
 use Rattle.sb_rulebook.specs.Verdicts.{Question, valued, denied_by}
-use Rattle.sb_rulebook.specs.Judging.{Event, asks, at_rest, Progress, meets, through}
+use Rattle.sb_rulebook.specs.Judging.{Event, asks, at_rest, Progress, meets, take_line, goes_through}
 use Rattle.sb_rulebook.specs.Accepted.{question_in, events_of}
+use Rattle.sb_rulebook.specs.Printed.{ArePrinted}
 
 -- The verdict that a line says is the one that is found: with the values of its constants, and with the assumptions
 -- that its clause denies.
@@ -33,8 +33,9 @@ AreWholeLines bytes = (texts : List (List ℕ)) × ((bytes ≡ bytes_of texts) �
 -- These are all the lines of a check: they follow, one after another, and the last one says the verdict.
 pub record Proves (before after : Progress) (q : Question) (lines : List ℕ) (v : Verdict) : Type 0 where
   pub said : Said
-  pub whole : AreWholeLines lines
-  pub lines_follow : through (meets (asks q) before) (texts_of lines) ≡ (after, [])
+  pub printed : List Line
+  pub are_printed : ArePrinted printed lines
+  pub lines_follow : goes_through take_line (meets (asks q) before) printed ≡ (after, [])
   pub answered : after.phase ≡ at_rest
   pub said_last : after.said ≡ before.said ++ said ∷ []
   pub says : SaysVerdict q after.kept said v

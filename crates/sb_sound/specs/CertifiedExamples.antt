@@ -5,10 +5,10 @@ use Rattle.sb_reader.specs.Entries.{Entry, Command}
 use Rattle.sb_script.specs.ReadingExamples.{group}
 use Rattle.sb_script.specs.State as state
 use Rattle.sb_script.specs.Verdicts.{is_sat}
-use Rattle.sb_rulebook.specs.Lines.{said_sat}
+use Rattle.sb_rulebook.specs.Lines.{Line, header_line, verdict_line, said_sat}
 use Rattle.sb_rulebook.specs.Verdicts.{Question}
-use Rattle.sb_rulebook.specs.Reading.{texts_of}
-use Rattle.sb_rulebook.specs.Judging.{asks, Progress, beginning, meets, through, judged}
+use Rattle.sb_rulebook.specs.Judging.{asks, Progress, beginning, meets, take_line, goes_through}
+use Rattle.sb_rulebook.specs.JudgingTexts.{judged}
 use Rattle.sb_rulebook.specs.Accepted.{question_in, events, answer}
 use Rattle.sb_rulebook.specs.ProofExamples.{computing}
 use Rattle.sb_sound.specs.Certified.{Proves, last_lines}
@@ -27,17 +27,24 @@ first_lines = codes "strproof 1\nv sat\n"
 abbrev next_lines : List ℕ
 next_lines = codes "v sat\n"
 
+abbrev first_printed : List Line
+first_printed = header_line 1 ∷ verdict_line (said_sat []) ∷ []
+
+abbrev next_printed : List Line
+next_printed = verdict_line (said_sat []) ∷ []
+
 abbrev behind_one : Progress
-behind_one = (through (meets (asks question) beginning) (texts_of first_lines)).0
+behind_one = (goes_through take_line (meets (asks question) beginning) first_printed).0
 
 abbrev behind_two : Progress
-behind_two = (through (meets (asks question) behind_one) (texts_of next_lines)).0
+behind_two = (goes_through take_line (meets (asks question) behind_one) next_printed).0
 
 a_first_check : Proves beginning behind_one question first_lines (is_sat [])
 unfolding computing
 a_first_check = record {
   said = said_sat [];
-  whole = (codes "strproof 1" ∷ codes "v sat" ∷ [], (refl, refl));
+  printed = first_printed;
+  are_printed = (refl, refl);
   lines_follow = refl;
   answered = refl;
   said_last = refl;
@@ -48,7 +55,8 @@ another_check : Proves behind_one behind_two question next_lines (is_sat [])
 unfolding computing
 another_check = record {
   said = said_sat [];
-  whole = (codes "v sat" ∷ [], (refl, refl));
+  printed = next_printed;
+  are_printed = (refl, refl);
   lines_follow = refl;
   answered = refl;
   said_last = refl;

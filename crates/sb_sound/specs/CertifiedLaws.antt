@@ -7,8 +7,10 @@ use Rattle.sb_script.specs.Replies.{is_exit}
 use Rattle.sb_script.specs.Scripts.{Along}
 use Rattle.sb_script.specs.Verdicts.{Verdict}
 use Rattle.sb_rulebook.specs.Reading.{texts_of}
-use Rattle.sb_rulebook.specs.Judging.{at_rest, Progress, beginning, along}
-use Rattle.sb_rulebook.specs.Accepted.{events, Accepted}
+use Rattle.sb_rulebook.specs.Judging.{at_rest, Progress, beginning}
+use Rattle.sb_rulebook.specs.JudgingTexts.{along}
+use Rattle.sb_rulebook.specs.Accepted.{events}
+use Rattle.sb_rulebook.specs.Printed.{IsPrintedProof}
 use Rattle.sb_sound.specs.Certified.{AreWholeLines, Certifies, CertifiesOn, last_lines}
 
 -- The entries are answered with their proof from the beginning: these lines are written for them, and so far both come.
@@ -18,7 +20,7 @@ CertifiedUpTo entries bytes after = Along CertifiesOn (state.start, beginning) e
 -- The lines of all entries, with the last lines behind them, are an accepted proof.
 abbrev pub CertifiedIsAccepted : Type 0
 CertifiedIsAccepted = (entries : List Entry) (bytes : List ℕ) (s : State) (p : Progress)
-    → CertifiedUpTo entries bytes (s, p) → Accepted entries (bytes ++ last_lines p)
+    → CertifiedUpTo entries bytes (s, p) → IsPrintedProof entries (bytes ++ last_lines p)
 
 -- The entry that ends the run has no lines and changes nothing, and those in front of it, with the last lines behind
 -- them, are an accepted proof, whatever entries stand behind it.
@@ -26,7 +28,7 @@ abbrev pub CertifiedToExitIsAccepted : Type 0
 CertifiedToExitIsAccepted = (entries others : List Entry) (exit : Entry) (bytes lines reply : List ℕ)
     (found : Option Verdict) (s : State) (p : Progress) (after : State × Progress)
     → CertifiedUpTo entries bytes (s, p) → is_exit exit ≡ true → Certifies (s, p) exit lines reply found after
-    → (lines ≡ []) × ((after ≡ (s, p)) × Accepted (entries ++ exit ∷ others) (bytes ++ last_lines p))
+    → (lines ≡ []) × ((after ≡ (s, p)) × IsPrintedProof (entries ++ exit ∷ others) (bytes ++ last_lines p))
 
 -- The lines so far are whole, and all of them are taken for the checks among the entries: none is refused, and no more
 -- are due.

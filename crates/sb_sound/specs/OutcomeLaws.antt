@@ -3,7 +3,8 @@ use Rattle.std.specs.Prelude.{◌≡◌, ℕ, Bool, true, List, [], ◌∷◌, �
 use Rattle.sb_reader.specs.Entries.{Entry, Begins, HoldsNoEntry}
 use Rattle.sb_script.specs.State as state
 use Rattle.sb_script.specs.Replies.{is_exit}
-use Rattle.sb_rulebook.specs.Judging.{Outcome, accepted, refused, goes_on, judged}
+use Rattle.sb_rulebook.specs.Judging.{Outcome, accepted, refused, goes_on}
+use Rattle.sb_rulebook.specs.JudgingTexts.{judged}
 use Rattle.sb_rulebook.specs.Accepted.{events}
 use Rattle.sb_sound.specs.Outcomes.{AreEntriesOf, IsOutcome}
 

@@ -7,7 +7,8 @@ use Rattle.sb_script.specs.Replies.{step_of}
 use Rattle.sb_rulebook.specs.Refusals.{Refusal}
 use Rattle.sb_rulebook.specs.Lines.{Said}
 use Rattle.sb_rulebook.specs.Reading.{LineText, texts_of}
-use Rattle.sb_rulebook.specs.Judging.{Event, at_rest, Progress, beginning, along_all, Outcome, accepted, refused, goes_on, outcome_of, closed, judged}
+use Rattle.sb_rulebook.specs.Judging.{Event, at_rest, Progress, beginning, Outcome, accepted, refused, goes_on, outcome_of, closed}
+use Rattle.sb_rulebook.specs.JudgingTexts.{along_all, judged}
 use Rattle.sb_rulebook.specs.Accepted.{state_behind, events}
 
 -- the state behind entries, none where one of them ends the run

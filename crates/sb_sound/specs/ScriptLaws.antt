@@ -2,17 +2,19 @@
 use Rattle.std.specs.Prelude.{◌≡◌, ℕ, Bool, true, ◌&&◌, nat_lt, List, [], ◌∷◌, length, Some}
 use Rattle.std.specs.List.{list_all}
 use Rattle.sb_word.specs.Words.{are_characters}
-use Rattle.sb_lit.specs.Kept.{kept_at}
-use Rattle.sb_meaning.specs.Terms.{Sort, Term, Terms, constant, word, numeral, apply, parameter, no_terms, with_term}
+use Rattle.sb_lit.specs.Kept.{KeptClause, kept_at}
+use Rattle.sb_meaning.specs.Terms.{Sort, Term, Terms, boolean, constant, word, numeral, apply, parameter, no_terms, with_term}
 use Rattle.sb_meaning.specs.Values.{default_of, is_of}
 use Rattle.sb_reader.specs.Entries.{Entry}
 use Rattle.sb_script.specs.Scopes.{Named, Naming, a_constant, a_definition, a_marked_name, a_term}
-use Rattle.sb_script.specs.State.{Assertion, asserted, a_mark, Level, State, start, Satisfiable}
+use Rattle.sb_script.specs.State.{Assertion, asserted, a_mark, Assumption, Level, State, start, Satisfiable}
 use Rattle.sb_script.specs.Steps.{Step, answers, leaves, checks, exits, above, all}
 use Rattle.sb_script.specs.Replies.{step_of}
+use Rattle.sb_script.specs.Verdicts.{IsCore}
 use Rattle.sb_rulebook.specs.AtomRules.{is_declared}
 use Rattle.sb_rulebook.specs.Kept.{AllKept}
-use Rattle.sb_rulebook.specs.Accepted.{asked_in}
+use Rattle.sb_rulebook.specs.Accepted.{asked_in, question_in}
+use Rattle.sb_rulebook.specs.Verdicts.{denied_by, refutes}
 use Rattle.sb_sound.specs.SoundLaws.{AreTerms, IsSound, KeepsSorts, Continues, GoesOn}
 
 -- the constants of the term are declared with their sorts, its words are of characters, and its parameters are among
@@ -78,7 +80,14 @@ LeadsOn s (exits text) = Unit {0}
 abbrev pub EntriesLeadOn : Type 0
 EntriesLeadOn = (entry : Entry) (s : State) → IsFit s → LeadsOn s (step_of entry s)
 
--- Where what is kept is true, and the empty clause is kept, no values make all live assertions true.
-abbrev pub EmptyClauseRefutes : Type 0
-EmptyClauseRefutes = (s : State) (kept : AllKept) (id level : ℕ) → IsFit s → IsSound (asked_in s) kept
-    → kept_at kept.clauses id ≡ Some (record { literals = []; level = level }) → Satisfiable s [] → ⊥
+-- the assumption is of a declared constant of sort Bool
+abbrev pub assumption_fits : List Sort → Assumption → Bool
+assumption_fits sorts a = is_declared sorts boolean a.0
+
+-- Where what is kept is true, and each literal of a kept clause denies an assumption, no values make all live
+-- assertions and all assumptions true, nor all live assertions and those assumptions alone that the clause denies.
+abbrev pub ClauseRefutes : Type 0
+ClauseRefutes = (s : State) (given : List Assumption) (kept : AllKept) (id : ℕ) (clause : KeptClause) → IsFit s
+    → list_all (assumption_fits s.sorts) given ≡ true → IsSound (asked_in s) kept
+    → kept_at kept.clauses id ≡ Some clause → refutes (question_in s given) kept clause ≡ true
+    → (Satisfiable s given → ⊥) × IsCore s given (denied_by (question_in s given) kept clause)

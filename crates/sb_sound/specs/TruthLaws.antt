@@ -16,7 +16,8 @@ use Rattle.sb_rulebook.specs.Lines.{verdict_line, Said, said_sat, said_unsat, sa
 use Rattle.sb_rulebook.specs.Reading.{LineText, texts_of, read}
 use Rattle.sb_rulebook.specs.Kept.{AllKept, most_counted}
 use Rattle.sb_rulebook.specs.Verdicts.{denied_by, valued}
-use Rattle.sb_rulebook.specs.Judging.{asks, Progress, beginning, meets, through, accepted, judged}
+use Rattle.sb_rulebook.specs.Judging.{asks, Progress, beginning, meets, accepted}
+use Rattle.sb_rulebook.specs.JudgingTexts.{through, judged}
 use Rattle.sb_rulebook.specs.Accepted.{asked_in, question_in, event_of_leaving, events}
 use Rattle.sb_sound.specs.AcceptedLaws.{is_verdict_read, counted_among}
 

@@ -12,8 +12,11 @@ pub fn certified_is_accepted()
     ensures { CertifiedIsAccepted }
 {
     sb_rulebook::laws::texts_are_lines();
+    sb_rulebook::laws::text_is_one_line();
+    sb_rulebook::laws::check_takes_printed_lines();
     sb_rulebook::laws::check_goes_through_in_order();
     sb_rulebook::laws::events_are_met_in_order();
+    sb_rulebook::laws::printed_proof_goes_along();
 }
 
 /// The same where an entry ends the run: it has no lines, and what stands behind it is not looked at.
@@ -21,8 +24,11 @@ pub fn certified_to_exit_is_accepted()
     ensures { CertifiedToExitIsAccepted }
 {
     sb_rulebook::laws::texts_are_lines();
+    sb_rulebook::laws::text_is_one_line();
+    sb_rulebook::laws::check_takes_printed_lines();
     sb_rulebook::laws::check_goes_through_in_order();
     sb_rulebook::laws::events_are_met_in_order();
+    sb_rulebook::laws::printed_proof_goes_along();
 }
 
 /// Where entries are answered so far, the lines so far are whole, none of them is refused, and no more are due.
@@ -30,6 +36,8 @@ pub fn certified_follows()
     ensures { CertifiedFollows }
 {
     sb_rulebook::laws::texts_are_lines();
+    sb_rulebook::laws::text_is_one_line();
+    sb_rulebook::laws::check_takes_printed_lines();
     sb_rulebook::laws::check_goes_through_in_order();
     sb_rulebook::laws::events_are_met_in_order();
 }
@@ -40,6 +48,8 @@ pub fn certified_goes_on()
     ensures { CertifiedGoesOn }
 {
     sb_rulebook::laws::texts_are_lines();
+    sb_rulebook::laws::text_is_one_line();
+    sb_rulebook::laws::check_takes_printed_lines();
     sb_rulebook::laws::check_goes_through_in_order();
     sb_rulebook::laws::events_are_met_in_order();
 }

@@ -1,6 +1,6 @@
 //! The states of a script, entry by entry.
 
-ghost use Rattle.sb_sound.specs.ScriptLaws.{StartIsFit, FitMeansTerms, EntriesLeadOn, EmptyClauseRefutes};
+ghost use Rattle.sb_sound.specs.ScriptLaws.{StartIsFit, FitMeansTerms, EntriesLeadOn, ClauseRefutes};
 
 /// The names in force and the live terms fit the sorts of the constants at the start of a script, and behind each of its
 /// entries. No entry loses an assertion of a level that stays.
@@ -10,7 +10,8 @@ pub fn entries_lead_on()
     ensures entries { EntriesLeadOn }
 {}
 
-/// Where the empty clause is kept, and what is kept is true, no values make all live assertions true.
-pub fn empty_clause_refutes()
-    ensures { EmptyClauseRefutes }
+/// Where a clause is kept that denies assumptions alone, and what is kept is true, no values make all live assertions
+/// and all assumptions true, nor all live assertions and those that the clause denies.
+pub fn clause_refutes()
+    ensures { ClauseRefutes }
 {}
