@@ -13,7 +13,7 @@ use Rattle.sb_deriv.specs.Pieces.{value_from, value_at, rises, covers}
 use Rattle.sb_deriv.specs.Faithful.{IsDerivative}
 use Rattle.sb_deriv.proofs.CallerLemmas.{above_stays, covers_rises, rises_le, rises_head, rises_rest, value_after}
 use Rattle.sb_graph.specs.Edges.{AreRising}
-use Rattle.sb_graph.proofs.Lists.{Each, all_each}
+use Rattle.sb_members.proofs.CallerLemmas.{Each, all_each}
 
 -- One derivative.
 

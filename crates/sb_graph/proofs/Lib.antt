@@ -2,10 +2,6 @@ pub mod LeastWords
 pub mod Passing
 pub mod Looping
 pub mod Ranks
-pub mod Lists
-pub mod Beginnings
-pub mod Splits
-pub mod Stronger
 pub mod WalkSteps
 pub mod WalkGrowing
 pub mod WalkCarrying

@@ -10,10 +10,11 @@ use Rattle.sb_lang.specs.Language.{language}
 use Rattle.sb_lang.specs.Languages.{Language}
 use Rattle.sb_regex.specs.Numbered.{regex_at}
 use Rattle.sb_graph.specs.Queue.{Entry, regex_of, way_of, word_at, IsRun, rank, rank_at}
-use Rattle.sb_graph.specs.Edges.{in_some, AreRising, AreEdges, IsEdgeFrom, Puts}
+use Rattle.sb_members.specs.Members.{in_some}
+use Rattle.sb_graph.specs.Edges.{AreRising, AreEdges, IsEdgeFrom, Puts}
 use Rattle.sb_graph.specs.Walks.{IsMet, IsDone, IsSearched, IsTurned}
 use Rattle.sb_graph.proofs.Ranks.{rank_empty, rank_grows, rank_from-push}
-use Rattle.sb_graph.proofs.Lists.{Each, all_each, each_in}
+use Rattle.sb_members.proofs.CallerLemmas.{Each, all_each, each_in}
 use Rattle.sb_graph.proofs.Fronts.{HasState, some_at}
 use Rattle.sb_graph.proofs.WalkGrowing.{met_later, done_grown}
 use Rattle.sb_graph.proofs.WalkTurns.{Turn, IsEdge, IsEdgeMet, Turned, turned}

@@ -1,24 +1,23 @@
 -- The steps of the functions, over lists.
 use Rattle.std.proofs.Common.{◌≡◌, ℕ, zero, suc, ◌+◌, ◌<◌, ◌≤◌, Bool, true, false, cond, ◌||◌, nat_eq, is_some, Some, List, [], ◌∷◌, ◌++◌, length, get_or, take, drop, map, ◌-◌, reverse, slice_get, refl, sym, ap, subst, ◌∙◌, arith}
-use Rattle.std.proofs.Math.Bool.{or-false}
 use Rattle.std.proofs.Math.ListN.{get_or-map}
 use Rattle.std.proofs.lemmas.Bool.{and_parts, true≢false}
 use Rattle.std.proofs.lemmas.Bool.Decides.{nat_tests}
 use Rattle.std.proofs.lemmas.List.{at_drop_more, at_drop_all, append_assoc, reverse-append, length-map, length-drop, length-take-le}
 use Rattle.std.proofs.lemmas.Grind.{get_or_default_zero}
 use Rattle.std.proofs.lemmas.Option.{get_or_from_slice_get}
-use Rattle.std.specs.List.{All, list_any}
+use Rattle.std.specs.List.{All}
 use Rattle.std.specs.Map.{lookup}
 use Rattle.indexmap.specs.IndexMap.{insert_entry}
 use Rattle.sb_word.specs.Words.{is_character, are_characters, IsWord}
 use Rattle.sb_lang.specs.Regex.{Regex, none, alt, regexes}
 use Rattle.sb_lang.specs.Derivative.{nullable}
-use Rattle.sb_lang.specs.Language.{language, some_language}
-use Rattle.sb_regex.specs.Numbered.{regex_at, regexes_at, AllNumbers}
-use Rattle.sb_regex.proofs.CallerLemmas.{one_number}
+use Rattle.sb_regex.specs.Numbered.{regex_at, regexes_at, AllNumbers, Extends}
+use Rattle.sb_members.proofs.CallerLemmas.{split_kept, split_none, split_alt, split_one}
 use Rattle.sb_deriv.specs.Pieces.{targets_of}
 use Rattle.sb_graph.specs.Queue.{Entry, entry_at, regex_of, has_regex, with_entry, with_each, word_at, AreWords, LeadsBy, AreTested}
-use Rattle.sb_graph.specs.Edges.{IsSplit, IsPut, Puts}
+use Rattle.sb_members.specs.Members.{IsSplit}
+use Rattle.sb_graph.specs.Edges.{IsPut, Puts}
 
 -- The queue.
 
@@ -110,32 +109,15 @@ puts_all rs place edges i es l =
 
 -- Splits.
 
-pub split_none : (rs : List Regex) (t : ℕ) → none ≡ regex_at rs t → IsSplit rs t []
-unfolding language some_language
-split_none rs t e = record {
-  known = λ k d h. absurd (omega (arith, h));
-  union = λ u. sym (ap (λ r. language r u) e);
-}
+pub put_kept : (old new : List Regex) → Extends old new → (t : ℕ) (way : ℕ × ℕ) (es es' : List Entry)
+    → t < length old → IsPut old t way es es' → IsPut new t way es es'
+put_kept old new more t way es es' l p =
+    record { members = p.members; split = split_kept old new more t p.members l p.split; is = p.is }
 
-some_of : (rs : List Regex) (ns : List ℕ) (u : List ℕ)
-    → some_language (regexes (regexes_at rs ns)) u ≡ list_any (λ n. language (regex_at rs n) u) ns
-unfolding language some_language regexes
-some_of rs [] u = refl
-some_of rs (n ∷ ns) u = ap (λ b. language (regex_at rs n) u || b) (some_of rs ns u)
-
-pub split_alt : (rs : List Regex) (t : ℕ) (ns : List ℕ) → t < length rs → All (λ n. n < t) ns
-    → alt (regexes (regexes_at rs ns)) ≡ regex_at rs t → IsSplit rs t ns
-unfolding language some_language
-split_alt rs t ns l below e = record {
-  known = λ k d h. omega (arith, below k d h, l);
-  union = λ u. sym (ap (λ r. language r u) e) ∙ some_of rs ns u;
-}
-
-pub split_one : (rs : List Regex) (t : ℕ) → t < length rs → IsSplit rs t (t ∷ [])
-split_one rs t l = record {
-  known = one_number rs t l;
-  union = λ u. sym (or-false (language (regex_at rs t) u));
-}
+pub put_members : (rs : List Regex) (t : ℕ) (way : ℕ × ℕ) (es es' : List Entry) (ns ms : List ℕ) → IsSplit rs t ns
+    → ms ≡ ns → es' ≡ with_each way es ms → IsPut rs t way es es'
+put_members rs t way es es' ns ms s same is =
+    record { members = ns; split = s; is = is ∙ ap (with_each way es) same }
 
 pub put_none : (rs : List Regex) (t : ℕ) (way : ℕ × ℕ) (es : List Entry) → none ≡ regex_at rs t → IsPut rs t way es es
 unfolding with_each

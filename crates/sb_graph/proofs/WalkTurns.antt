@@ -10,10 +10,11 @@ use Rattle.sb_lang.specs.Language.{language}
 use Rattle.sb_lang.specs.Languages.{Language}
 use Rattle.sb_regex.specs.Numbered.{regex_at}
 use Rattle.sb_graph.specs.Queue.{Entry, entry_at, regex_of, way_of, has_regex, with_each, word_at, rank, rank_at}
-use Rattle.sb_graph.specs.Edges.{AreRising, IsSplit, Puts}
+use Rattle.sb_members.specs.Members.{IsSplit}
+use Rattle.sb_graph.specs.Edges.{AreRising, Puts}
 use Rattle.sb_graph.specs.Walks.{IsMet, AreReached}
 use Rattle.sb_class.proofs.CallerLemmas.{character_below}
-use Rattle.sb_graph.proofs.Lists.{Each, each_as, all_each, each_all}
+use Rattle.sb_members.proofs.CallerLemmas.{Each, each_as, all_each, each_all}
 use Rattle.sb_graph.proofs.WalkGrowing.{IsGrown, grown_same, grown_more, met_grown}
 use Rattle.sb_graph.proofs.WalkPushing.{reached_push, push_grown, push_rank, push_entry, push_each}
 

@@ -12,9 +12,11 @@ use Rattle.sb_lang.specs.Languages.{Language}
 use Rattle.sb_regex.specs.Numbered.{regex_at, Extends}
 use Rattle.std.proofs.lemmas.List.Elements.{All-weaker}
 use Rattle.sb_regex.proofs.CallerLemmas.{at_kept, number_kept}
+use Rattle.sb_graph.specs.declared.members.Outcome.{Outcome}
+use Rattle.sb_graph.specs.declared.members.Outcome.TheVariants.{Found, Empty, Bounded}
 use Rattle.sb_graph.specs.Queue.{Entry, regex_of, word_at, LeadsBy, rank_at, AreTested, IsFirstNullable}
 use Rattle.sb_graph.specs.Walks.{first_language, AreWithout, IsSearched, IsTurned, IsUnderWay, IsFound, IsWhole}
-use Rattle.sb_graph.specs.Members.{IsState, AreMany}
+use Rattle.sb_graph.specs.Members.{IsOutcome, IsState, AreMany, MeetsBound}
 use Rattle.sb_graph.proofs.Ranks.{rank_empty}
 use Rattle.sb_graph.proofs.WalkCarrying.{nullable_kept}
 
@@ -172,3 +174,31 @@ many_kept old new L bound more m = record {
       })
       m.states m.each;
 }
+
+-- Answers for one language are answers for another one with the same words.
+
+module _ (L M : Language) (same : (u : List ℕ) → L u ≡ M u) where
+  pub outcome_same : (o : Outcome) → IsOutcome L o → IsOutcome M o
+  outcome_same (Found w) f = record {
+    word = f.word;
+    member = sym (same _) ∙ f.member;
+    shortest = λ v word m. f.shortest v word (same v ∙ m);
+    least = λ v word m long. f.least v word (same v ∙ m) long;
+  }
+  outcome_same Empty f = λ w word. sym (same w) ∙ f w word
+  outcome_same Bounded f = f
+
+  pub bound_same : (rs : List Regex) (bound : ℕ) (o : Outcome) → MeetsBound rs L bound o → MeetsBound rs M bound o
+  bound_same rs bound (Found w) f = f
+  bound_same rs bound Empty f = f
+  bound_same rs bound Bounded f = record {
+    states = f.states;
+    many = f.many;
+    once = f.once;
+    each = All-weaker (IsState rs L) (IsState rs M) (λ n s. record {
+      known = s.known;
+      word = s.word;
+      characters = s.characters;
+      rests = λ u h. sym (same (s.word ++ u)) ∙ s.rests u h;
+    }) f.states f.each;
+  }

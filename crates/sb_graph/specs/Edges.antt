@@ -1,75 +1,18 @@
 -- Private: edges as pairs of a character and a number, and how what they lead to is put into a queue.
-use Rattle.std.specs.Prelude.{◌≡◌, ℕ, ◌<◌, ◌≤◌, Bool, true, false, ◌&&◌, List, [], ◌∷◌, ◌++◌, length, get_or, All, Contains}
-use Rattle.std.specs.List.{list_any, list_all}
+use Rattle.std.specs.Prelude.{◌≡◌, ℕ, ◌<◌, ◌≤◌, Bool, true, List, [], ◌∷◌, ◌++◌, length, get_or, All, Contains}
 use Rattle.sb_word.specs.Words.{is_character}
-use Rattle.sb_lang.specs.Regex.{Regex, Regexes, cat, alt, no_more, more}
+use Rattle.sb_lang.specs.Regex.{Regex}
 use Rattle.sb_lang.specs.Constructors.{mkcat}
-use Rattle.sb_lang.specs.Derivative.{nullable, nd}
 use Rattle.sb_lang.specs.Language.{language}
-use Rattle.sb_regex.specs.Numbered.{regex_at, AllNumbers}
+use Rattle.sb_regex.specs.Numbered.{regex_at}
+use Rattle.sb_members.specs.Members.{IsSplit}
+use Rattle.sb_members.specs.Starts.{front}
 use Rattle.sb_graph.specs.Queue.{Entry, with_each}
 
 -- the edges ascend from a number on
 abbrev pub AreRising : ℕ → List (ℕ × ℕ) → Type 0
 AreRising n [] = Unit {0}
 AreRising n (e ∷ edges) = (n ≤ e.0) × AreRising e.0 edges
-
--- the word is in the language of some of these, and of each of them
-abbrev pub in_some : List Regex → List ℕ → List ℕ → Bool
-in_some rs ns u = list_any (λ n. language (regex_at rs n) u) ns
-
-abbrev pub in_each : List Regex → List ℕ → List ℕ → Bool
-in_each rs ns u = list_all (λ n. language (regex_at rs n) u) ns
-
--- the regex has a number in the list
-pub record HasNumber (rs : List Regex) (ns : List ℕ) (r : Regex) : Type 0 where
-  pub number : ℕ
-  pub among : Contains ns number
-  pub is : regex_at rs number ≡ r
-
-abbrev pub EachHasNumber : List Regex → List ℕ → Regexes → Type 0
-EachHasNumber rs ns no_more = Unit {0}
-EachHasNumber rs ns (more r ps) = HasNumber rs ns r × EachHasNumber rs ns ps
-
--- what stands behind a head with the empty word is in the list, and so are the members of a union
-unfoldable pub IsPassed : List Regex → List ℕ → Regex → Type 0
-IsPassed rs ns (cat h t) = nullable h ≡ true → HasNumber rs ns t
-IsPassed rs ns (alt ps) = EachHasNumber rs ns ps
-IsPassed rs ns r = Unit {0}
-
--- the numbers are those in which the words of the states begin
-pub record AreStarts (rs : List Regex) (states ns : List ℕ) : Type 0 where
-  pub known : AllNumbers rs ns
-  pub all : All (Contains ns) states
-  pub within : All (λ n. (u : List ℕ) → language (regex_at rs n) u ≡ true → in_some rs states u ≡ true) ns
-  pub passed : All (λ n. IsPassed rs ns (regex_at rs n)) ns
-
--- the list goes on with such numbers
-pub record GoesOn (P : ℕ → Type 0) (old new : List ℕ) : Type 0 where
-  pub more : List ℕ
-  pub is : new ≡ old ++ more
-  pub each : All P more
-
--- with what is to be there once the words of a start are looked at
-pub record IsWith (rs : List Regex) (n : ℕ) (old new : List ℕ) : Type 0 where
-  pub goes_on : GoesOn (λ m. (m < length rs) × ((u : List ℕ) → language (regex_at rs m) u ≡ true
-      → language (regex_at rs n) u ≡ true)) old new
-  pub passed : IsPassed rs new (regex_at rs n)
-
--- whether the word stands behind the character and the first head: a union has its words in its members
-unfoldable pub front : Regex → ℕ → List ℕ → Bool
-front (cat h t) c u = language (mkcat (nd h c) t) u
-front (alt ps) c u = false
-front r c u = language r (c ∷ u)
-
--- the regex's words behind a character are those of the head's derivative and the rest
-pub record IsFront (rs : List Regex) (n h t : ℕ) : Type 0 where
-  pub head : h < length rs
-  pub rest : t < length rs
-  pub sound : (c : ℕ) (u : List ℕ) → language (mkcat (nd (regex_at rs h) c) (regex_at rs t)) u ≡ true
-      → language (regex_at rs n) (c ∷ u) ≡ true
-  pub whole : (c : ℕ) (u : List ℕ) → front (regex_at rs n) c u ≡ true
-      → language (mkcat (nd (regex_at rs h) c) (regex_at rs t)) u ≡ true
 
 -- an edge of the list that begins at or below the character leads to the word
 pub record HasEdge (rs : List Regex) (edges : List (ℕ × ℕ)) (c : ℕ) (u : List ℕ) : Type 0 where
@@ -126,17 +69,6 @@ pub record AreGathered (rs : List Regex) (ns : List ℕ) (upto : ℕ) (edges : L
   pub each : All (λ e. (n : ℕ) × Contains ns n × IsEdgeFrom rs (language (regex_at rs n)) e) edges
   pub has : (k d : ℕ) → k < upto → k < length ns → (c : ℕ) (u : List ℕ) → is_character c ≡ true
       → front (regex_at rs (get_or ns k d)) c u ≡ true → HasEdge rs edges c u
-
--- the words of the regex are those of these
-pub record IsSplit (rs : List Regex) (t : ℕ) (ns : List ℕ) : Type 0 where
-  pub known : AllNumbers rs ns
-  pub union : (u : List ℕ) → language (regex_at rs t) u ≡ in_some rs ns u
-
--- the words of the regex are those that all of these have
-pub record IsChoice (rs : List Regex) (t : ℕ) (whole divided : List ℕ) : Type 0 where
-  pub whole_known : AllNumbers rs whole
-  pub divided_known : AllNumbers rs divided
-  pub each : (u : List ℕ) → language (regex_at rs t) u ≡ (in_each rs whole u && in_each rs divided u)
 
 -- the new queue has the members of a split of the regex
 pub record IsPut (rs : List Regex) (t : ℕ) (way : ℕ × ℕ) (old new : List Entry) : Type 0 where

@@ -2,7 +2,6 @@ pub mod Findings
 pub mod Lengths
 pub mod Queue
 pub mod Edges
-pub mod Strongest
 pub mod Members
 pub mod Walks
 pub mod Visiting

@@ -1,18 +1,18 @@
 //! The edges that lead from states.
 
-ghost use Rattle.std.specs.Prelude.{◌≡◌, ◌<◌, ℕ, true, length, Some, IsSome, IfOk, OnOk};
-ghost use Rattle.sb_lang.specs.Regex.{none};
+ghost use Rattle.std.specs.Prelude.{◌≡◌, ◌<◌, length, Some, IsSome, IfOk, OnOk};
 ghost use Rattle.sb_lang.specs.Constructors.{mkcat};
 ghost use Rattle.sb_regex.specs.Numbered.{regex_at, AllNumbers, Extends};
 ghost use Rattle.sb_deriv.specs.Pieces.{targets_of};
 ghost use Rattle.sb_deriv.specs.Faithful.{entry_of, IsFaithful, KeepsEntries};
-ghost use Rattle.sb_graph.specs.Edges.{in_some, AreRising, AreEdges, IsFront, IsPushed, ArePushed, AreFrom, AreGathered};
+ghost use Rattle.sb_members.specs.Members.{in_some};
+ghost use Rattle.sb_graph.specs.Edges.{AreRising, AreEdges, IsPushed, ArePushed, AreFrom, AreGathered};
 
-use crate::starts::starts_of;
 use sb_deriv::{Deriver, faithful_stays};
 use sb_lang::constructors::mkalt_keeps_language;
 use sb_lang::derivative::derivative_has_rests;
-use sb_regex::{Arena, Node, RegexId};
+use sb_members::{front_of, is_none, starts_of};
+use sb_regex::{Arena, RegexId};
 use std::alloc::{AllocError, Global};
 
 /// The edges from states, in the order of their characters.
@@ -92,28 +92,6 @@ fn pieces_of(deriver: &Deriver, regex: RegexId) -> &[(u32, RegexId)]
     }
 }
 
-/// The head of a concatenation, and what stands behind it: of another regex that is itself, and the empty word. Of a
-/// union it is none, since its members are starts too.
-fn front_of(arena: &mut Arena, regex: RegexId) -> Result<(RegexId, RegexId), AllocError>
-    requires { regex < length arena.old }
-    ensures front { IfOk result (λ front. IsFront arena.new regex front.0 front.1) }
-    ensures extends { Extends arena.old arena.new }
-{
-    derivative_has_rests();
-    mkalt_keeps_language();
-    match arena.node(regex) {
-        Node::Cat(head, rest) => Ok((*head, *rest)),
-        Node::Alt(_) => {
-            let none = arena.none()?;
-            Ok((none, none))
-        }
-        _ => {
-            let empty = arena.eps()?;
-            Ok((regex, empty))
-        }
-    }
-}
-
 /// Puts behind others an edge to each target with a regex behind it.
 fn push_pieces(
     arena: &mut Arena,
@@ -153,14 +131,4 @@ fn push_one(
     }
     edges.push((character, behind))?;
     Ok(())
-}
-
-pub(crate) fn is_none(arena: &Arena, regex: RegexId) -> bool
-    requires { regex < length arena.now }
-    ensures { result ≡ true → regex_at arena.now regex ≡ none }
-{
-    match arena.node(regex) {
-        Node::None => true,
-        _ => false,
-    }
 }

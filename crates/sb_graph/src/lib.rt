@@ -25,9 +25,6 @@ mod laws;
 mod members;
 mod queue;
 mod search;
-mod split;
-mod starts;
-mod strongest;
 mod turn;
 
 pub use depth::find_by_length;

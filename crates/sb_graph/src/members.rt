@@ -11,11 +11,10 @@ ghost use Rattle.sb_graph.specs.Walks.{IsSearched, IsStop, first_language};
 
 use crate::depth::find_by_length;
 use crate::queue::Queue;
-use crate::split::room_for;
-use crate::strongest::strongest;
 use crate::turn::take_turn;
 use sb_deriv::{Deriver, faithful_stays};
 use sb_lang::derivative::nullable_has_empty_word;
+use sb_members::{room_for, strongest};
 use sb_regex::{Arena, RegexId};
 use sb_word::{CodesError, Word};
 use std::alloc::{AllocError, Global};

@@ -11,8 +11,8 @@ ghost use Rattle.sb_graph.specs.Walks.{IsSearched, IsTurned};
 
 use crate::edges::edges_of;
 use crate::queue::Queue;
-use crate::split::split;
 use sb_deriv::{Deriver, faithful_stays};
+use sb_members::split;
 use sb_regex::{Arena, Node, RegexId};
 use std::alloc::{AllocError, Global};
 

@@ -3,7 +3,7 @@ use Rattle.sb_lang.specs.Language.{language}
 use Rattle.sb_regex.specs.Numbered.{regex_at}
 use Rattle.sb_regex.proofs.CallerLemmas.{extends_more}
 use Rattle.sb_graph.specs.Members.{IsOutcome, MeetsBound}
-use Rattle.sb_graph.proofs.Stronger.{outcome_same, bound_same}
+use Rattle.sb_graph.proofs.Walking.{outcome_same, bound_same}
 use Rattle.sb_graph.proofs.members.find_word.Goals as goal
 
 pub returns-in_err-start : goal.returns-in_err-start

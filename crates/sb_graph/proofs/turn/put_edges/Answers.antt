@@ -1,7 +1,6 @@
 use Rattle.std.proofs.lemmas.Result.{IfOk-from_err}
 use Rattle.sb_regex.proofs.CallerLemmas.{extends_more, extends_same, number_kept}
-use Rattle.sb_graph.proofs.WalkSteps.{target_known, puts_more, puts_all}
-use Rattle.sb_graph.proofs.Splits.{put_kept}
+use Rattle.sb_graph.proofs.WalkSteps.{target_known, puts_more, puts_all, put_kept}
 use Rattle.sb_graph.proofs.turn.put_edges.Goals as goal
 
 pub put_parts-requires : goal.put_parts-requires

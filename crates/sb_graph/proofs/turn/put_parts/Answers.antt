@@ -1,5 +1,5 @@
 use Rattle.std.proofs.lemmas.Result.{on_ok_weaker}
-use Rattle.sb_graph.proofs.Splits.{put_members}
+use Rattle.sb_graph.proofs.WalkSteps.{put_members}
 use Rattle.sb_graph.proofs.turn.put_parts.Goals as goal
 
 pub returns-then-is_intersection-clause-put : goal.returns-then-is_intersection-clause-put

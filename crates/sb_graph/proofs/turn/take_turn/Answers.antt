@@ -4,7 +4,8 @@ use Rattle.std.proofs.lemmas.List.Elements.{All-take, All-drop, All-map, All-wea
 use Rattle.sb_deriv.specs.Pieces.{targets_of}
 use Rattle.sb_regex.specs.Numbered.{AllNumbers}
 use Rattle.sb_regex.proofs.CallerLemmas.{extends_more, numbers_kept}
-use Rattle.sb_graph.specs.Edges.{in_some, AreEdges, IsEdgeFrom, Puts}
+use Rattle.sb_members.specs.Members.{in_some}
+use Rattle.sb_graph.specs.Edges.{AreEdges, IsEdgeFrom, Puts}
 use Rattle.sb_graph.proofs.WalkCarrying.{searched_carried}
 use Rattle.sb_graph.proofs.Fronts.{lead_kept}
 use Rattle.sb_graph.proofs.WalkSteps.{numbers_all, run_long}

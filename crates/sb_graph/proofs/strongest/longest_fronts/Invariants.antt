@@ -1,5 +1,0 @@
-use Rattle.sb_graph.proofs.Stronger.{AreFronts}
-use Rattle.sb_graph.proofs.strongest.longest_fronts.Given as goal
-
-abbrev pub invariant-loop-i : goal.invariant-loop-i
-invariant-loop-i l = AreFronts l.arena l.parts l.kept.items l.i

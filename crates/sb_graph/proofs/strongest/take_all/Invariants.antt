@@ -1,5 +1,0 @@
-use Rattle.sb_graph.proofs.Stronger.{IsGoing}
-use Rattle.sb_graph.proofs.strongest.take_all.Given as goal
-
-abbrev pub invariant-loop-row : goal.invariant-loop-row
-invariant-loop-row l = IsGoing l.arena l.rows l.kept.items l.weaker.keys l.row-index
