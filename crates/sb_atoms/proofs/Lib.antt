@@ -1,4 +1,5 @@
 pub mod TableFacts
+pub mod AtomEq
 pub mod Translating
 pub mod CallerLemmas
 pub mod Growth

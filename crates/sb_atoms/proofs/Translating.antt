@@ -17,7 +17,7 @@ use Rattle.sb_rulebook.proofs.CallerLemmas.{same_atom, atom_itself}
 use Rattle.sb_script.specs.Pieces.{Piece}
 use Rattle.sb_script.specs.Sums.{Variable, Summand}
 use Rattle.sb_atoms.specs.Growing.{IsApart, IsLiteralOf}
-use Rattle.sb_atoms.proofs.TableFacts.{other_kinds, bool_part, and_part, iff_parts}
+use Rattle.sb_atoms.proofs.AtomEq.{other_kinds, bool_part, and_part, iff_parts}
 use Rattle.sb_atoms.specs.Numbered.{Names, IsNumberIn, AreDistinct, over, atoms_in}
 use Rattle.sb_atoms.specs.Numbered.{HasRegexBelow, HaveRegexesBelow}
 

@@ -2,20 +2,12 @@
 use Rattle.std.specs.Prelude.{◌≡◌, ◌⊎◌, ℕ, ◌<◌, ◌≤◌, true, List, [], ◌∷◌, ◌++◌, map, slice_get, Option, Some, None}
 use Rattle.sb_lang.specs.Regex.{Regex}
 use Rattle.sb_regex.specs.Numbered.{regex_at}
-use Rattle.sb_rulebook.specs.Atoms.{Atom, AtomOver, bool_atom, in_atom, le_atom, sum_atom, and_atom, iff_atom}
+use Rattle.sb_rulebook.specs.Atoms.{Atom, AtomOver, in_atom, map_atom}
 use Rattle.sb_rulebook.specs.Tables.{names_below}
-use Rattle.sb_script.specs.Pieces.{constant_piece}
-use Rattle.sb_atoms.specs.declared.atom.Atom as code
-use Rattle.sb_atoms.specs.declared.atom.Atom.TheVariants as atom
+use Rattle.sb_proof.specs.declared.atom.Atom as code
+pub use Rattle.sb_proof.specs.Lines.{atom_in}
 
--- the atom that one of the code stands for, over the numbers of regexes
-abbrev pub atom_in : code.Atom → AtomOver ℕ
-atom_in (atom.Bool serial) = bool_atom serial.0
-atom_in (atom.In serial regex) = in_atom (constant_piece serial.0 ∷ []) regex
-atom_in (atom.And literals) = and_atom literals.items
-atom_in (atom.Iff one other) = iff_atom one other
-
-abbrev pub numbered_atoms : List code.Atom → List (AtomOver ℕ)
+abbrev pub numbered_atoms : List (code.Atom ℕ) → List (AtomOver ℕ)
 numbered_atoms ds = map atom_in ds
 
 -- the number is of this atom
@@ -44,12 +36,7 @@ AreDistinct atoms = (i j : ℕ) (atom : AtomOver ℕ) → Names atoms i atom →
 
 -- the atom with the regex itself
 abbrev pub over : List Regex → AtomOver ℕ → Atom
-over rs (bool_atom serial) = bool_atom serial
-over rs (in_atom ps r) = in_atom ps (regex_at rs r)
-over rs (le_atom x k) = le_atom x k
-over rs (sum_atom k ss) = sum_atom k ss
-over rs (and_atom ls) = and_atom ls
-over rs (iff_atom l m) = iff_atom l m
+over rs = map_atom (regex_at rs)
 
 abbrev pub atoms_in : List Regex → List (AtomOver ℕ) → List Atom
 atoms_in rs atoms = map (over rs) atoms

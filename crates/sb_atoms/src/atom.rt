@@ -1,11 +1,8 @@
-//! Atoms, which literals speak of.
+//! The numbers of atoms.
 
 ghost use Rattle.std.specs.Prelude.{◌≡◌};
 
 use sb_lit::Lit;
-use sb_regex::RegexId;
-use sb_term::Serial;
-use smallvec::SmallVec;
 use std::marker::Model;
 
 /// The number of an atom in its table.
@@ -44,17 +41,4 @@ impl AtomId {
     {
         self.number
     }
-}
-
-/// An atom, whose regex is a number, over the literals of the atoms before it.
-#[derive(PartialEq, Eq, Hash, Drop)]
-pub enum Atom {
-    /// The Bool constant is true.
-    Bool(Serial),
-    /// The String constant is in the language of the regex.
-    In(Serial, RegexId),
-    /// All these literals are true.
-    And(SmallVec<Lit, 4>),
-    /// The two literals are both true, or both false.
-    Iff(Lit, Lit),
 }

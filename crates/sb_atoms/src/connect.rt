@@ -6,15 +6,17 @@ ghost use Rattle.sb_lit.specs.Clauses.{literal_order, negation};
 ghost use Rattle.sb_rulebook.specs.Atoms.{iff_atom};
 ghost use Rattle.sb_rulebook.specs.Translation as rules;
 ghost use Rattle.sb_atoms.specs.Connecting as connecting;
-ghost use Rattle.sb_atoms.specs.Numbered.{atom_in};
+ghost use Rattle.sb_proof.specs.Lines.{atom_in};
+ghost use Rattle.sb_rulebook.specs.Brought.{is_brought_atom};
 ghost use Rattle.sb_fragment.specs.declared.shape.Connective.TheVariants as connective;
 ghost use Rattle.sb_atoms.specs.Growing.{is_below, are_below, are_pairs_below, GrownByGates, Gives, GivesLike};
 
-use crate::atom::Atom;
 use crate::order::in_order;
 use crate::table::Atoms;
 use sb_fragment::{Connective, compared};
 use sb_lit::Lit;
+use sb_proof::Atom;
+use sb_regex::RegexId;
 use std::alloc::{AllocError, Global};
 
 /// The literal with the other sign.
@@ -229,8 +231,9 @@ impl Atoms {
 }
 
 /// The atom that the two are both true, or both false.
-fn equivalence_of(one: Lit, other: Lit) -> Atom
-    ensures { atom_in result ≡ (if is_gt (literal_order one other) then iff_atom other one else iff_atom one other) }
+fn equivalence_of(one: Lit, other: Lit) -> Atom<RegexId>
+    ensures brought { is_brought_atom (atom_in result) ≡ true }
+    ensures is { atom_in result ≡ (if is_gt (literal_order one other) then iff_atom other one else iff_atom one other) }
 {
     if one > other {
         Atom::Iff(other, one)

@@ -6,13 +6,16 @@ ghost use Rattle.sb_lang.specs.Regex.{Regex};
 ghost use Rattle.sb_lit.specs.Clauses.{are_ascending, negation};
 ghost use Rattle.sb_rulebook.specs.Gates.{clauses_of, gate, is_gate};
 ghost use Rattle.sb_sound.specs.GateLaws.{all_hold, is_as_it_says};
-ghost use Rattle.sb_atoms.specs.Numbered.{atoms_in, atom_in};
+ghost use Rattle.sb_proof.specs.Lines.{atom_in};
+ghost use Rattle.sb_atoms.specs.Numbered.{atoms_in};
 ghost use Rattle.sb_atoms.specs.GateClauses.{atom_at, gate_clauses, is_trivial, begins_with, clause_of};
 
-use crate::atom::{Atom, AtomId};
+use crate::atom::AtomId;
 use crate::order::in_order;
 use crate::table::Atoms;
 use sb_lit::{Clause, Lit};
+use sb_proof::Atom;
+use sb_regex::RegexId;
 use std::alloc::{AllocError, Global};
 
 /// Whether a clause whose literals ascend has a literal and its negation.
@@ -144,7 +147,7 @@ fn say_all(
     alloc: Global,
     said: &mut Vec<Clause>,
     atom: AtomId,
-    described: &Atom,
+    described: &Atom<RegexId>,
 ) -> Result<(), AllocError>
     ensures { OnOk result (said.new.items ≡ said.old.items ++ clauses_of atom (atom_in described.now)) }
 {
@@ -154,7 +157,7 @@ fn say_all(
             say_whole(alloc, said, atom, literals.as_slice())
         }
         Atom::Iff(one, other) => say_two(alloc, said, atom, *one, *other),
-        Atom::Bool(_) | Atom::In(..) => Ok(()),
+        Atom::Bool(_) | Atom::In(..) | Atom::Le(..) | Atom::Sum(..) => Ok(()),
     }
 }
 

@@ -20,7 +20,7 @@ mod table;
 mod translate;
 mod truth;
 
-pub use atom::{Atom, AtomId};
+pub use atom::AtomId;
 pub use gates::{gate_clauses, said_clauses};
 pub use order::in_order;
 pub use table::Atoms;

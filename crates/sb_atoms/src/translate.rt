@@ -1,27 +1,29 @@
 //! The literals of terms.
 
-ghost use Rattle.std.specs.Prelude.{◌≡◌, ◌<◌, ◌&&◌, true, nat_lt, List, [], length, map, Option, Some, None, option_map, IfOk, OnOk, IfSome, MatchOption};
+ghost use Rattle.std.specs.Prelude.{◌≡◌, ◌<◌, ◌&&◌, ◌∷◌, true, nat_lt, List, [], length, map, Option, Some, None, option_map, IfOk, OnOk, IfSome, MatchOption};
 ghost use Rattle.std.specs.List.{list_all};
 ghost use Rattle.sb_meaning.specs.Terms.{Term, text};
 ghost use Rattle.sb_regex.specs.Numbered as regex;
 ghost use Rattle.sb_term.specs.Descending.{HaveParts, PartsAre, known_at, AreKnown};
 ghost use Rattle.sb_term.specs.Numbered.{term_at};
+ghost use Rattle.sb_script.specs.Pieces.{constant_piece};
 ghost use Rattle.sb_script.specs.Brought.{asked, is_pair, is_regex, is_structure};
 ghost use Rattle.sb_problem.specs.Known.{AreNormals};
 ghost use Rattle.sb_problem.specs.Patterns.{number_of, pattern_in};
 ghost use Rattle.sb_fragment.specs.Measures.{AreMeasures};
 ghost use Rattle.sb_fragment.specs.Shapes.{are_numbers, are_word_pairs, parts_of, terms_of_pairs};
 ghost use Rattle.sb_rulebook.specs.AtomRules.{is_declared};
+ghost use Rattle.sb_rulebook.specs.Atoms.{in_atom};
 ghost use Rattle.sb_rulebook.specs.Parts.{together};
 ghost use Rattle.sb_rulebook.specs.Translation as rules;
 ghost use Rattle.sb_atoms.specs.Connecting as connecting;
-ghost use Rattle.sb_atoms.specs.Numbered.{atom_in, atoms_in, HaveRegexesBelow, Extends, NameEarlier};
+ghost use Rattle.sb_proof.specs.Lines.{atom_in};
+ghost use Rattle.sb_atoms.specs.Numbered.{atoms_in, HaveRegexesBelow, Extends, NameEarlier};
 ghost use Rattle.sb_atoms.specs.Translated.{brought_translation, are_members, has_declared, IsAdded, AreDefined, HasNoLiteral};
 ghost use Rattle.sb_atoms.specs.Growing.{is_below, are_below, GivesLike, GrownByGates, Finds, AreReady, Moves};
 ghost use Rattle.sb_atoms.specs.Reaching.{connected_parts};
 ghost use Rattle.sb_atoms.specs.Shapes.{IsAtomOf, have_declared_pairs, word_literals, words_literal};
 
-use crate::atom::Atom;
 use crate::connect::signed;
 use crate::reached::terms_reached;
 use crate::table::Atoms;
@@ -30,22 +32,25 @@ use sb_fragment::{
 };
 use sb_lit::Lit;
 use sb_problem::{Normals, Pattern};
-use sb_regex::Arena;
+use sb_proof::{Atom, Piece};
+use sb_regex::{Arena, RegexId};
 use sb_rulebook::laws::translation_stays;
 use sb_term::{Serial, Table, TermId};
+use smallvec::SmallVec;
 use std::alloc::{AllocError, Global};
 use std::collections::BTreeMap;
 
 /// The atom that a constant's word is in a pattern, if the pattern is within the limits on sizes. Of another one no
 /// normal regex is asked for.
 fn atom_of(
+    alloc: Global,
     measures: &mut Measures,
     normals: &mut Normals,
     table: &Table,
     arena: &mut Arena,
     serial: Serial,
     pattern: Pattern,
-) -> Result<Option<Atom>, AllocError>
+) -> Result<Option<Atom<RegexId>>, AllocError>
     requires number { number_of pattern < length table.now }
     requires kind { is_regex (pattern_in table.now pattern) ≡ true }
     requires right { AreMeasures table.now measures.old }
@@ -60,9 +65,17 @@ fn atom_of(
         return Ok(None);
     }
     match normals.pattern(table, arena, pattern)? {
-        Some(regex) => Ok(Some(Atom::In(serial, regex))),
+        Some(regex) => Ok(Some(member_of(alloc, serial, regex))),
         None => Ok(None),
     }
+}
+
+/// The atom that a constant's word is in a regex.
+fn member_of(alloc: Global, serial: Serial, regex: RegexId) -> Atom<RegexId>
+    ensures { atom_in result ≡ in_atom (constant_piece serial.0 ∷ []) regex }
+{
+    let pieces = SmallVec::from_buf(alloc, [Piece::Constant(serial.0)]);
+    Atom::In(pieces, regex)
 }
 
 /// The literal that is known of a term, none where none is.
@@ -116,7 +129,16 @@ impl Atoms {
         ensures moves { Moves adds (λ sorts. is_declared sorts text serial.0) arena.old arena.new self.old self.new }
         ensures ready { AreReady table.now measures.new normals.new arena.new self.new }
     {
-        let Some(atom) = atom_of(measures, normals, table, arena, serial, pattern)? else {
+        let Some(atom) = atom_of(
+            self.allocator(),
+            measures,
+            normals,
+            table,
+            arena,
+            serial,
+            pattern,
+        )?
+        else {
             return Ok(None);
         };
         arena.normal_regexes_each_once();
@@ -252,7 +274,7 @@ impl Atoms {
             return self.member(adds, measures, normals, table, arena, serial, pattern);
         }
         match shape_of(table, id) {
-            Shape::Constant(serial) => self.literal(adds, Atom::Bool(serial)),
+            Shape::Constant(serial) => self.literal(adds, Atom::Bool(serial.0)),
             Shape::Always(truth) => self.always(adds, truth),
             Shape::Alone => self.always(adds, true),
             Shape::Connected(connective) => {

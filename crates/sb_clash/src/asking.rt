@@ -9,9 +9,10 @@ ghost use Rattle.sb_clash.specs.Literals as meaning;
 ghost use Rattle.sb_clash.specs.Literals.{IsAbout, AreAbout, number_in, asked_by_all};
 ghost use Rattle.sb_clash.specs.Asked.{CanBeAsked, Explores};
 
-use sb_atoms::{Atom, AtomId, Atoms};
+use sb_atoms::{AtomId, Atoms};
 use sb_graph::{Explored, Graph, graph_stays};
 use sb_lit::Lit;
+use sb_proof::Atom;
 use sb_regex::{Arena, RegexId};
 use sb_term::Serial;
 use std::alloc::{AllocError, Global};

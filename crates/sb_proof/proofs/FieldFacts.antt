@@ -7,7 +7,7 @@ use Rattle.std.proofs.lemmas.List.{append-nil, append_assoc}
 use Rattle.std.proofs.lemmas.List.Folds.{flat_map-map}
 use Rattle.sb_rulebook.specs.Reading.{split_at, each, characters, hexadecimal_number}
 use Rattle.sb_rulebook.specs.Lines.{Field, summand_fields, variable_text}
-use Rattle.sb_proof.specs.declared.line.Variable.{Variable}
+use Rattle.sb_proof.specs.declared.atom.Variable.{Variable}
 use Rattle.sb_proof.specs.Fields.{behind, spaced}
 use Rattle.sb_proof.specs.Lines.{variable_in, summand_in}
 

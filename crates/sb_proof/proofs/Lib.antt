@@ -1,4 +1,5 @@
 pub mod EachFacts
+pub mod AtomFacts
 pub mod FieldFacts
 pub mod NumberFacts
 pub mod HexadecimalFacts

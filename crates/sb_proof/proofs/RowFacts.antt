@@ -4,7 +4,7 @@ use Rattle.std.proofs.Math.Seq.{take-length}
 use Rattle.sb_rulebook.specs.Lines.{Field}
 use Rattle.sb_rulebook.specs.Reading.{is_colon, before_last_colon, has_pairs, both, integer, variable, summands}
 use Rattle.sb_script.specs.Sums.{Summand}
-use Rattle.sb_proof.specs.declared.line.Variable.{Variable}
+use Rattle.sb_proof.specs.declared.atom.Variable.{Variable}
 use Rattle.sb_proof.specs.Lines.{summand_in}
 use Rattle.sb_proof.specs.Views.{texts}
 use denote.Ref.{Bor}

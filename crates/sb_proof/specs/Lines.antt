@@ -1,5 +1,5 @@
 -- The lines of the code, as the rules of proofs have them.
-use Rattle.std.specs.Prelude.{ℕ, ℤ, map, None}
+use Rattle.std.specs.Prelude.{ℤ, map, None}
 use Rattle.sb_meaning.specs.Values as values
 use Rattle.sb_script.specs.Pieces as pieces
 use Rattle.sb_script.specs.Sums as sums
@@ -7,12 +7,12 @@ use Rattle.sb_rulebook.specs.Atoms.{AtomOver, bool_atom, in_atom, le_atom, sum_a
 use Rattle.sb_rulebook.specs.Lines as lines
 use Rattle.sb_proof.specs.declared.line.Node.{Node}
 use Rattle.sb_proof.specs.declared.line.Node.TheVariants as node
-use Rattle.sb_proof.specs.declared.line.Piece.{Piece}
-use Rattle.sb_proof.specs.declared.line.Piece.TheVariants as piece
-use Rattle.sb_proof.specs.declared.line.Variable.{Variable}
-use Rattle.sb_proof.specs.declared.line.Variable.TheVariants as variable
-use Rattle.sb_proof.specs.declared.line.Atom.{Atom}
-use Rattle.sb_proof.specs.declared.line.Atom.TheVariants as atom
+use Rattle.sb_proof.specs.declared.atom.Piece.{Piece}
+use Rattle.sb_proof.specs.declared.atom.Piece.TheVariants as piece
+use Rattle.sb_proof.specs.declared.atom.Variable.{Variable}
+use Rattle.sb_proof.specs.declared.atom.Variable.TheVariants as variable
+use Rattle.sb_proof.specs.declared.atom.Atom.{Atom}
+use Rattle.sb_proof.specs.declared.atom.Atom.TheVariants as atom
 use Rattle.sb_proof.specs.declared.line.Class.{Class}
 use Rattle.sb_proof.specs.declared.line.Rule.{Rule}
 use Rattle.sb_proof.specs.declared.line.Rule.TheVariants as rule
@@ -46,7 +46,8 @@ variable_in (variable.Length serial) = sums.length_of serial
 abbrev pub summand_in : ℤ × Variable → sums.Summand
 summand_in s = (s.0, variable_in s.1)
 
-abbrev pub atom_in : Atom → AtomOver ℕ
+-- over what stands for a regex
+abbrev pub atom_in : {R : Type 0} → Atom R → AtomOver R
 atom_in (atom.Bool serial) = bool_atom serial
 atom_in (atom.In parts regex) = in_atom (map piece_in parts.items) regex
 atom_in (atom.Le of bound) = le_atom (variable_in of) bound

@@ -8,7 +8,8 @@ ghost use Rattle.sb_rulebook.specs.Lines.{hexadecimal, range_text, ranges_text, 
 ghost use Rattle.sb_proof.specs.Fields.{spaced};
 ghost use Rattle.sb_proof.specs.Lines.{piece_in, variable_in, class_in, value_in};
 
-use crate::line::{Class, Piece, Value, Variable};
+use crate::atom::{Piece, Variable};
+use crate::line::{Class, Value};
 use itoa::Buffer;
 use sb_lit::Lit;
 use std::alloc::AllocError;

@@ -6,6 +6,7 @@
 #![tactic(auto)]
 
 mod arity;
+mod atom;
 mod fields;
 mod kinds;
 mod line;
@@ -15,7 +16,8 @@ mod read;
 mod shapes;
 mod tape;
 
-pub use line::{Atom, Class, Line, Node, Piece, Rule, Said, Value, Variable};
+pub use atom::{Atom, Piece, Variable};
+pub use line::{Class, Line, Node, Rule, Said, Value};
 pub use print::{print_line, put_line};
 pub use read::{LineFault, read_line};
 pub use tape::{MemTape, Tape, TapeFault};

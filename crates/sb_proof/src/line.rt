@@ -1,5 +1,6 @@
 //! Lines of proofs.
 
+use crate::atom::Atom;
 use sb_lit::Lit;
 
 /// A regex whose parts are numbers of regexes.
@@ -25,41 +26,6 @@ pub enum Node {
     Rep(u64, u64, u64),
     /// The words along which the derivative takes the first regex to the second.
     Path(u64, u64),
-}
-
-/// A piece of a concatenation.
-#[derive(Drop)]
-pub enum Piece {
-    /// The String constant of this serial.
-    Constant(u64),
-    /// A word, by its characters.
-    Word(Vec<u64>),
-}
-
-/// What a bound speaks of.
-#[derive(Clone, Copy)]
-pub enum Variable {
-    /// The Int constant of this serial.
-    Int(u64),
-    /// The length of the String constant of this serial.
-    Length(u64),
-}
-
-/// What a literal is true or false of.
-#[derive(Drop)]
-pub enum Atom {
-    /// The Bool constant of this serial is true.
-    Bool(u64),
-    /// The concatenation of the pieces is in the language of the regex.
-    In(Vec<Piece>, u64),
-    /// The variable is at most the number.
-    Le(Variable, i128),
-    /// The sum of numbers times variables is at most the number.
-    Sum(i128, Vec<(i128, Variable)>),
-    /// All the literals are true.
-    And(Vec<Lit>),
-    /// The two literals are both true or both false.
-    Iff(Lit, Lit),
 }
 
 /// The characters of some ranges, and the number of the regex to which they lead.
@@ -108,7 +74,7 @@ pub enum Line {
     /// The next regex.
     Regex(Node),
     /// The next atom.
-    Atom(Atom),
+    Atom(Atom<u64>),
     /// The expansion of a regex.
     Expansion(u64, Vec<Class>),
     /// Regexes without a word.

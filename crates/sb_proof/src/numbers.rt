@@ -8,7 +8,7 @@ ghost use Rattle.sb_rulebook.specs.Reading.{is_text, decimal_from, number, hexad
 ghost use Rattle.sb_proof.specs.Lines.{variable_in};
 ghost use Rattle.sb_proof.specs.Spelled.{decimal_value, if_small, small};
 
-use crate::line::Variable;
+use crate::atom::Variable;
 use itoa::Buffer;
 use sb_lit::Lit;
 

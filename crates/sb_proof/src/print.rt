@@ -6,8 +6,9 @@ ghost use Rattle.sb_script.specs.Steps.{line as ended};
 ghost use Rattle.sb_rulebook.specs.Lines.{regex_line, atom_line, verdict_line, rule_text, text_of};
 ghost use Rattle.sb_proof.specs.Lines.{node_in, atom_in, rule_in, said_in, line_in};
 
+use crate::atom::Atom;
 use crate::fields::{put_fields, put_named, put_next, put_ranges};
-use crate::line::{Atom, Line, Node, Rule, Said};
+use crate::line::{Line, Node, Rule, Said};
 use std::alloc::{AllocError, Global};
 
 /// The text of the line, with its line feed. Linear in the length of the text.
@@ -91,7 +92,7 @@ fn put_node(text: &mut String, node: &Node) -> Result<(), AllocError>
 }
 
 /// Appends the line of an atom.
-fn put_atom(text: &mut String, atom: &Atom) -> Result<(), AllocError>
+fn put_atom(text: &mut String, atom: &Atom<u64>) -> Result<(), AllocError>
     ensures { OnOk result
         (string_bytes text.new ≡ string_bytes text.old ++ text_of (atom_line (atom_in atom.now))) }
 {

@@ -10,14 +10,16 @@ ghost use Rattle.sb_proof.specs.Reading.{answered};
 ghost use Rattle.sb_proof.specs.Views.{texts};
 
 use crate::arity::{Answer, any_number, at_least_one, bare, one, some, three, two};
+use crate::atom::{Atom, Variable};
 use crate::kinds::{
     AtomKind, ClauseKind, LineKind, NodeKind, VerdictKind, atom_kind, clause_kind, line_kind,
     node_kind, verdict_kind,
 };
-use crate::line::{Atom, Line, Node, Rule, Said, Variable};
+use crate::line::{Line, Node, Rule, Said};
 use crate::numbers::{integer, number, variable};
 use crate::shapes::{each, is_word, split};
 use sb_rulebook::laws::{line_has_one_text, text_is_read};
+use smallvec::SmallVec;
 use std::alloc::{AllocError, Global};
 use thiserror::Error;
 
@@ -137,7 +139,7 @@ fn read_node_of(alloc: Global, kind: NodeKind, fields: &[&[u8]]) -> Answer<Node>
     }
 }
 
-fn read_atom(alloc: Global, fields: &[&[u8]]) -> Answer<Atom>
+fn read_atom(alloc: Global, fields: &[&[u8]]) -> Answer<Atom<u64>>
     ensures { IfOk result (λ answer. answered atom_in answer ≡ behind_word atoms (texts fields.now)) }
 {
     let Some((word, fields)) = fields.split_first() else {
@@ -149,7 +151,7 @@ fn read_atom(alloc: Global, fields: &[&[u8]]) -> Answer<Atom>
     }
 }
 
-fn read_atom_of(alloc: Global, kind: AtomKind, fields: &[&[u8]]) -> Answer<Atom>
+fn read_atom_of(alloc: Global, kind: AtomKind, fields: &[&[u8]]) -> Answer<Atom<u64>>
     ensures { IfOk result (λ answer. answered atom_in answer ≡ atom_reader kind (texts fields.now)) }
 {
     match kind {
@@ -157,7 +159,8 @@ fn read_atom_of(alloc: Global, kind: AtomKind, fields: &[&[u8]]) -> Answer<Atom>
         AtomKind::In => read_membership(alloc, fields),
         AtomKind::Le => made!(two(alloc, fields)?, (variable, bound) => Atom::Le(variable, bound)),
         AtomKind::Sum => read_sum(alloc, fields),
-        AtomKind::And => made!(any_number(alloc, fields)?, literals => Atom::And(literals)),
+        AtomKind::And =>
+            made!(any_number(alloc, fields)?, literals => Atom::And(SmallVec::from_vec(literals))),
         AtomKind::Iff => made!(two(alloc, fields)?, (first, second) => Atom::Iff(first, second)),
     }
 }
@@ -229,7 +232,7 @@ fn read_refutation(alloc: Global, fields: &[&[u8]]) -> Answer<Said>
 }
 
 /// Pieces, a colon, and the number of a regex.
-fn read_membership(alloc: Global, fields: &[&[u8]]) -> Answer<Atom>
+fn read_membership(alloc: Global, fields: &[&[u8]]) -> Answer<Atom<u64>>
     ensures { IfOk result (λ answer. answered atom_in answer ≡ membership (texts fields.now)) }
 {
     let Some((pieces, regex)) = before_last_colon(fields) else {
@@ -239,7 +242,7 @@ fn read_membership(alloc: Global, fields: &[&[u8]]) -> Answer<Atom>
         return Ok(Err(LineFault::BadNumber));
     };
     match number(regex) {
-        Some(regex) => Ok(Ok(Atom::In(pieces, regex))),
+        Some(regex) => Ok(Ok(Atom::In(SmallVec::from_vec(pieces), regex))),
         None => Ok(Err(LineFault::BadNumber)),
     }
 }
@@ -261,7 +264,7 @@ fn read_learned(alloc: Global, fields: &[&[u8]]) -> Answer<Line>
 }
 
 /// A bound, and pairs of a factor and a variable.
-fn read_sum(alloc: Global, fields: &[&[u8]]) -> Answer<Atom>
+fn read_sum(alloc: Global, fields: &[&[u8]]) -> Answer<Atom<u64>>
     ensures { IfOk result (λ answer. answered atom_in answer ≡ sum (texts fields.now)) }
 {
     let [bound, fields @ ..] = fields else {

@@ -11,7 +11,8 @@ ghost use Rattle.sb_rulebook.specs.Reading.{is_text, split_at, each, number, hex
 ghost use Rattle.sb_proof.specs.Lines.{piece_in, variable_in, class_in, value_in};
 ghost use Rattle.sb_proof.specs.Views.{texts};
 
-use crate::line::{Class, Piece, Value, Variable};
+use crate::atom::{Piece, Variable};
+use crate::line::{Class, Value};
 use crate::numbers::{hexadecimal_number, integer, literal, number, variable};
 use sb_lit::Lit;
 use std::alloc::{AllocError, Global};

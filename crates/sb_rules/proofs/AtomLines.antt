@@ -7,10 +7,10 @@ use Rattle.std.proofs.lemmas.Option.{slice_get-map, get_or_from_slice_get, slice
 use Rattle.sb_lang.specs.Regex.{Regex}
 use Rattle.sb_regex.specs.Numbered.{regex_at, regexes_at}
 use Rattle.sb_meaning.specs.Terms.{Sort}
-use Rattle.sb_script.specs.Pieces.{Piece, constant_piece}
+use Rattle.sb_script.specs.Pieces.{Piece, constant_piece, word_piece}
 use Rattle.sb_atoms.specs.Numbered.{over, atoms_in, HasRegexBelow}
 use Rattle.sb_rulebook.specs.Refusals.{Refusal, unknown_id, repeated, rule_broken, not_normal}
-use Rattle.sb_rulebook.specs.Atoms.{Atom, AtomOver, bool_atom, in_atom, le_atom, sum_atom, and_atom, iff_atom, is_same_atom, is_well_formed}
+use Rattle.sb_rulebook.specs.Atoms.{Atom, AtomOver, bool_atom, in_atom, le_atom, sum_atom, and_atom, iff_atom, are_pieces, constant_of, is_same_atom, is_well_formed, map_atom, regex_in}
 use Rattle.sb_rulebook.specs.AtomRules.{with_regex, has_its_parts, defined, follows_atom, is_known, is_declared_piece}
 use Rattle.sb_rulebook.specs.Brought.{is_brought_atom}
 use Rattle.sb_rulebook.specs.Kept.{AllKept, Asked}
@@ -18,7 +18,9 @@ use Rattle.sb_rulebook.specs.Lines.{atom_line}
 use Rattle.sb_rulebook.specs.Follows.{follows, not_brought}
 use Rattle.sb_rules.specs.declared.kept.Kept.{Kept}
 use Rattle.sb_rules.specs.Kept.{kept_in}
-use Rattle.sb_rules.specs.Defining.{have_parts, numbered}
+use Rattle.sb_proof.specs.declared.atom.Atom as code
+use Rattle.sb_proof.specs.Lines.{atom_in}
+use Rattle.sb_rules.specs.Defining.{IsBroughtAs, have_parts, numbered}
 
 -- Tests of all in a list.
 
@@ -165,19 +167,62 @@ by_brought sorts asked k others a b d is there found =
     ]) (named k.arena k.regexes.order a ∙ ap (option_map (over k.arena)) found)
     ∙ ap (λ t. if t then defined (kept_in k others) (over k.arena b) else Err unknown_id) parts.1
 
--- the membership of one constant, by what was looked up
-pub no_number : (order : List ℕ) (ps : List Piece) (r : ℕ) → slice_get order r ≡ None
-    → is_some (numbered order (in_atom ps r)) ≡ true → is_brought_atom (in_atom ps r) ≡ false
-no_number order ps r h e = absurd (false≢true (sym (ap (λ o. is_some (option_map {T = ℕ} (in_atom ps) o)) h) ∙ e))
+some_is : {X : Type 0} (x y : X) → Some x ≡ Some y → x ≡ y
+some_is x y e = cc
 
-pub one_constant : (order : List ℕ) (ps : List Piece) (serial r i : ℕ) → ps ≡ constant_piece serial ∷ []
-    → slice_get order r ≡ Some i
-    → (is_brought_atom (in_atom ps r) ≡ true)
-    × (numbered order (in_atom ps r) ≡ Some (in_atom (constant_piece serial ∷ []) i))
-one_constant order ps serial r i e h = (
-  ap (λ qs. is_brought_atom (in_atom qs r)) e,
-  ap (option_map (in_atom ps)) h ∙ ap (λ qs. Some (in_atom qs i)) e,
-)
+-- An atom by its number is brought where it is.
+
+no_number : (order : List ℕ) (a : AtomOver ℕ) → is_brought_atom a ≡ true → None ≡ numbered order a
+    → is_some (numbered order a) ≡ true → is_brought_atom a ≡ false
+no_number order a is none e = absurd (false≢true (ap is_some none ∙ e))
+
+pub brought_as : (order : List ℕ) (a : AtomOver ℕ) (found : Option (code.Atom ℕ)) → is_brought_atom a ≡ true
+    → option_map atom_in found ≡ numbered order a → IsBroughtAs order a found
+brought_as order a None is h = no_number order a is h
+brought_as order a (Some found) is h = (is, sym h)
+
+pub unnumbered : (order : List ℕ) (d : ℕ) (a : AtomOver ℕ) → regex_in a ≡ None
+    → Some (map_atom (λ _. d) a) ≡ numbered order a
+unnumbered order d (bool_atom serial) h = refl
+unnumbered order d (in_atom ps r) h = absurd (Prim.cc (h))
+unnumbered order d (le_atom x k) h = refl
+unnumbered order d (sum_atom k ss) h = refl
+unnumbered order d (and_atom ls) h = refl
+unnumbered order d (iff_atom l m) h = refl
+
+pub by_number : (order : List ℕ) (a : AtomOver ℕ) (r : ℕ) → regex_in a ≡ Some r
+    → numbered order a ≡ option_map (λ n. map_atom (λ _. n) a) (slice_get order r)
+by_number order a r h =
+    ap (λ o. elim o as (λ _. Option (AtomOver ℕ)) [
+      | None ↦ Some a
+      | Some r ↦ option_map (λ n. map_atom (λ _. n) a) (slice_get order r)
+    ]) h
+
+pub brought_stays : (order : List ℕ) (a b : AtomOver ℕ) → numbered order a ≡ Some b
+    → is_brought_atom b ≡ is_brought_atom a
+brought_stays order (in_atom ps r) b h = step (slice_get order r) h
+  where
+    step : (o : Option ℕ) → option_map {T = ℕ} (in_atom ps) o ≡ Some b → is_brought_atom b ≡ is_some (constant_of ps)
+    step None h = absurd (Prim.cc (h))
+    step (Some i) h = ap is_brought_atom (sym (some_is (in_atom ps i) b h))
+brought_stays order (bool_atom serial) b h = ap is_brought_atom (sym (some_is (bool_atom serial) b h))
+brought_stays order (le_atom x k) b h = ap is_brought_atom (sym (some_is (le_atom x k) b h))
+brought_stays order (sum_atom k ss) b h = ap is_brought_atom (sym (some_is (sum_atom k ss) b h))
+brought_stays order (and_atom ls) b h = ap is_brought_atom (sym (some_is (and_atom ls) b h))
+brought_stays order (iff_atom l m) b h = ap is_brought_atom (sym (some_is (iff_atom l m) b h))
+
+-- and one of one constant is well formed
+one_is_formed : (ps : List Piece) → is_some (constant_of ps) ≡ true → true ≡ are_pieces ps
+one_is_formed (constant_piece serial ∷ []) h = refl
+one_is_formed [] h = absurd (false≢true h)
+one_is_formed (constant_piece serial ∷ p ∷ ps) h = absurd (false≢true h)
+one_is_formed (word_piece w ∷ ps) h = absurd (false≢true h)
+
+pub formed_member : (a : AtomOver ℕ) (ps : List Piece) (r : ℕ) → a ≡ in_atom ps r → is_brought_atom a ≡ true
+    → true ≡ is_well_formed a
+formed_member a ps r is brought =
+    one_is_formed ps (subst (λ (b : AtomOver ℕ). is_brought_atom b ≡ true) is brought)
+    ∙ ap (λ (b : AtomOver ℕ). is_well_formed b) (sym is)
 
 -- where the parts are there, the regex is
 pub has_number : (sorts : List Sort) (count : ℕ) (order : List ℕ) (a : AtomOver ℕ) → have_parts sorts order count a ≡ true
@@ -198,9 +243,6 @@ has_number sorts count order (iff_atom l m) h = refl
 pub found_one : (n : ℕ) (order : List ℕ) (m i : ℕ) → All (λ j. j < n) order → slice_get order m ≡ Some i → i < n
 found_one n order m i all h =
     subst (λ j. j < n) (get_or_from_slice_get order m i 0 h) (all m 0 (slice_get_within order m i h))
-
-some_is : {X : Type 0} (x y : X) → Some x ≡ Some y → x ≡ y
-some_is x y e = cc
 
 pub number_below : (n : ℕ) (order : List ℕ) (a b : AtomOver ℕ) → All (λ j. j < n) order → numbered order a ≡ Some b
     → HasRegexBelow n b

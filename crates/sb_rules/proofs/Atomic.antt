@@ -8,9 +8,7 @@ use Rattle.std.proofs.Common.{arith}
 use Rattle.sb_lang.specs.Regex.{Regex}
 use Rattle.sb_lang.specs.OrderLaws.{OrderTellsApart}
 use Rattle.sb_regex.specs.Numbered as regex
-use Rattle.sb_atoms.specs.declared.atom.Atom as code
-use Rattle.sb_atoms.specs.declared.atom.Atom.TheVariants as atom
-use Rattle.sb_atoms.specs.Numbered.{atom_in, Names, IsWith, over, atoms_in, HasRegexBelow, HaveRegexesBelow}
+use Rattle.sb_atoms.specs.Numbered.{Names, IsWith, over, atoms_in, HasRegexBelow, HaveRegexesBelow}
 use Rattle.sb_atoms.proofs.CallerLemmas.{over_one, atoms_more}
 use Rattle.sb_rulebook.specs.Refusals.{Refusal, repeated, not_normal}
 use Rattle.sb_rulebook.specs.Atoms.{Atom, AtomOver, bool_atom, in_atom, le_atom, sum_atom, and_atom, iff_atom, is_same_atom, is_well_formed}
@@ -100,13 +98,7 @@ whole_with n old new a (inl same) all brought here is = rw same (all, brought)
 whole_with n old new a (inr more) all brought here is =
     rw more (more_below n old a all here, more_brought old a brought is)
 
--- Each atom of the code is brought, and is as well formed as the atom with the regex itself.
-
-pub all_brought : (d : code.Atom) → is_brought_atom (atom_in d) ≡ true
-all_brought (atom.Bool serial) = refl
-all_brought (atom.In serial regex) = refl
-all_brought (atom.And literals) = refl
-all_brought (atom.Iff one other) = refl
+-- An atom is as well formed as the atom with the regex itself.
 
 formed_over : (rs : List Regex) (a : AtomOver ℕ) → is_well_formed (over rs a) ≡ is_well_formed a
 formed_over rs (bool_atom serial) = refl

@@ -1,5 +1,5 @@
 -- What stands at a place of a list, or past its end.
-use Rattle.std.proofs.Common.{◌≡◌, ℕ, ◌<◌, ◌≤◌, List, length, get_or, slice_get, Option, unwrap_or, refl, sym, ap, ◌∙◌}
+use Rattle.std.proofs.Common.{◌≡◌, ℕ, ◌<◌, ◌≤◌, List, length, get_or, slice_get, unwrap_or, refl, sym, ap, ◌∙◌}
 use Rattle.std.proofs.lemmas.Option.{slice_get_past, slice_get_read}
 
 module _ {A : Type 0} (now items xs : List A) (n : ℕ) (d : A) (same : now ≡ items) (is : items ≡ xs) where

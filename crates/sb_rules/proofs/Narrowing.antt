@@ -1,8 +1,8 @@
 -- Ranges with an end past the characters are no set.
-use Rattle.std.proofs.Common.{◌≡◌, ℕ, zero, suc, ◌+◌, ◌<◌, ◌==◌, Bool, true, false, ◌&&◌, nat_le, List, [], ◌∷◌, length, get_or, Vec, Option, Some, None, MatchOption, refl, sym, ap, subst, ◌∙◌, arith}
+use Rattle.std.proofs.Common.{◌≡◌, ℕ, zero, suc, ◌+◌, ◌<◌, ◌==◌, Bool, true, false, ◌&&◌, nat_le, List, [], ◌∷◌, length, get_or, Vec, Option, None, refl, ap, subst, ◌∙◌, arith}
 use Rattle.std.specs.Global.{Global}
 use Rattle.std.proofs.lemmas.Bool.Decides.{nat_tests}
-use Rattle.sb_class.specs.Ranges.{Range, fits_from, rises_from, IsCanonical}
+use Rattle.sb_class.specs.Ranges.{Range, fits_from, rises_from}
 use Rattle.sb_lang.specs.Regex.{set}
 use Rattle.sb_lang.specs.Constructors.{mkset}
 use Rattle.sb_lang.specs.NormalForm.{is_normal}
@@ -72,24 +72,3 @@ class-none ranges found is h =
 pub narrowed-none : (ranges : List Range) (found : Option (Vec Range Global)) → found ≡ None
     → AreNarrowed ranges found → IsClassOf ranges None
 narrowed-none ranges found is h = subst (λ (o : Option (Vec Range Global)). AreNarrowed ranges o) is h
-
--- ranges that are no set do not rise
-not-canonical : (narrow : List Range) → (IsCanonical narrow → ⊥) → rises_from 0 narrow ≡ false
-not-canonical narrow h = step (rises_from 0 narrow) refl
-  where
-    step : (b : Bool) → rises_from 0 narrow ≡ b → b ≡ false
-    step true is = absurd (h is)
-    step false is = refl
-
-pub class-found : (ranges narrow : List Range) (wide : Option (Vec Range Global)) (vec : Vec Range Global)
-    (found : Option (List Range)) → wide ≡ Some vec → AreNarrowed ranges wide → narrow ≡ vec.items
-    → MatchOption found (IsCanonical narrow → ⊥) (λ class. class ≡ narrow) → IsClassOf ranges found
-class-found ranges narrow wide vec found is same e h = step found (h)
-  where
-    items : narrow ≡ ranges
-    items = e ∙ subst (λ (o : Option (Vec Range Global)). AreNarrowed ranges o) is same
-
-    step : (o : Option (List Range)) → MatchOption o (IsCanonical narrow → ⊥) (λ class. class ≡ narrow)
-        → IsClassOf ranges o
-    step None h = ap (rises_from 0) (sym items) ∙ not-canonical narrow h
-    step (Some class) same = same ∙ items

@@ -1,5 +1,5 @@
 -- What the code keeps of a proof, as the rules of proofs have it.
-use Rattle.std.specs.Prelude.{◌≡◌, ℕ, ◌<◌, true, false, nat_lt, List, map, length, Option, Some, None, option_map, IfSome}
+use Rattle.std.specs.Prelude.{◌≡◌, ℕ, ◌<◌, true, List, map, length, Option, Some, None, option_map, IfSome}
 use Rattle.std.specs.List.{list_all}
 use Rattle.sb_meaning.specs.Terms.{Term}
 use Rattle.sb_regex.specs.Numbered.{regexes_at, AllNumbers, Extends}

@@ -1,5 +1,5 @@
 -- Private: the clauses of memberships with no word in common.
-use Rattle.std.specs.Prelude.{◌≡◌, ◌==◌, ℕ, Bool, false, if◌then◌else◌, List, [], ◌∷◌, map, slice_get, Option, Some, None, Result, Ok, Err}
+use Rattle.std.specs.Prelude.{◌≡◌, ◌==◌, ℕ, Bool, false, if◌then◌else◌, List, map, slice_get, Option, Some, None, option_and_then, Result, Ok, Err}
 use Rattle.sb_lang.specs.Regex.{Regex, none}
 use Rattle.sb_lang.specs.Constructors.{mknot}
 use Rattle.sb_regex.specs.Numbered.{regex_at, regexes_at, AllNumbers, Extends}
@@ -7,17 +7,15 @@ use Rattle.sb_lit.specs.declared.clause.Lit.{Lit}
 use Rattle.sb_lit.specs.Clauses.{is_same_literal}
 use Rattle.sb_lit.specs.Hints.{learned}
 use Rattle.sb_lit.specs.Kept.{Kept}
-use Rattle.sb_rulebook.specs.Atoms.{AtomOver, in_atom}
+use Rattle.sb_rulebook.specs.Atoms.{AtomOver, member_in as member_alone}
 use Rattle.sb_rulebook.specs.ClauseRules.{refusal_of}
-use Rattle.sb_script.specs.Pieces.{constant_piece}
 use Rattle.sb_rules.specs.Answers.{refusal_in}
 use Rattle.sb_rules.specs.declared.fault.Fault.{Fault}
 use Rattle.sb_rules.specs.declared.fault.Fault.TheVariants as fault
 
 -- the constant of a membership of it alone, and the number of the regex
 abbrev pub member_in : Option (AtomOver ℕ) → Option (ℕ × ℕ)
-member_in (Some (in_atom (constant_piece x ∷ []) r)) = Some (x, r)
-member_in _ = None
+member_in o = option_and_then member_alone o
 
 abbrev pub member_at : List (AtomOver ℕ) → Lit → Option (ℕ × ℕ)
 member_at atoms l = member_in (slice_get atoms l.atom)

@@ -1,35 +1,34 @@
 //! Lines that define atoms.
 
-ghost use Rattle.std.specs.Prelude.{◌≡◌, ◌&&◌, ℕ, List, true, false, nat_lt, map, None, length, IfOk};
+ghost use Rattle.std.specs.Prelude.{◌≡◌, ◌&&◌, ℕ, List, true, false, nat_lt, map, None, length, slice_get, option_map, IfOk};
 ghost use Rattle.std.specs.List.{list_all};
-ghost use Rattle.sb_rulebook.specs.Atoms.{in_atom, is_conjunction, is_well_formed};
+ghost use Rattle.sb_rulebook.specs.Atoms.{is_conjunction, is_well_formed, map_atom};
+ghost use Rattle.sb_rulebook.specs.Brought.{is_brought_atom};
 ghost use Rattle.sb_meaning.specs.Sorts.{is_same_sort};
 ghost use Rattle.sb_rulebook.specs.AtomRules.{defined, is_declared, is_declared_piece, is_declared_variable};
 ghost use Rattle.sb_rulebook.specs.Kept.{AllKept, Asked};
 ghost use Rattle.sb_rulebook.specs.Lines.{atom_line};
 ghost use Rattle.sb_atoms.specs.Numbered.{HasRegexBelow, IsNumberIn, over};
-ghost use Rattle.sb_atoms.specs.Numbered as numbered;
 ghost use Rattle.sb_term.specs.Symbols.{sort_in};
 ghost use Rattle.sb_proof.specs.Lines.{atom_in, piece_in, variable_in};
 ghost use Rattle.sb_rules.specs.Kept.{IsWhole, KeepsTerms, kept_in};
 ghost use Rattle.sb_rules.specs.Judged.{Judges, Meets};
-ghost use Rattle.sb_rules.specs.Defining.{IsBroughtAs, IsConstantIn, have_parts};
+ghost use Rattle.sb_rules.specs.Defining.{IsBroughtAs, have_parts, numbered};
 
 use crate::fault::{Fault, Refusal};
 use crate::kept::Kept;
-use sb_atoms::Atom as KeptAtom;
 use sb_hints::are_ascending;
 use sb_lang::order::order_tells_apart;
 use sb_lit::Lit;
 use sb_proof::{Atom, Piece, Variable};
-use sb_term::{Serial, Sort};
-use smallvec::SmallVec;
+use sb_regex::RegexId;
+use sb_term::Sort;
 use std::alloc::AllocError;
 
 impl Kept {
     /// Judges the line that defines the next atom, where constants of these sorts are declared, and keeps it where it
     /// follows.
-    pub(crate) fn define_atom(&mut self, sorts: &[Sort], atom: &Atom) -> Result<(), Fault>
+    pub(crate) fn define_atom(&mut self, sorts: &[Sort], atom: &Atom<u64>) -> Result<(), Fault>
         requires { IsWhole self.old }
         ensures judges { (asked : Asked) → asked.sorts ≡ map sort_in sorts.now
             → Judges result asked self.old self.new (atom_line (atom_in atom.now)) }
@@ -46,11 +45,12 @@ impl Kept {
     }
 
     /// Keeps an atom, unless it is kept or not well formed.
-    fn add_atom(&mut self, atom: KeptAtom) -> Result<(), Fault>
+    fn add_atom(&mut self, atom: Atom<RegexId>) -> Result<(), Fault>
         requires whole { IsWhole self.old }
-        requires regex { HasRegexBelow (length self.old.arena) (numbered.atom_in atom) }
+        requires regex { HasRegexBelow (length self.old.arena) (atom_in atom) }
+        requires brought { is_brought_atom (atom_in atom) ≡ true }
         ensures defines { (others : AllKept) → Meets result
-            (defined (kept_in self.old others) (over self.old.arena (numbered.atom_in atom))) self.old self.new others }
+            (defined (kept_in self.old others) (over self.old.arena (atom_in atom))) self.old self.new others }
         ensures whole { IsWhole self.new }
         ensures terms { KeepsTerms self.old self.new }
     {
@@ -62,12 +62,13 @@ impl Kept {
     }
 
     /// Keeps an atom that is not kept, unless it is not well formed.
-    fn add_new(&mut self, atom: KeptAtom) -> Result<(), Fault>
+    fn add_new(&mut self, atom: Atom<RegexId>) -> Result<(), Fault>
         requires whole { IsWhole self.old }
-        requires regex { HasRegexBelow (length self.old.arena) (numbered.atom_in atom) }
-        requires is_new { IsNumberIn self.old.atoms (numbered.atom_in atom) None }
+        requires regex { HasRegexBelow (length self.old.arena) (atom_in atom) }
+        requires brought { is_brought_atom (atom_in atom) ≡ true }
+        requires is_new { IsNumberIn self.old.atoms (atom_in atom) None }
         ensures defines { (others : AllKept) → Meets result
-            (defined (kept_in self.old others) (over self.old.arena (numbered.atom_in atom))) self.old self.new others }
+            (defined (kept_in self.old others) (over self.old.arena (atom_in atom))) self.old self.new others }
         ensures whole { IsWhole self.new }
         ensures terms { KeepsTerms self.old self.new }
     {
@@ -81,32 +82,48 @@ impl Kept {
     }
 
     /// The atom by the number of its regex in the arena; none where atoms of its form are not brought.
-    fn brought(&self, atom: &Atom) -> Result<Option<KeptAtom>, AllocError>
+    fn brought(&self, atom: &Atom<u64>) -> Result<Option<Atom<RegexId>>, AllocError>
         ensures { IfOk result (λ found. IsBroughtAs self.now.regexes.order (atom_in atom.now) found) }
     {
-        match atom {
-            Atom::Bool(serial) => Ok(Some(KeptAtom::Bool(Serial(*serial)))),
-            Atom::In(pieces, number) => Ok(self.membership(pieces, *number)),
-            Atom::And(literals) => {
-                let literals = SmallVec::from_slice(self.alloc, literals)?;
-                Ok(Some(KeptAtom::And(literals)))
+        if !atom.is_brought() {
+            return Ok(None);
+        }
+        let found = self.numbered(atom)?;
+        Ok(found)
+    }
+
+    /// The atom by the number of its regex in the arena; none where that is not defined.
+    fn numbered(&self, atom: &Atom<u64>) -> Result<Option<Atom<RegexId>>, AllocError>
+        ensures { IfOk result
+            (λ found. option_map atom_in found ≡ numbered self.now.regexes.order (atom_in atom.now)) }
+    {
+        match atom.regex() {
+            Some(number) => self.with_number(atom, number),
+            None => {
+                let same = atom.with_regex(self.alloc, RegexId::default())?;
+                Ok(Some(same))
             }
-            Atom::Iff(one, other) => Ok(Some(KeptAtom::Iff(*one, *other))),
-            Atom::Le(..) | Atom::Sum(..) => Ok(None),
         }
     }
 
-    /// The membership of one constant, by the number of its regex in the arena.
-    fn membership(&self, pieces: &[Piece], number: u64) -> Option<KeptAtom>
-        ensures { IsBroughtAs self.now.regexes.order (in_atom (map piece_in pieces.now) number) result }
+    /// The atom with the number in the arena of this regex; none where that is not defined.
+    fn with_number(
+        &self,
+        atom: &Atom<u64>,
+        number: u64,
+    ) -> Result<Option<Atom<RegexId>>, AllocError>
+        ensures { IfOk result (λ found. option_map atom_in found
+            ≡ option_map (λ n. map_atom (λ _. n) (atom_in atom.now)) (slice_get self.now.regexes.order number)) }
     {
-        let serial = constant_in(pieces)?;
-        let regex = self.regexes.regex(number)?;
-        Some(KeptAtom::In(Serial(serial), regex))
+        let Some(regex) = self.regexes.regex(number) else {
+            return Ok(None);
+        };
+        let found = atom.with_regex(self.alloc, regex)?;
+        Ok(Some(found))
     }
 
     /// Whether the constants, the regex and the atoms are there that an atom names.
-    fn has_parts(&self, sorts: &[Sort], atom: &Atom) -> bool
+    fn has_parts(&self, sorts: &[Sort], atom: &Atom<u64>) -> bool
         ensures { result
             ≡ have_parts (map sort_in sorts.now) self.now.regexes.order (length self.now.atoms) (atom_in atom.now) }
     {
@@ -137,14 +154,17 @@ impl Kept {
     }
 }
 
-/// Whether an atom is well formed.
-fn is_well_formed(atom: &KeptAtom) -> bool
-    ensures { result ≡ is_well_formed (numbered.atom_in atom.now) }
+/// Whether an atom that is brought is well formed: each membership of one constant is.
+fn is_well_formed(atom: &Atom<RegexId>) -> bool
+    requires { is_brought_atom (atom_in atom.now) ≡ true }
+    ensures { result ≡ is_well_formed (atom_in atom.now) }
 {
     match atom {
-        KeptAtom::Bool(_) | KeptAtom::In(..) => true,
-        KeptAtom::And(literals) => is_conjunction(literals),
-        KeptAtom::Iff(one, other) => !one.cmp(other).is_gt(),
+        Atom::Bool(_) => true,
+        Atom::In(..) => true,
+        Atom::And(literals) => is_conjunction(literals),
+        Atom::Iff(one, other) => !one.cmp(other).is_gt(),
+        Atom::Le(..) | Atom::Sum(..) => unreachable!(),
     }
 }
 
@@ -153,19 +173,6 @@ fn is_conjunction(literals: &[Lit]) -> bool
     ensures { result ≡ is_conjunction literals.now }
 {
     literals.len() != 1 && are_ascending(literals)
-}
-
-/// The constant of a concatenation that is one constant.
-fn constant_in(pieces: &[Piece]) -> Option<u64>
-    ensures { IsConstantIn (map piece_in pieces.now) result }
-{
-    let [piece] = pieces else {
-        return None;
-    };
-    match piece {
-        Piece::Constant(serial) => Some(*serial),
-        Piece::Word(_) => None,
-    }
 }
 
 /// Whether the constants in a concatenation are declared.

@@ -17,9 +17,10 @@ ghost use Rattle.sb_rules.specs.Gating.{HasLiterals};
 
 use crate::fault::{Fault, Refusal};
 use crate::kept::Kept;
-use sb_atoms::{Atom, AtomId, said_clauses};
+use sb_atoms::{AtomId, said_clauses};
 use sb_hints::{are_ascending, has_all, set_of};
 use sb_lit::{Clause, Lit};
+use sb_proof::Atom;
 use std::alloc::{AllocError, Global};
 use std::collections::HashSet;
 

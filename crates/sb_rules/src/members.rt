@@ -7,8 +7,9 @@ ghost use Rattle.sb_regex.specs.Numbered.{regex_at, regexes_at, AllNumbers, Exte
 ghost use Rattle.sb_atoms.specs.Numbered.{atom_in, HaveRegexesBelow};
 ghost use Rattle.sb_rules.specs.Refuting.{member_in, member_at, is_of, denied_at};
 
-use sb_atoms::{Atom, AtomId, Atoms};
+use sb_atoms::{AtomId, Atoms};
 use sb_lit::Lit;
+use sb_proof::Atom;
 use sb_regex::{Arena, RegexId};
 use sb_term::Serial;
 use std::alloc::{AllocError, Global};
@@ -22,12 +23,12 @@ pub(crate) fn member(atoms: &Atoms, literal: Lit) -> Option<(Serial, RegexId)>
 }
 
 /// The constant and the regex of an atom, if it is a membership of one constant.
-fn member_in(atom: &Atom) -> Option<(Serial, RegexId)>
+fn member_in(atom: &Atom<RegexId>) -> Option<(Serial, RegexId)>
     ensures { option_map (λ m. (m.0.0, m.1)) result ≡ member_in (Some (atom_in atom.now)) }
 {
-    match atom {
-        Atom::In(serial, regex) => Some((*serial, *regex)),
-        Atom::Bool(_) | Atom::And(_) | Atom::Iff(..) => None,
+    match atom.member() {
+        Some(member) => Some((Serial(member.0), member.1)),
+        None => None,
     }
 }
 

@@ -1,15 +1,15 @@
 -- When literals are true of words, one for each String constant.
-use Rattle.std.specs.Prelude.{◌≡◌, ℕ, Bool, true, false, not, nat_eq, nat_lt, if◌then◌else◌, List, [], ◌∷◌, filter, get_or, slice_get, length, Option, Some, None, option_and_then, unwrap_or}
-use Rattle.sb_theory.specs.Words.{AtomOver, Kept, KeptClause, Lit, Regex, atoms_in, bool_atom, clause_holds, constant_piece, in_atom, kept_at, list_all, regex_at}
+use Rattle.std.specs.Prelude.{◌≡◌, ℕ, Bool, true, false, not, nat_eq, nat_lt, if◌then◌else◌, List, [], filter, get_or, slice_get, length, Option, Some, None, option_map, option_and_then, unwrap_or}
+use Rattle.sb_theory.specs.Words.{AtomOver, Kept, KeptClause, Lit, Regex, atoms_in, bool_atom, clause_holds, kept_at, list_all, regex_at}
 use Rattle.sb_lang.specs.Language.{language}
+use Rattle.sb_rulebook.specs.Atoms.{member_in}
 use Rattle.sb_meaning.specs.Values.{Valuation}
 use Rattle.sb_sound.specs.Tables.{HasWords}
 use Rattle.sb_clash.specs.Literals.{number_in}
 
 -- the constant of a membership
 abbrev pub constant_of : AtomOver ℕ → Option ℕ
-constant_of (in_atom (constant_piece x ∷ []) r) = Some x
-constant_of _ = None
+constant_of a = option_map (λ m. m.0) (member_in a)
 
 -- the constant that a literal is about, where its atom is a membership of one
 abbrev pub subject_of : List (AtomOver ℕ) → Lit → Option ℕ

@@ -9,8 +9,9 @@ ghost use Rattle.sb_theory.specs.Wanted.{is_wanted, wanted_of, wanted_on};
 use crate::place::is_above;
 use crate::row::{Row, drop_member};
 use crate::wanted::WantedAtoms;
-use sb_atoms::{Atom, AtomId, Atoms};
+use sb_atoms::{AtomId, Atoms};
 use sb_lit::Lit;
+use sb_proof::Atom;
 use sb_regex::RegexId;
 use sb_term::Serial;
 use sb_trail::Entry;
@@ -36,17 +37,17 @@ pub fn membership(atoms: &Atoms, literal: Lit) -> Option<Member>
 }
 
 /// What an atom says, where it is a membership.
-fn member_in(atom: &Atom) -> Option<Member>
+fn member_in(atom: &Atom<RegexId>) -> Option<Member>
     ensures some { IfSome result
         (λ found. atom_in atom.now ≡ in_atom (constant_piece found.serial.0 ∷ []) found.regex) }
     ensures none { IfNone result (constant_of (atom_in atom.now) ≡ None) }
 {
-    match atom {
-        Atom::In(serial, regex) => Some(Member {
-            serial: *serial,
-            regex: *regex,
+    match atom.member() {
+        Some(member) => Some(Member {
+            serial: Serial(member.0),
+            regex: member.1,
         }),
-        Atom::Bool(_) | Atom::And(_) | Atom::Iff(..) => None,
+        None => None,
     }
 }
 

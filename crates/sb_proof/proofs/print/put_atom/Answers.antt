@@ -19,7 +19,7 @@ returns-in_ok-put_named-in-In c =
     (join_with_byte 32 (codes " :" ∷ regex)) c.in_ok-put_named-in-In.ensures e
     (around (codes "a") (codes "in") pieces regex
     ∙ ap (λ fs. join_with_byte 32 (codes "a" ∷ codes "in" ∷ (fs ++ codes ":" ∷ regex)))
-    (viewed piece_text piece_in slice c.in-In.pieces.items c.as_slice.ensures.value)
+    (viewed piece_text piece_in slice c.in-In.pieces.items c.as_slice.ensures)
     ∙ ap (λ a. text_of (atom_line (atom_in a))) (sym c.in-In.is)))
     c.put_named-in-In-2.ensures
 
@@ -52,7 +52,7 @@ returns-in-And c =
     on_ok_weaker c.put_named-in-And.result
     (λ e. e ∙ ap (λ bs. string_bytes c.args.text.now ++ bs)
     (listed (codes "a") (codes "and") literal_text c.as_slice-in-And.result.now c.in-And.literals.items
-    c.as_slice-in-And.ensures.value
+    c.as_slice-in-And.ensures
     ∙ ap (λ a. text_of (atom_line (atom_in a))) (sym c.in-And.is)))
     c.put_named-in-And.ensures
 

@@ -11,7 +11,7 @@ use Rattle.sb_proof.proofs.read.read_atom_of.Goals as goal
 
 pub returns-in-Ok-3 : goal.returns-in-Ok-3
 returns-in-Ok-3 c =
-    ap (λ (xs : List Lit). Ok (and_atom xs)) (sym (map-id c.in-Ok-3.literals.items))
+    ap (λ (xs : List Lit). Ok (and_atom xs)) (c.from_vec.ensures.items ∙ sym (map-id c.in-Ok-3.literals.items))
     ∙ ok_made _ and_atom _ _ _ c.in_ok-literals-in-And.ensures c.in-Ok-3.is
     ∙ sym (any_made reading.literal (λ xs. xs) and_atom (texts c.args.fields.now))
     ∙ ap (λ k. atom_reader k (texts c.args.fields.now)) (sym c.in-And.is)

@@ -1,4 +1,4 @@
-use Rattle.sb_rules.proofs.Narrowing.{narrowed-none, class-found}
+use Rattle.sb_rules.proofs.Narrowing.{narrowed-none}
 use Rattle.sb_rules.proofs.ranges.class_of.Goals as goal
 
 pub returns-in_default : goal.returns-in_default

@@ -1,5 +1,5 @@
 use Rattle.std.proofs.Common.{true}
-use Rattle.sb_atoms.specs.Numbered.{atom_in}
+use Rattle.sb_proof.specs.Lines.{atom_in}
 use Rattle.sb_atoms.proofs.Translating.{literal_there}
 use Rattle.sb_atoms.proofs.table.Atoms.added.Goals as goal
 

@@ -1,4 +1,4 @@
-use Rattle.sb_atoms.specs.Numbered.{atom_in}
+use Rattle.sb_proof.specs.Lines.{atom_in}
 use Rattle.sb_atoms.proofs.Translating.{literal_there, literal_missing}
 use Rattle.sb_atoms.proofs.table.Atoms.literal.Goals as goal
 

@@ -1,4 +1,4 @@
-use Rattle.std.proofs.Common.{◌≡◌, length, Some, true}
+use Rattle.std.proofs.Common.{◌≡◌, length, Some, true, ap}
 use Rattle.sb_facts.proofs.CallerLemmas.{ok_more}
 use Rattle.sb_meaning.specs.Terms.{Term, text}
 use Rattle.sb_regex.proofs.CallerLemmas.{long_kept}
@@ -6,7 +6,8 @@ use Rattle.sb_script.specs.Brought.{asked}
 use Rattle.sb_problem.specs.Patterns.{pattern_in}
 use Rattle.sb_rulebook.specs.Translation.{translation}
 use Rattle.sb_rulebook.specs.AtomRules.{is_declared}
-use Rattle.sb_atoms.specs.Numbered.{atom_in}
+use Rattle.sb_rulebook.specs.Brought.{is_brought_atom}
+use Rattle.sb_proof.specs.Lines.{atom_in}
 use Rattle.sb_atoms.specs.Translated.{IsAdded}
 use Rattle.sb_atoms.specs.Growing.{is_below, Finds, IsLiteralOf}
 use Rattle.sb_atoms.proofs.CallerLemmas.{regexes_kept}
@@ -88,3 +89,7 @@ returns-clause-members c =
     members_added c.atom_of.new.arena c.args.self.now c.literal.new.self c.args.serial.0
     (pattern_in c.args.table.now c.args.pattern) (atom_in c.in-Some.atom) (rw c.in-Some.is at c.in_ok-atom.ensures.ok)
     c.literal.ensures.grows
+
+pub literal-requires : goal.literal-requires
+literal-requires c =
+    let of = rw c.in-Some.is at c.in_ok-atom.ensures.ok in ap is_brought_atom of.1

@@ -1,17 +1,17 @@
 use Rattle.std.proofs.Common.{[], ◌∷◌, ◌++◌, length, if◌then◌else◌, Ok, Err, refl, ap, sym, ◌∙◌}
 use Rattle.std.proofs.lemmas.Result.{err_from_is_err_and}
-use Rattle.sb_atoms.specs.Numbered as numbered
+use Rattle.sb_proof.specs.Lines.{atom_in}
 use Rattle.sb_atoms.specs.Numbered.{atoms_in}
 use Rattle.sb_rulebook.specs.Refusals.{not_normal}
 use Rattle.sb_rules.specs.Kept.{kept_in}
-use Rattle.sb_rules.proofs.Atomic.{all_brought, added_new, atom_wanted, whole_with, kept_by_form}
+use Rattle.sb_rules.proofs.Atomic.{added_new, atom_wanted, whole_with, kept_by_form}
 use Rattle.sb_regex.proofs.CallerLemmas.{extends_same}
 use Rattle.sb_rules.proofs.kept.Kept.add_new.Goals as goal
 
 pub returns-then-not-is_well_formed-clause-defines : goal.returns-then-not-is_well_formed-clause-defines
 returns-then-not-is_well_formed-clause-defines c = λ others.
     let k = c.args.self.now in
-    let a = numbered.atom_in c.args.atom in (
+    let a = atom_in c.args.atom in (
       kept_by_form c.order_tells_apart.ensures k others a c.is_well_formed.result
           c.normal_regexes_each_once.ensures.distinct c.requires.regex c.requires.whole.atoms c.requires.is_new
           c.is_well_formed.ensures
@@ -23,21 +23,21 @@ returns-then-not-is_well_formed-clause-defines c = λ others.
 pub returns-in_err-add-clause-whole : goal.returns-in_err-add-clause-whole
 returns-in_err-add-clause-whole c =
     let w = whole_with (length c.args.self.now.arena) c.args.self.now.atoms c.add.new.self
-    (numbered.atom_in c.args.atom) c.add.ensures.grows c.requires.whole.atoms c.requires.whole.brought
-    c.requires.regex (all_brought c.args.atom) in
+    (atom_in c.args.atom) c.add.ensures.grows c.requires.whole.atoms c.requires.whole.brought
+    c.requires.regex c.requires.brought in
     record { regexes = c.requires.whole.regexes; plain = c.requires.whole.plain; atoms = w.0; brought = w.1 }
 
 pub returns-clause-whole : goal.returns-clause-whole
 returns-clause-whole c =
     let w = whole_with (length c.args.self.now.arena) c.args.self.now.atoms c.add.new.self
-    (numbered.atom_in c.args.atom) c.add.ensures.grows c.requires.whole.atoms c.requires.whole.brought
-    c.requires.regex (all_brought c.args.atom) in
+    (atom_in c.args.atom) c.add.ensures.grows c.requires.whole.atoms c.requires.whole.brought
+    c.requires.regex c.requires.brought in
     record { regexes = c.requires.whole.regexes; plain = c.requires.whole.plain; atoms = w.0; brought = w.1 }
 
 pub returns-clause-defines : goal.returns-clause-defines
 returns-clause-defines c = λ others.
     let k = c.args.self.now in
-    let a = numbered.atom_in c.args.atom in (
+    let a = atom_in c.args.atom in (
       others.rests,
       kept_by_form c.order_tells_apart.ensures k others a c.is_well_formed.result
           c.normal_regexes_each_once.ensures.distinct c.requires.regex c.requires.whole.atoms c.requires.is_new
@@ -58,5 +58,5 @@ pub returns-in_err-add-clause-defines : goal.returns-in_err-add-clause-defines
 returns-in_err-add-clause-defines c = λ others.
     let x = c.from_residual in
     let p = err_from_is_err_and x.result x.ensures.1 in
-    atom_wanted _ x.result p.0 _ c.args.self.now others (numbered.atom_in c.args.atom) c.add.new.self p.1 p.2
+    atom_wanted _ x.result p.0 _ c.args.self.now others (atom_in c.args.atom) c.add.new.self p.1 p.2
     c.add.ensures.grows

@@ -1,6 +1,6 @@
 use Rattle.std.proofs.lemmas.Option.{slice_get_read, slice_get_past}
 use Rattle.std.proofs.lemmas.Result.{err_from_is_err_and}
-use Rattle.std.proofs.Common.{length, [], ◌∷◌, ◌++◌, if◌then◌else◌, Ok, Err, refl, ap, sym, ◌∙◌, false}
+use Rattle.std.proofs.Common.{length, [], ◌∷◌, ◌++◌, if◌then◌else◌, Ok, Err, refl, ap, sym, ◌∙◌}
 use Rattle.sb_rulebook.specs.Kept.{with_clause}
 use Rattle.sb_rulebook.specs.Refusals.{rule_broken}
 use Rattle.sb_rules.specs.Kept.{kept_in}

@@ -1,6 +1,5 @@
 use Rattle.std.proofs.Common.{map, length, refl, sym, subst, ◌∙◌}
 use Rattle.std.proofs.lemmas.Result.{err_from_is_err_and}
-use Rattle.sb_atoms.specs.Numbered as numbered
 use Rattle.sb_atoms.specs.Numbered.{over}
 use Rattle.sb_term.specs.Symbols.{sort_in}
 use Rattle.sb_proof.specs.Lines.{atom_in}
@@ -10,7 +9,7 @@ use Rattle.sb_rulebook.specs.Lines.{atom_line}
 use Rattle.sb_rules.specs.Kept.{kept_in}
 use Rattle.sb_rules.specs.Defining.{IsBroughtAs}
 use Rattle.sb_rules.proofs.Staying.{judged_by, wanted}
-use Rattle.sb_rules.proofs.AtomLines.{by_no_parts, by_unbrought, by_brought, has_number, number_below}
+use Rattle.sb_rules.proofs.AtomLines.{brought_stays, by_no_parts, by_unbrought, by_brought, has_number, number_below}
 use Rattle.sb_regex.proofs.CallerLemmas.{extends_same}
 use Rattle.sb_rules.proofs.kept.Kept.define_atom.Goals as goal
 
@@ -24,8 +23,14 @@ returns-then-not-has_parts-clause-judges c = λ asked d others. (
 pub add_atom-requires-clause-regex : goal.add_atom-requires-clause-regex
 add_atom-requires-clause-regex c =
     number_below (length c.args.self.now.arena) c.args.self.now.regexes.order (atom_in c.args.atom.now)
-    (numbered.atom_in c.in-Some.atom) c.requires.regexes
+    (atom_in c.in-Some.atom) c.requires.regexes
     (subst (IsBroughtAs c.args.self.now.regexes.order (atom_in c.args.atom.now)) c.in-Some.is c.in_ok-atom.ensures).1
+
+pub add_atom-requires-clause-brought : goal.add_atom-requires-clause-brought
+add_atom-requires-clause-brought c =
+    let b = subst (IsBroughtAs c.args.self.now.regexes.order (atom_in c.args.atom.now)) c.in-Some.is
+    c.in_ok-atom.ensures in
+    brought_stays c.args.self.now.regexes.order (atom_in c.args.atom.now) (atom_in c.in-Some.atom) b.1 ∙ b.0
 
 pub returns-in-None-clause-judges : goal.returns-in-None-clause-judges
 returns-in-None-clause-judges c = λ asked d others.
@@ -44,8 +49,8 @@ returns-in-Some-clause-judges c = λ asked d others.
     let a = atom_in c.args.atom.now in
     let b = subst (IsBroughtAs k.regexes.order a) c.in-Some.is c.in_ok-atom.ensures in
     judged_by c.add_atom.result (follows asked (kept_in k others) (atom_line a))
-    (defined (kept_in k others) (over k.arena (numbered.atom_in c.in-Some.atom))) k k c.add_atom.new.self others
-    (by_brought (map sort_in c.args.sorts.now) asked k others a (numbered.atom_in c.in-Some.atom) d b.0
+    (defined (kept_in k others) (over k.arena (atom_in c.in-Some.atom))) k k c.add_atom.new.self others
+    (by_brought (map sort_in c.args.sorts.now) asked k others a (atom_in c.in-Some.atom) d b.0
     (sym c.has_parts.ensures ∙ c.if-not-has_parts.false) b.1) refl (c.add_atom.ensures.defines others)
 
 pub returns-in_err-atom-clause-terms : goal.returns-in_err-atom-clause-terms

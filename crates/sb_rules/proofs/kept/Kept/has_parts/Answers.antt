@@ -14,7 +14,7 @@ returns-then-is_some c =
     ≡ have_parts (map sort_in c.args.sorts.now) c.args.self.now.regexes.order (length c.args.self.now.atoms) (atom_in a))
     (sym c.in-In.is)
     (c.are_declared.ensures
-    ∙ (ap (list_all (λ p. is_declared_piece (map sort_in c.args.sorts.now) (piece_in p))) c.deref.ensures.value
+    ∙ (ap (list_all (λ p. is_declared_piece (map sort_in c.args.sorts.now) (piece_in p))) c.deref.ensures
     ∙ (sym (all_mapped (is_declared_piece (map sort_in c.args.sorts.now)) piece_in c.in-In.pieces.items)
     ∙ ap (λ b. b && list_all (is_declared_piece (map sort_in c.args.sorts.now)) (map piece_in c.in-In.pieces.items))
     (sym c.if-is_some.true ∙ (c.is_some.ensures ∙ ap is_some c.regex.ensures)))))

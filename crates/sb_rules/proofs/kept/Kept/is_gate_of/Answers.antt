@@ -16,7 +16,7 @@ returns-in-And c =
     let l = c.args.literal in
     by_conjunction c.args.self.now.arena atoms clause l c.in-And.conjuncts.items c.in_ok-found.found
     (subst (λ n. Names atoms n (and_atom c.in-And.conjuncts.items)) c.of-id.ensures
-    (subst (λ d. Names atoms c.of-id.result (atom_in d)) c.in-And.is c.describe.ensures))
+    (subst (λ d. Names atoms c.of-id.result (atom_in d)) c.in-And.is c.describe.ensures.names))
     c.requires.signs c.requires.among
     (c.in_ok-found.ensures
     ∙ ap (λ (ls : List Lit). if l.positive then is_set_of clause (l ∷ map negation ls)

@@ -6,7 +6,6 @@ use Rattle.sb_rules.proofs.Staying.{refused_count}
 use Rattle.sb_rules.proofs.Expanded.{expansion_kept}
 use Rattle.sb_regex.specs.Numbered.{AllNumbers}
 use Rattle.sb_regex.proofs.CallerLemmas.{extends_same}
-use Rattle.sb_rules.specs.Known.{Known}
 use Rattle.sb_rules.proofs.kept.Kept.keep_expansion.Goals as goal
 
 pub returns-in_err-counted-clause-counts : goal.returns-in_err-counted-clause-counts
