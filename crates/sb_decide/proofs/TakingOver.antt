@@ -1,5 +1,5 @@
 -- What was found of constants is taken over, and a verdict given.
-use Rattle.sb_decide.proofs.Words.{◌≡◌, ◌≢◌, ℕ, ◌+◌, ◌<◌, true, false, List, [], ◌∷◌, ◌++◌, length, get_or, set, map, take, refl, sym, ap, ap₂, ◌∙◌, arith, Option, None, Some, IfSome, is_some, unwrap_or, vec_len, subst, All, All-pop, All-push, AreConjuncts, AreFilled, AreFound, AreKept, AreRooted, AreSpoken, ArenaGrows, Conjoined, Decider, Extends, Findings, Fit, Found, FragmentIsOfEach, Global, HasAll, HasRegexBelow, IntersectionIsOfEach, IsChangedAt, IsEmptyAt, IsFoundAt, IsFoundOf, IsGraph, IsLeastOf, IsReady, IsRootOf, IsShortestLeast, IsSofar, IsSpoken, IsTakingOver, IsVerdict, IsWord, KeepsEntries, KeepsMarks, Knows, Member, MkandKeepsLanguage, Names, NormalHasTermsWords, ReadyGrown, Regex, RegexesGrow, RegexesGrowAlone, RestSettled, Searches, Serial, Stacked, Store, Term, Vec, all_known, assertion_in, blank, conjoined_at, eq-eqb, extends_more, false≢true, get_or-set_other, get_or-set_same, get_or_read, ids_in, is_decided, is_listed, is_member, is_plain, is_plain_assertion, is_settled, is_unsat, language, length-set, list_all, live, live_constants, live_laid, live_terms, map-append, map_push, mkand, names_below, nil_from_length, places_in, regex_at, regexes_at, regexes_both, same_Some, speaks_of, state_of, take_all, take_more, with_items, with_items_is, with_place, with_word, without_place, word_at, word_of, words_in, Grows}
+use Rattle.sb_decide.proofs.Words.{◌≡◌, ◌≢◌, ℕ, ◌+◌, ◌<◌, true, false, List, [], ◌∷◌, ◌++◌, length, get_or, set, map, take, refl, sym, ap, ap₂, ◌∙◌, arith, Option, None, Some, IfSome, is_some, unwrap_or, vec_len, subst, All, All-pop, All-push, AreConjuncts, AreFilled, AreFound, AreKept, AreRooted, AreSpoken, ArenaGrows, Assumption, Conjoined, Decider, Extends, Findings, Fit, Found, FragmentIsOfEach, Global, HasAll, HasRegexBelow, IntersectionIsOfEach, IsChangedAt, IsEmptyAt, IsFoundAt, IsFoundOf, IsGraph, IsLeastOf, IsReady, IsRootOf, IsShortestLeast, IsSofar, IsSpoken, IsTakingOver, IsVerdict, IsWord, KeepsEntries, KeepsMarks, Knows, Member, MkandKeepsLanguage, Names, NormalHasTermsWords, ReadyGrown, Regex, RegexesGrow, RegexesGrowAlone, RestSettled, Searches, Serial, Stacked, Store, Term, Vec, all_known, assertion_in, blank, conjoined_at, eq-eqb, extends_more, false≢true, get_or-set_other, get_or-set_same, get_or_read, ids_in, is_decided, is_listed, is_member, is_plain, is_plain_assertion, is_settled, is_unsat, language, length-set, list_all, live, live_constants, live_laid, live_terms, map-append, map_push, mkand, names_below, nil_from_length, places_in, regex_at, regexes_at, regexes_both, same_Some, speaks_of, state_of, take_all, take_more, with_items, with_items_is, with_place, with_word, without_place, word_at, word_of, words_in, Grows}
 use Rattle.sb_term.specs.declared.assertion.Assertion as code
 use Rattle.sb_decide.proofs.Conjunctions.{same_least, in_root}
 use Rattle.sb_decide.proofs.Constants.{listed_last}
@@ -187,17 +187,17 @@ abbrev pub Named : Stacked → Type 0
 Named stack = list_all (speaks_of (live_constants stack)) (live_terms (state_of stack)) ≡ true
 
 pub dead_given : FragmentIsOfEach → NormalHasTermsWords → (kept : Decider) (stack : Stacked) → Knows kept stack
-    → HasAll kept stack → is_some kept.dead ≡ true → Named stack → Fit stack
-    → IsVerdict (state_of stack) [] (is_unsat [])
-dead_given law words kept stack k all dead named fit = by_cases kept.dead dead k.taken.dead
+    → HasAll kept stack → is_some kept.dead ≡ true → Named stack → Fit stack → (given : List Assumption)
+    → IsVerdict (state_of stack) given (is_unsat [])
+dead_given law words kept stack k all dead named fit given = by_cases kept.dead dead k.taken.dead
   where
     by_cases : (found : Option Serial) → is_some found ≡ true
         → IfSome found (λ serial. IsEmptyAt kept.store.arena kept.members.items serial.0)
-        → IsVerdict (state_of stack) [] (is_unsat [])
+        → IsVerdict (state_of stack) given (is_unsat [])
     by_cases None some h = absurd (false≢true some)
     by_cases (Some serial) some h =
         unsat_given law kept.store.arena (state_of stack) (live_constants stack) (ids_in kept.members.items) serial.0
-        (all_sofar words kept stack k all) (decided_live kept stack k all) named (fit [] [] refl) h
+        (all_sofar words kept stack k all) (decided_live kept stack k all) named (fit [] [] refl) h given
 
 -- what is known of regexes grows, and the words of the constants that changed are found
 pub knows_searched : RegexesGrowAlone → (kept : Decider) (store : Store) (roots : Vec (Option ℕ) Global)

@@ -1,5 +1,5 @@
 -- From the words of constants to the verdict.
-use Rattle.sb_decide.proofs.Words.{◌≡◌, ℕ, Bool, true, false, ◌&&◌, ◌==◌, if◌then◌else◌, List, [], ◌∷◌, refl, sym, ap, ◌∙◌, ◌≤◌, length, arith, AreShortestLeast, FragmentIsOfEach, HasNoWord, Int, IsShortestLeast, IsSofar, IsVerdict, IsWord, Language, Regex, Satisfiable, Sort, State, Term, Text, Truth, Valuation, Value, all_hold, and_from, and_parts, asking, asks_of, boolean, constants_of, eqb-true, false≢true, holds, in_each, integer, is_decided, is_member, is_of, is_one_of, is_plain, is_unsat, list_all, list_any, live, live_terms, occurs, or_parts, reglan, same_sort, speaks_of, text, value_at, value_in, values_at, word_at, words_asked, words_for, is_same_sort, Constant}
+use Rattle.sb_decide.proofs.Words.{◌≡◌, ℕ, Bool, true, false, ◌&&◌, ◌==◌, if◌then◌else◌, List, [], ◌∷◌, ◌++◌, map, refl, sym, ap, ◌∙◌, ◌≤◌, length, arith, AreShortestLeast, Assumption, FragmentIsOfEach, HasNoWord, Int, IsShortestLeast, IsSofar, IsVerdict, IsWord, Language, Regex, Satisfiable, Sort, State, Term, Text, Truth, Valuation, Value, all_hold, and_from, and_parts, asking, asks_of, assumed, boolean, constants_of, eqb-true, false≢true, holds, in_each, integer, is_decided, is_member, is_of, is_one_of, is_plain, is_unsat, list_all, list_any, live, live_terms, occurs, or_parts, reglan, same_sort, speaks_of, text, value_at, value_in, values_at, word_at, words_asked, words_for, is_same_sort, Constant}
 use Rattle.sb_script.specs.State.{fits}
 use Rattle.sb_decide.proofs.AskingTerms.{about_is, asked_speaks, occurs_not}
 use Rattle.sb_decide.proofs.Conjunctions.{same_least}
@@ -85,12 +85,26 @@ asked_hold n (t ∷ ts) v h = by (asks_of n t) (asked_hold n ts v (and_parts (ho
     by true e = and_from (holds t v) (all_hold (asking n ts) v) (and_parts (holds t v) (all_hold ts v) h).0 e
     by false e = e
 
+-- values that make assumptions true with what is asserted are values of a check without them
+behind_hold : (ts us : List Term) (v : Valuation) → all_hold (ts ++ us) v ≡ true → all_hold us v ≡ true
+behind_hold [] us v h = h
+behind_hold (t ∷ ts) us v h = behind_hold ts us v (and_parts (holds t v) (all_hold (ts ++ us) v) h).1
+
+unassumed : (s : State) (given : List Assumption) → Satisfiable s given → Satisfiable s []
+unassumed s given model =
+    let v = model.0 in
+    let parts = and_parts (fits (constants_of s) v) (all_hold (map assumed given ++ live_terms s) v) model.1 in (
+      v,
+      and_from (fits (constants_of s) v) (all_hold (live_terms s) v) parts.0
+          (behind_hold (map assumed given) (live_terms s) v parts.1),
+    )
+
 pub unsat_given : FragmentIsOfEach → (rs : List Regex) (s : State) (cs : List (ℕ × Sort)) (found : ℕ → List ℕ) (n : ℕ)
     → IsSofar rs (live s) found → list_all is_decided (live s) ≡ true
     → list_all (speaks_of cs) (live_terms s) ≡ true → fits (constants_of s) (values_at cs [] []) ≡ true
-    → HasNoWord (in_each rs (found n)) → IsVerdict s [] (is_unsat [])
-unsat_given law rs s cs found n f decided named fit e =
-    (law s ∙ decided, refuted, record { some = refl; contradicted = refuted })
+    → HasNoWord (in_each rs (found n)) → (given : List Assumption) → IsVerdict s given (is_unsat [])
+unsat_given law rs s cs found n f decided named fit e given =
+    (law s ∙ decided, (λ model. refuted (unassumed s given model)), record { some = refl; contradicted = refuted })
   where
     known : is_one_of cs n text ≡ true
     known = asked_speaks cs n (live_terms s) [] named (f.words n [] refl ∙ e [] refl)

@@ -42,7 +42,7 @@ pub use Rattle.sb_script.specs.Models.{AreShortestLeast, about, is_about, is_of_
 pub use Rattle.sb_script.specs.Pieces.{are_ground, is_ground}
 pub use Rattle.sb_script.specs.Scopes.{Constant}
 pub use Rattle.sb_script.specs.Sizes.{is_regular}
-pub use Rattle.sb_script.specs.State.{Assertion, Satisfiable, State, a_mark, asserted, constants_of, live, live_terms, terms_in}
+pub use Rattle.sb_script.specs.State.{Assertion, Assumption, Satisfiable, State, a_mark, asserted, assumed, constants_of, live, live_terms, terms_in}
 pub use Rattle.sb_script.specs.Verdicts.{IsVerdict, is_unsat}
 pub use Rattle.sb_term.proofs.CallerLemmas.{top_falls}
 pub use Rattle.sb_term.specs.Descending.{Puts, has, top}

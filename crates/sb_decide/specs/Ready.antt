@@ -7,7 +7,7 @@ use Rattle.sb_meaning.specs.Terms.{Term}
 use Rattle.sb_meaning.specs.Truth.{holds}
 use Rattle.sb_script.specs.Models.{is_plain, occurs, AreShortestLeast}
 use Rattle.sb_script.specs.Verdicts.{IsVerdict, is_unsat, is_outside}
-use Rattle.sb_script.specs.State.{asserted, live, live_terms}
+use Rattle.sb_script.specs.State.{Assumption, asserted, live, live_terms}
 use Rattle.sb_script.specs.Fragment.{is_decided}
 use Rattle.sb_store.specs.Stores.{Grows}
 use Rattle.sb_stack.specs.Speaking.{speaks_of}
@@ -49,11 +49,12 @@ pub record IsReady (kept : Decider) (stack : Stacked) : Type 0 where
   pub spoken : AreSpoken kept.others.items stack kept.spoken.keys
   pub left : All (λ serial. IsSpoken kept.others.items stack serial.0) kept.left.items
 
--- Not each assertion is a decided one; or a constant has no word, so no values make the assertions true; or the check
--- is ready.
+-- Not each assertion is a decided one; or a constant has no word, so no values make the assertions true, whatever is
+-- assumed; or the check is ready.
 abbrev pub IsDecided : Decider → Stacked → Decided → Type 0
-IsDecided kept stack decided.Outside = IsVerdict (state_of stack) [] is_outside
-IsDecided kept stack decided.Dead = IsSome kept.dead × IsVerdict (state_of stack) [] (is_unsat [])
+IsDecided kept stack decided.Outside = (given : List Assumption) → IsVerdict (state_of stack) given is_outside
+IsDecided kept stack decided.Dead =
+    IsSome kept.dead × ((given : List Assumption) → IsVerdict (state_of stack) given (is_unsat []))
 IsDecided kept stack decided.Ready = IsReady kept stack
 
 -- Words of the constants that changed are looked for: each has one, or one has none.

@@ -1,14 +1,14 @@
 -- Values of live constants, as their words and truth values say them.
-use Rattle.std.proofs.Common.{◌≡◌, ℕ, ◌+◌, Bool, true, false, if◌then◌else◌, List, [], ◌∷◌, ◌++◌, map, codes, Option, Some, None, option_map, refl, ap, ap₂}
+use Rattle.std.proofs.Common.{◌≡◌, ℕ, ◌+◌, Bool, true, false, if◌then◌else◌, List, [], ◌∷◌, ◌++◌, map, codes, Option, Some, None, option_map, refl, sym, ap, ap₂, ◌∙◌}
 use Rattle.std.specs.List.{list_all}
-use Rattle.std.proofs.lemmas.Bool.{and_parts, and_from}
+use Rattle.std.proofs.lemmas.Bool.{and_parts, and_from, false≢true}
 use Rattle.sb_reader.specs.Forms.{Form, Symbol, QuotedSymbol, Keyword, Numeral, OtherNumber, Words, Group}
-use Rattle.sb_meaning.specs.Terms.{Sort, Term}
+use Rattle.sb_meaning.specs.Terms.{Sort, Term, text}
 use Rattle.sb_meaning.specs.Values.{value_in}
 use Rattle.sb_meaning.specs.Printed.{printed}
 use Rattle.sb_script.specs.Names.{Name, name_text, is_name, is_reserved, begins_term}
 use Rattle.sb_script.specs.Symbols.{is_theory_name}
-use Rattle.sb_script.specs.Scopes.{Named, a_constant, a_definition, a_marked_name, named, constants_in}
+use Rattle.sb_script.specs.Scopes.{Named, a_constant, a_definition, a_marked_name, a_term, named, constants_in}
 use Rattle.sb_script.specs.State.{State}
 use Rattle.sb_script.specs.Steps.{Step, answers, is_unsupported, line, list_text}
 use Rattle.sb_script.specs.Replies.{sort_text, definition_text, value_text, Item, item_constant, item_unknown, item_malformed, item_other, item_named, item_of, all_constants}
@@ -55,7 +55,59 @@ pub definitions : (ts : List Term) (bound : ℕ) (words : List (List ℕ)) (trut
 definitions ts bound words truths ns h =
     definitions_among ts 0 bound (constants_among ns) words truths ns h (λ n sort one. one)
 
--- A name that stands for a constant.
+-- A name that stands for a constant stands for a live one.
+
+-- the serial and the sort of a constant
+abbrev serial_of : Option Named → ℕ
+serial_of (Some (a_constant serial sort)) = serial
+serial_of _ = 0
+
+abbrev sort_of : Option Named → Sort
+sort_of (Some (a_constant serial sort)) = sort
+sort_of _ = text
+
+abbrev is_constant : Option Named → Bool
+is_constant (Some (a_constant serial sort)) = true
+is_constant _ = false
+
+pub constant_live : (ts : List Term) (from bound : ℕ) (cs : List (ℕ × Sort)) (ns : List (Name × scope.Named))
+    (name : Name) → ascend_below from bound (serials_in ns) ≡ true
+    → ((n : ℕ) (sort : Sort) → is_one_of (constants_among ns) n sort ≡ true → is_one_of cs n sort ≡ true)
+    → (serial : ℕ) (sort : Sort) → named (map (naming_in ts) ns) name ≡ Some (a_constant serial sort)
+    → is_one_of cs serial sort ≡ true
+constant_live ts from bound cs [] name h wider serial sort is = absurd (false≢true (ap is_constant is))
+constant_live ts from bound cs ((other, code.Constant m kind) ∷ ns) name h wider serial sort is =
+    step (is_name name other) is
+    (constant_live ts (m.0 + 1) bound cs ns name (rest_ascends from bound m.0 (serials_in ns) h)
+    (λ n k one. wider n k (one_later from bound m.0 (sort_in kind) (constants_among ns) n k h one)) serial sort)
+  where
+    step : (b : Bool) → (if b then Some (a_constant m.0 (sort_in kind)) else named (map (naming_in ts) ns) name)
+        ≡ Some (a_constant serial sort)
+        → (named (map (naming_in ts) ns) name ≡ Some (a_constant serial sort) → is_one_of cs serial sort ≡ true)
+        → is_one_of cs serial sort ≡ true
+    step true same later =
+        ap₂ (is_one_of cs) (sym (ap serial_of same)) (sym (ap sort_of same))
+        ∙ wider m.0 (sort_in kind) (one_first m.0 (sort_in kind) (constants_among ns))
+    step false same later = later same
+constant_live ts from bound cs ((other, code.Definition d) ∷ ns) name h wider serial sort is =
+    step (is_name name other) is (constant_live ts from bound cs ns name h wider serial sort)
+  where
+    step : (b : Bool)
+        → (if b then Some (a_definition (map sort_in d.sorts) (term_at ts d.body))
+        else named (map (naming_in ts) ns) name) ≡ Some (a_constant serial sort)
+        → (named (map (naming_in ts) ns) name ≡ Some (a_constant serial sort) → is_one_of cs serial sort ≡ true)
+        → is_one_of cs serial sort ≡ true
+    step true same later = absurd (false≢true (ap is_constant same))
+    step false same later = later same
+constant_live ts from bound cs ((other, code.Marked) ∷ ns) name h wider serial sort is =
+    step (is_name name other) is (constant_live ts from bound cs ns name h wider serial sort)
+  where
+    step : (b : Bool) → (if b then Some a_marked_name else named (map (naming_in ts) ns) name)
+        ≡ Some (a_constant serial sort)
+        → (named (map (naming_in ts) ns) name ≡ Some (a_constant serial sort) → is_one_of cs serial sort ≡ true)
+        → is_one_of cs serial sort ≡ true
+    step true same later = absurd (false≢true (ap is_constant same))
+    step false same later = later same
 
 abbrev item_for : Name → Option Named → Item
 item_for name o = elim o [
@@ -64,44 +116,18 @@ item_for name o = elim o [
   | None ↦ if is_theory_name name then item_other else item_unknown name
 ]
 
-named_live : (ts : List Term) (from bound : ℕ) (cs : List (ℕ × Sort)) (ns : List (Name × scope.Named)) (name : Name)
-    → ascend_below from bound (serials_in ns) ≡ true
-    → ((n : ℕ) (sort : Sort) → is_one_of (constants_among ns) n sort ≡ true → is_one_of cs n sort ≡ true)
-    → (o : Option Named) → o ≡ named (map (naming_in ts) ns) name → is_live_item cs (item_for name o) ≡ true
-named_live ts from bound cs [] name h more o is = rw is (unknown (is_theory_name name))
+named_live : (cs : List (ℕ × Sort)) (name : Name) (o : Option Named)
+    → ((serial : ℕ) (sort : Sort) → o ≡ Some (a_constant serial sort) → is_one_of cs serial sort ≡ true)
+    → is_live_item cs (item_for name o) ≡ true
+named_live cs name None live = unknown (is_theory_name name)
   where
     unknown : (b : Bool) → is_live_item cs (if b then item_other else item_unknown name) ≡ true
     unknown true = refl
     unknown false = refl
-named_live ts from bound cs ((other, code.Constant serial sort) ∷ ns) name h more o is =
-    step (is_name name other) is
-    (named_live ts (serial.0 + 1) bound cs ns name (rest_ascends from bound serial.0 (serials_in ns) h)
-    (λ n k one. more n k (one_later from bound serial.0 (sort_in sort) (constants_among ns) n k h one)) o)
-  where
-    step : (b : Bool)
-        → o ≡ (if b then Some (a_constant serial.0 (sort_in sort)) else named (map (naming_in ts) ns) name)
-        → (o ≡ named (map (naming_in ts) ns) name → is_live_item cs (item_for name o) ≡ true)
-        → is_live_item cs (item_for name o) ≡ true
-    step true is later =
-        rw is (more serial.0 (sort_in sort) (one_first serial.0 (sort_in sort) (constants_among ns)))
-    step false is later = later is
-named_live ts from bound cs ((other, code.Definition d) ∷ ns) name h more o is =
-    step (is_name name other) is (named_live ts from bound cs ns name h more o)
-  where
-    step : (b : Bool)
-        → o ≡ (if b then Some (a_definition (map sort_in d.sorts) (term_at ts d.body)) else named (map (naming_in ts) ns) name)
-        → (o ≡ named (map (naming_in ts) ns) name → is_live_item cs (item_for name o) ≡ true)
-        → is_live_item cs (item_for name o) ≡ true
-    step true is later = rw is refl
-    step false is later = later is
-named_live ts from bound cs ((other, code.Marked) ∷ ns) name h more o is =
-    step (is_name name other) is (named_live ts from bound cs ns name h more o)
-  where
-    step : (b : Bool) → o ≡ (if b then Some a_marked_name else named (map (naming_in ts) ns) name)
-        → (o ≡ named (map (naming_in ts) ns) name → is_live_item cs (item_for name o) ≡ true)
-        → is_live_item cs (item_for name o) ≡ true
-    step true is later = rw is refl
-    step false is later = later is
+named_live cs name (Some (a_constant serial sort)) live = live serial sort refl
+named_live cs name (Some (a_definition sorts body)) live = refl
+named_live cs name (Some a_marked_name) live = refl
+named_live cs name (Some (a_term t)) live = refl
 
 bare_live : (cs : List (ℕ × Sort)) (item : Item) (b c : Bool) → is_live_item cs item ≡ true
     → is_live_item cs (if b then item_other else if c then item_malformed else item) ≡ true
@@ -113,9 +139,12 @@ form_live : (ts : List Term) (bound : ℕ) (ns : List (Name × scope.Named)) (fo
     → is_live_item (constants_among ns) (item_of (with_names (map (naming_in ts) ns)) form) ≡ true
 form_live ts bound ns (Symbol name) h =
     bare_live (constants_among ns) (item_named (with_names (map (naming_in ts) ns)) name) (begins_term name)
-    (is_reserved name) (named_live ts 0 bound (constants_among ns) ns name h (λ n sort one. one) _ refl)
+    (is_reserved name)
+    (named_live (constants_among ns) name (named (map (naming_in ts) ns) name)
+    (constant_live ts 0 bound (constants_among ns) ns name h (λ n sort one. one)))
 form_live ts bound ns (QuotedSymbol name) h =
-    named_live ts 0 bound (constants_among ns) ns name h (λ n sort one. one) _ refl
+    named_live (constants_among ns) name (named (map (naming_in ts) ns) name)
+    (constant_live ts 0 bound (constants_among ns) ns name h (λ n sort one. one))
 form_live ts bound ns (Keyword name) h = refl
 form_live ts bound ns (Numeral name) h = refl
 form_live ts bound ns (OtherNumber name) h = refl

@@ -344,7 +344,7 @@ state_kept k new kept extends =
       begun = k.begun;
       options = options_of k.print_success k.produce_models k.produce_unsat_assumptions k.scope.global;
       sorts = map sort_in k.scope.sorts;
-      mode = mode_in (constants_among k.scope.names) k.words k.truths k.mode;
+      mode = mode_in (constants_among k.scope.names) k.words k.truths k.unsat_assumptions k.mode;
       first = first_level k.scope.global k.levels (names j) (same j);
       above = levels_above k.scope.global k.levels (names j) (same j);
     })

@@ -21,7 +21,7 @@ use Rattle.sb_stack.specs.Values.{constant_in, asked_in, item_in}
 abbrev pub with_front : {A : Type 0} → List A → Option (List A) → Option (List A)
 with_front front rest = option_map (λ xs. front ++ xs) rest
 
-with_front_more : {A : Type 0} (front : List A) (x : A) (rest : Option (List A))
+pub with_front_more : {A : Type 0} (front : List A) (x : A) (rest : Option (List A))
     → with_front front (elim rest [ Some xs ↦ Some (x ∷ xs) | None ↦ None ]) ≡ with_front (front ++ x ∷ []) rest
 with_front_more front x None = refl
 with_front_more front x (Some xs) = ap Some (sym (append_assoc front (x ∷ []) xs))

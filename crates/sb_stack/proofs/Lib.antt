@@ -6,6 +6,8 @@ pub mod Lefts
 pub mod ByWords
 pub mod Shapes
 pub mod Items
+pub mod NamesBySerial
+pub mod AssumedFacts
 pub mod Printing
 pub mod Changes
 pub mod Replying

@@ -211,7 +211,7 @@ one_of_front : (global : Bool) (k : ℕ) (ns : List (Name × Named)) (n : ℕ) (
 one_of_front true k ns n sort h = h
 one_of_front false k ns n sort h = one_all k ns n sort h
 
-one_more : (ns : List (Name × Named)) (x : Name × Named) (n : ℕ) (sort : Sort)
+pub one_more : (ns : List (Name × Named)) (x : Name × Named) (n : ℕ) (sort : Sort)
     → is_one_of (constants_among ns) n sort ≡ true → is_one_of (constants_among (ns ++ x ∷ [])) n sort ≡ true
 one_more ns x n sort h =
     ap (λ cs. is_one_of cs n sort) (constants_append ns (x ∷ []))

@@ -6,7 +6,7 @@ use Rattle.std.specs.declared.vec.Vec.{Vec}
 use Rattle.std.specs.declared.alloc.Global.{Global}
 use Rattle.sb_meaning.specs.Terms.{Term}
 use Rattle.sb_script.specs.Faults.{Fault, unsupported}
-use Rattle.sb_script.specs.State.{State}
+use Rattle.sb_script.specs.State.{State, Assumption}
 use Rattle.sb_script.specs.Steps as meaning
 use Rattle.sb_term.specs.declared.assertion.Assertion.{Assertion}
 use Rattle.sb_sorts.specs.declared.read.ReadFault.{ReadFault}
@@ -16,7 +16,7 @@ use Rattle.sb_stack.specs.declared.stack.Step.{Step}
 use Rattle.sb_stack.specs.declared.stack.Step.TheVariants as step
 use Rattle.sb_stack.specs.Keeping.{Keeps, KeepsBy}
 use Rattle.sb_stack.specs.Stacked.{Stacked, state_of}
-use Rattle.sb_stack.specs.Steps.{IsStep, IsMoved}
+use Rattle.sb_stack.specs.Steps.{IsStep, IsUnder, IsMoved}
 use Rattle.sb_stack.specs.Taking.{IsAnswered, answered_in, asserts}
 use Rattle.sb_stack.proofs.Changes.{keeps_same, keeps_more, keeps_answer, keeps_error, longer_same}
 
@@ -121,6 +121,7 @@ Takes taken r old new = record {
   ok : IfOk r (λ x. IsStep taken x (state_of old) (state_of new));
   err : OnErr r (state_of new ≡ state_of old);
   keeps : KeepsBy r old new;
+  given : IfOk r (λ x. IsUnder taken x new.assumptions);
 }
 
 pub takes_reply : {E : Type 0} (taken other : meaning.Step) (r : Result (Vec ℕ Global) E) (q : Result Step E)
@@ -130,10 +131,11 @@ takes_reply taken other (Ok text) q old new is same replies =
       ok = subst (λ t. IsStep t (step.Answer text) (state_of old) (state_of new)) (sym is) replies.ok;
       err = tt;
       keeps = keeps_answer text old new replies.keeps;
+      given = tt;
     })
 takes_reply taken other (Err e) q old new is same replies =
     subst (λ x. Takes taken x old new) (sym same)
-    (record { ok = tt; err = replies.err; keeps = keeps_error e old new replies.keeps })
+    (record { ok = tt; err = replies.err; keeps = keeps_error e old new replies.keeps; given = tt })
 
 pub takes_as : {E : Type 0} (taken other : meaning.Step) (r : Result Step E) (old new : Stacked) → taken ≡ other
     → Takes other r old new → Takes taken r old new
@@ -147,9 +149,10 @@ moved_same (Ok (step.Exit text)) xs = longer_same xs
 moved_same (Err e) xs = longer_same xs
 
 -- a step that changes nothing
-pub takes_same : {E : Type 0} (taken other : meaning.Step) (r : Result Step E) (k : Stacked) → taken ≡ other
-    → IfOk r (λ x. IsStep other x (state_of k) (state_of k)) → Takes taken r k k
-takes_same taken other r k is said =
+takes_same : {E : Type 0} (taken other : meaning.Step) (r : Result Step E) (k : Stacked) → taken ≡ other
+    → IfOk r (λ x. IsStep other x (state_of k) (state_of k)) → IfOk r (λ x. IsUnder other x k.assumptions)
+    → Takes taken r k k
+takes_same taken other r k is said under =
     let same = keeps_same k in
     subst (λ t. Takes t r k k) (sym is) (record {
       ok = said;
@@ -160,7 +163,45 @@ takes_same taken other r k is said =
         words = same.words;
         constants = same.constants;
       };
+      given = under;
     })
+
+-- the end of the run
+under_exit : (bytes : List ℕ) (x : Step) (s t : State) (given : List Assumption) → IsStep (meaning.exits bytes) x s t
+    → IsUnder (meaning.exits bytes) x given
+under_exit bytes (step.Left text level) s t given h = tt
+under_exit bytes (step.Answer text) s t given h = tt
+under_exit bytes step.Check s t given h = absurd h
+under_exit bytes (step.Exit text) s t given h = tt
+
+pub takes_exit : {E : Type 0} (taken : meaning.Step) (bytes : List ℕ) (r : Result Step E) (k : Stacked)
+    → taken ≡ meaning.exits bytes → IfOk r (λ x. IsStep (meaning.exits bytes) x (state_of k) (state_of k))
+    → Takes taken r k k
+takes_exit taken bytes r k is said =
+    let s = state_of k in
+    takes_same taken (meaning.exits bytes) r k is said
+    (IfOk-weaker r (λ x. IsStep (meaning.exits bytes) x s s) (λ x. IsUnder (meaning.exits bytes) x k.assumptions)
+    (λ x h. under_exit bytes x s s k.assumptions h) said)
+
+-- a check, whose assumptions are kept
+pub takes_check : {E : Type 0} (taken : meaning.Step) (given : List Assumption) (r : Result Step E) (old new : Stacked)
+    → taken ≡ meaning.checks given → r ≡ Ok step.Check → new ≡ record old { assumptions = given }
+    → Takes taken r old new
+takes_check {E} taken given r old new is asked done =
+    let same = keeps_same old in
+    subst (λ (x : Result Step E). Takes taken x old new) (sym asked)
+    (subst (λ (k : Stacked). Takes {E = E} taken (Ok step.Check) old k) (sym done)
+    (subst (λ t. Takes {E = E} t (Ok step.Check) old (record old { assumptions = given })) (sym is) (record {
+      ok = refl;
+      err = tt;
+      keeps = record {
+        extends = same.extends;
+        moved = longer_same old.assertions;
+        words = refl;
+        constants = same.constants;
+      };
+      given = refl;
+    })))
 
 -- the same step by another name
 pub replies_as : {E : Type 0} (taken other : meaning.Step) (r : Result (Vec ℕ Global) E) (old new : Stacked)
@@ -189,6 +230,7 @@ ended taken r old new err same keeps = record {
 pub takes_failed : {E : Type 0} (taken : meaning.Step) (r : Result Step E) (k : Stacked) → IsErr r → Takes taken r k k
 takes_failed taken r k err =
     takes_same taken taken r k refl (IfOk-from_err r (λ x. IsStep taken x (state_of k) (state_of k)) err)
+    (IfOk-from_err r (λ x. IsUnder taken x k.assumptions) err)
 
 pub keeps_view : (k old new : Stacked) → k ≡ old → Keeps k new → Keeps old new
 keeps_view k old new is keeps = subst (λ (o : Stacked). Keeps o new) is keeps

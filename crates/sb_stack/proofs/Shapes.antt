@@ -1,8 +1,10 @@
 -- The shapes of commands, by their forms.
 use Rattle.std.proofs.Common.{◌≡◌, ℕ, ◌+◌, Bool, true, false, not, ◌&&◌, if◌then◌else◌, List, [], ◌∷◌, length, Option, Some, None, is_some, option_map, option_and_then, option_copied, Bor, refl, ap, sym, ◌∙◌, arith}
 use Rattle.std.specs.List.{list_all}
-use Rattle.sb_reader.specs.Forms.{Form, Forms, Symbol, Group, none, more, is_none, only_of, pair_of}
+use Rattle.sb_reader.specs.Forms.{Form, Forms, Symbol, QuotedSymbol, Group, none, more, is_none, only_of, pair_of}
 use Rattle.sb_script.specs.Commands as meaning
+use Rattle.sb_script.specs.Errors as error
+use Rattle.sb_script.specs.State.{State}
 use Rattle.sb_script.specs.Replies as reply
 use Rattle.sb_script.specs.Replies.{Effect}
 use Rattle.sb_stack.specs.Commands.{keyword_in}
@@ -152,3 +154,16 @@ assumed_of_pair (more f (more g none)) = refl
 assumed_of_pair (more (Symbol x) (more (Symbol y) (more h fs))) = refl
 assumed_of_pair (more (Symbol x) (more _ (more h fs))) = refl
 assumed_of_pair (more _ (more g (more h fs))) = refl
+
+-- a list as a literal, by its two forms where it has two
+abbrev pub literal_pair : State → Option (Form × Form) → reply.Assumed
+literal_pair s None = reply.an_error error.not_a_literal
+literal_pair s (Some (head, form)) = reply.assumed_form s (Group (more head (more form none)))
+
+pub literal_of_pair : (s : State) (forms : Forms) → reply.assumed_form s (Group forms) ≡ literal_pair s (pair_of forms)
+literal_of_pair s none = refl
+literal_of_pair s (more f none) = refl
+literal_of_pair s (more f (more g none)) = refl
+literal_of_pair s (more f (more (Symbol name) (more h fs))) = refl
+literal_of_pair s (more f (more (QuotedSymbol name) (more h fs))) = refl
+literal_of_pair s (more f (more _ (more h fs))) = refl

@@ -1,5 +1,5 @@
 -- Private: what the commands of the code do, and the forms of a list, as the definitions have them.
-use Rattle.std.specs.Prelude.{ℕ, false, List, map, Option, Some, None, codes}
+use Rattle.std.specs.Prelude.{ℕ, List, Option, Some, None, codes}
 use Rattle.sb_reader.specs.declared.sexpr.Shapes.{Shapes}
 use Rattle.sb_reader.specs.Forms.{Form, Forms, Keyword, Numeral, none, more, shape_of, shapes_in}
 use Rattle.sb_stack.specs.declared.command.Kind.{Kind}
@@ -48,8 +48,10 @@ effect_of (code.Assert form) = reply.assert (shape_of form)
 effect_of (code.Push digits) = reply.push (number_of digits.now)
 effect_of (code.Pop digits) = reply.pop (number_of digits.now)
 effect_of code.CheckSat = reply.check_sat
+effect_of (code.CheckSatAssuming forms) = reply.check_sat_assuming (forms_in forms)
 effect_of code.GetModel = reply.get_model
 effect_of (code.GetValue forms) = reply.get_value (forms_in forms)
+effect_of code.GetUnsatAssumptions = reply.get_unsat_assumptions
 effect_of (code.Echo bytes) = reply.echo bytes.now
 effect_of code.ResetAssertions = reply.reset_assertions
 effect_of code.Reset = reply.reset
@@ -65,10 +67,10 @@ shape_in kind.DefineFun = meaning.definition_shape reply.definition_of
 shape_in kind.Push = meaning.levels_shape reply.push
 shape_in kind.Pop = meaning.levels_shape reply.pop
 shape_in kind.CheckSat = meaning.bare reply.check_sat
-shape_in kind.CheckSatAssuming = reply.answered_by false (meaning.assuming_shape reply.check_sat_assuming)
+shape_in kind.CheckSatAssuming = meaning.assuming_shape reply.check_sat_assuming
 shape_in kind.GetModel = meaning.bare reply.get_model
 shape_in kind.GetValue = meaning.value_shape reply.get_value
-shape_in kind.GetUnsatAssumptions = reply.answered_by false (meaning.bare reply.get_unsat_assumptions)
+shape_in kind.GetUnsatAssumptions = meaning.bare reply.get_unsat_assumptions
 shape_in kind.GetUnsatCore = meaning.bare is_unsupported
 shape_in kind.SetLogic = meaning.logic_shape option.set_logic
 shape_in kind.SetOption = meaning.option_shape option.set_option
@@ -79,7 +81,3 @@ shape_in kind.Echo = meaning.echo_shape reply.echo
 shape_in kind.ResetAssertions = meaning.bare reply.reset_assertions
 shape_in kind.Reset = meaning.bare reply.reset
 shape_in kind.Exit = meaning.bare reply.exit
-
--- the commands, as they are answered
-abbrev pub answered_commands : List (Name × Shape)
-answered_commands = map reply.answered reply.commands

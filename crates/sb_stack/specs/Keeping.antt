@@ -6,6 +6,7 @@ use Rattle.sb_script.specs.Brought.{is_brought_sort}
 use Rattle.sb_term.specs.Symbols.{sort_in}
 use Rattle.sb_script.specs.Names.{Name}
 use Rattle.sb_script.specs.State as meaning
+use Rattle.sb_script.specs.State.{Assumption}
 use Rattle.sb_term.specs.declared.assertion.Assertion.{Assertion}
 use Rattle.sb_term.specs.Numbered.{term_at, Extends}
 use Rattle.sb_term.specs.Serials.{all_below}
@@ -14,7 +15,7 @@ use Rattle.sb_sorts.specs.declared.scope.Named.{Named}
 use Rattle.sb_sorts.specs.declared.scope.Named.TheVariants as code
 use Rattle.sb_stack.specs.declared.level.Level.{Level}
 use Rattle.sb_stack.specs.declared.stack.Step.{Step}
-use Rattle.sb_stack.specs.Speaking.{speaks_of}
+use Rattle.sb_stack.specs.Speaking.{speaks_of, are_assumed}
 use Rattle.sb_stack.specs.Stacked.{Stacked, HasNumberBelow, IsLonger, assertion_in, front_names, have_levels}
 use Rattle.sb_stack.specs.Steps.{IsMoved}
 
@@ -61,6 +62,12 @@ pub record IsKept (begun : Bool) (scope : ScopeNames) (table : List Term) (asser
   pub nested : are_nested levels (length scope.names) (length assertions) ≡ true
   pub levelled : have_levels levels assertions ≡ true
   pub theirs : speak_of_theirs scope.global levels scope.names (map (assertion_in table) assertions) ≡ true
+
+-- and the assumptions of the last check are of live constants
+pub record IsStacked (begun : Bool) (scope : ScopeNames) (table : List Term) (assertions : List Assertion)
+    (levels : List Level) (assumptions : List Assumption) : Type 0 where
+  pub kept : IsKept begun scope table assertions levels
+  pub assumed : are_assumed (constants_among scope.names) assumptions ≡ true
 
 -- what is known by number and by place stays so
 pub record Keeps (old new : Stacked) : Type 0 where

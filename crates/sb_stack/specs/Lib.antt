@@ -5,6 +5,7 @@ pub mod Keeping
 pub mod Steps
 pub mod Taking
 pub mod Values
+pub mod Assumptions
 pub mod Settings
 pub mod Refusing
 pub mod Defining

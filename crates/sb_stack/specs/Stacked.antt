@@ -1,20 +1,24 @@
 -- What the code keeps, as the state that the definitions have.
-use Rattle.std.specs.Prelude.{◌≡◌, ℕ, suc, ◌<◌, Bool, true, false, ◌&&◌, ◌==◌, List, [], ◌∷◌, ◌++◌, map, take, drop, length, get_or, Option, Some, None, IfSome}
+use Rattle.std.specs.Prelude.{◌≡◌, ℕ, suc, ◌<◌, Bool, true, false, ◌&&◌, ◌==◌, nat_lt, List, [], ◌∷◌, ◌++◌, map, take, drop, length, get_or, Option, Some, None, IfSome}
 use Rattle.std.specs.List.{list_all}
 use Rattle.sb_word.specs.Words.{are_characters}
 use Rattle.sb_meaning.specs.Terms.{Sort, Term, boolean, integer, text, reglan}
 use Rattle.sb_meaning.specs.Values.{Value, Valuation, Text, Truth, default_of}
 use Rattle.sb_script.specs.State as meaning
+use Rattle.sb_script.specs.State.{Assumption}
+use Rattle.sb_rulebook.specs.Accepted.{question_in}
+use Rattle.sb_rulebook.specs.Verdicts.{Question}
 use Rattle.sb_term.specs.declared.assertion.Assertion.{Assertion}
 use Rattle.sb_term.specs.Numbered.{term_at}
 use Rattle.sb_term.specs.Symbols.{sort_in}
 use Rattle.sb_sorts.specs.Scopes as scopes
-use Rattle.sb_sorts.specs.Scopes.{names_in, constants_among}
+use Rattle.sb_sorts.specs.Scopes.{names_in, constants_among, has_sort}
 use Rattle.sb_script.specs.Scopes.{Naming}
 use Rattle.sb_stack.specs.declared.constant.LiveConstant.{LiveConstant}
 use Rattle.sb_stack.specs.declared.level.Level.{Level}
 use Rattle.sb_stack.specs.declared.stack.Mode.{Mode}
 use Rattle.sb_stack.specs.declared.stack.Mode.TheVariants as mode
+use Rattle.sb_stack.specs.Speaking.{are_assumed}
 
 pub record Stacked : Type 0 where
   pub logic_set : Bool
@@ -28,6 +32,10 @@ pub record Stacked : Type 0 where
   -- the mode says so
   pub words : List (List ℕ)
   pub truths : List Bool
+  -- the assumptions of the last check, none once levels were left; and those of the last one that was unsat which
+  -- contradict what was asserted, which count where the mode says so
+  pub assumptions : List Assumption
+  pub unsat_assumptions : List Assumption
   -- the terms by number, and the live assertions, in order
   pub table : List Term
   pub assertions : List Assertion
@@ -58,12 +66,12 @@ abbrev pub are_words : List (List ℕ) → Bool
 are_words [] = true
 are_words (w ∷ ws) = are_characters w && are_words ws
 
--- the values are of these constants
-abbrev pub mode_in : List (ℕ × Sort) → List (List ℕ) → List Bool → Mode → meaning.Mode
-mode_in constants words truths mode.Plain = meaning.plain
-mode_in constants words truths mode.Sat = meaning.satisfied (values_at constants words truths)
-mode_in constants words truths mode.Unsat = meaning.refuted []
-mode_in constants words truths mode.Unknown = meaning.undecided
+-- the values are of these constants, and what contradicts are these assumptions
+abbrev pub mode_in : List (ℕ × Sort) → List (List ℕ) → List Bool → List Assumption → Mode → meaning.Mode
+mode_in constants words truths unsat mode.Plain = meaning.plain
+mode_in constants words truths unsat mode.Sat = meaning.satisfied (values_at constants words truths)
+mode_in constants words truths unsat mode.Unsat = meaning.refuted unsat
+mode_in constants words truths unsat mode.Unknown = meaning.undecided
 
 abbrev pub assertion_of : List Term → Option ℕ → meaning.Assertion
 assertion_of ts (Some id) = meaning.asserted (term_at ts id)
@@ -119,12 +127,25 @@ state_of kept = record {
   options =
       options_of kept.print_success kept.produce_models kept.produce_unsat_assumptions kept.scope.global;
   sorts = map sort_in kept.scope.sorts;
-  mode = mode_in (live_constants kept) kept.words kept.truths kept.mode;
+  mode = mode_in (live_constants kept) kept.words kept.truths kept.unsat_assumptions kept.mode;
   first = first_level kept.scope.global kept.levels (names_in kept.table kept.scope)
       (map (assertion_in kept.table) kept.assertions);
   above = levels_above kept.scope.global kept.levels (names_in kept.table kept.scope)
       (map (assertion_in kept.table) kept.assertions);
 }
+
+-- the assumptions of the last check, and what it asked
+abbrev pub given_in : Stacked → List Assumption
+given_in kept = kept.assumptions
+
+abbrev pub question_of : Stacked → Question
+question_of kept = question_in (state_of kept) (given_in kept)
+
+-- they are of live constants of sort Bool
+pub record AreAssumed (stack : Stacked) : Type 0 where
+  pub live : are_assumed (live_constants stack) (given_in stack) ≡ true
+  pub sorted : list_all (λ a. has_sort (state_of stack).sorts (a.0, boolean)) (given_in stack) ≡ true
+  pub below : list_all (λ a. nat_lt a.0 (length stack.scope.sorts)) (given_in stack) ≡ true
 
 -- the number of the assertion's term, where it is no mark, is below this
 abbrev pub HasNumberBelow : ℕ → Assertion → Type 0

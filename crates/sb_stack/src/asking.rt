@@ -1,9 +1,10 @@
-//! What a script asks of the solver: options, information, models and values (SMT-LIB 2.6, sections 4.1.7, 4.1.8, 4.2.6).
+//! What a script asks of the solver: options, information, models, values and unsatisfiable assumptions
+//! (SMT-LIB 2.6, sections 4.1.7, 4.1.8, 4.2.6, 4.2.7).
 
 ghost use Rattle.std.specs.Prelude.{◌≡◌, List, true, map, IfOk, MatchResult};
 ghost use Rattle.std.specs.List.{list_all};
 ghost use Rattle.sb_meaning.specs.Values.{Valuation};
-ghost use Rattle.sb_script.specs.State.{State};
+ghost use Rattle.sb_script.specs.State.{State, refuted};
 ghost use Rattle.sb_script.specs.Replies as meaning;
 ghost use Rattle.sb_script.specs.Steps as steps;
 ghost use Rattle.sb_script.specs.Options as options;
@@ -14,6 +15,7 @@ ghost use Rattle.sb_stack.specs.Settings.{text_in};
 ghost use Rattle.sb_stack.specs.Taking.{IsAnswered, asks};
 ghost use Rattle.sb_stack.specs.Values.{item_in, is_live_item, answers_by};
 
+use crate::assuming::assumptions_line;
 use crate::option::{Setting, info_line, setting_named};
 use crate::reply::{error_line, truth_line, unsupported_line};
 use crate::stack::{Mode, Stack};
@@ -103,6 +105,42 @@ impl Stack {
             }
             Err(message) => error_line(self.alloc, message),
         }
+    }
+
+    /// Answers with those of the last check's assumptions that contradict what is asserted.
+    pub(crate) fn get_unsat_assumptions(&self) -> Result<Vec<u8>, AllocError>
+        ensures { IfOk result
+            (λ text. IsAnswered (meaning.get_unsat_assumptions (state_of self.now)) text (state_of self.now)
+            (state_of self.now)) }
+    {
+        if !self.produce_unsat_assumptions {
+            return self.fail(b"assumptions not enabled");
+        }
+        self.contradicted()
+    }
+
+    /// The same, where the option is on.
+    fn contradicted(&self) -> Result<Vec<u8>, AllocError>
+        ensures { IfOk result
+            (λ text. IsAnswered (meaning.contradicted (state_of self.now).mode (state_of self.now)) text
+            (state_of self.now) (state_of self.now)) }
+    {
+        match self.mode {
+            Mode::Unsat => self.contradicting(),
+            Mode::Plain | Mode::Sat | Mode::Unknown => error_line(self.alloc, b"no unsat answer"),
+        }
+    }
+
+    /// The line of the assumptions that the last check named.
+    fn contradicting(&self) -> Result<Vec<u8>, AllocError>
+        ensures { IfOk result
+            (λ text. IsAnswered
+            (meaning.contradicted (refuted self.now.unsat_assumptions) (state_of self.now)) text (state_of self.now)
+            (state_of self.now)) }
+    {
+        let _declared = self.scope.declared();
+        let constants = constants(self.alloc, &self.scope)?;
+        assumptions_line(self.alloc, self.unsat_assumptions.as_slice(), &constants)
     }
 
     pub(crate) fn get_value(&self, forms: Shapes<'_>) -> Result<Vec<u8>, AllocError>

@@ -1,6 +1,6 @@
 //! Commands: what a form asks for, by its shape alone (SMT-LIB 2.6, section 3.9).
 
-ghost use Rattle.std.specs.Prelude.{◌≡◌, false, [], ◌∷◌, option_map, option_copied};
+ghost use Rattle.std.specs.Prelude.{◌≡◌, [], ◌∷◌, option_map, option_copied};
 ghost use Rattle.std.specs.List.{list_all};
 ghost use Rattle.sb_reader.specs.Forms.{Symbol, Group, none, more, form_of, shape_of, shapes_in};
 ghost use Rattle.sb_script.specs.Commands as meaning;
@@ -8,7 +8,7 @@ ghost use Rattle.sb_script.specs.Names.{found_in};
 ghost use Rattle.sb_script.specs.Options as option;
 ghost use Rattle.sb_script.specs.Replies as reply;
 ghost use Rattle.sb_script.specs.Steps.{succeeds};
-ghost use Rattle.sb_stack.specs.Commands.{effect_of, shape_in, answered_commands, forms_in, keyword_in, numeral_in, levels_in};
+ghost use Rattle.sb_stack.specs.Commands.{effect_of, shape_in, forms_in, keyword_in, numeral_in, levels_in};
 
 use sb_reader::{Sexpr, Shape, Shapes};
 use sb_sorts::{begins_term, is_reserved, look_up};
@@ -41,9 +41,12 @@ pub(crate) enum Command<'a> {
     Push(&'a [u8]),
     Pop(&'a [u8]),
     CheckSat,
+    /// The assumptions under which a check is asked for.
+    CheckSatAssuming(Shapes<'a>),
     GetModel,
     /// The terms whose values are asked for.
     GetValue(Shapes<'a>),
+    GetUnsatAssumptions,
     /// The text, as it was written between its quotes.
     Echo(&'a [u8]),
     ResetAssertions,
@@ -139,7 +142,7 @@ fn shaped<'a>(name: &[u8], arguments: Shapes<'a>) -> Option<Command<'a>>
 
 /// The kind of the commands of this name, where their shapes are looked at.
 fn kind_named(name: &[u8]) -> Option<Kind>
-    ensures { option_map shape_in result ≡ found_in answered_commands name.now }
+    ensures { option_map shape_in result ≡ found_in reply.commands name.now }
 {
     look_up(KINDS, name)
 }
@@ -159,7 +162,7 @@ fn shaped_as<'a>(kind: Kind, arguments: Shapes<'a>) -> Option<Command<'a>>
         Kind::CheckSatAssuming => assuming_shape(arguments),
         Kind::GetModel => bare(Command::GetModel, arguments),
         Kind::GetValue => value_shape(arguments),
-        Kind::GetUnsatAssumptions => unsat_assumptions_shape(arguments),
+        Kind::GetUnsatAssumptions => bare(Command::GetUnsatAssumptions, arguments),
         Kind::GetUnsatCore => bare(Command::Another, arguments),
         Kind::SetLogic => logic_shape(arguments),
         Kind::SetOption => option_shape(arguments),
@@ -581,18 +584,9 @@ fn asked_items(items: Shapes<'_>) -> Option<Command<'_>>
     Some(Command::GetValue(items))
 }
 
-/// The question for the assumptions that are unsatisfiable, which is to come.
-fn unsat_assumptions_shape(arguments: Shapes<'_>) -> Option<Command<'_>>
-    ensures { option_map effect_of result
-        ≡ reply.answered_by false (meaning.bare reply.get_unsat_assumptions) (forms_in arguments.entry) }
-{
-    bare(Command::Another, arguments)
-}
-
-/// A check under assumptions, which is to come.
 fn assuming_shape(arguments: Shapes<'_>) -> Option<Command<'_>>
     ensures { option_map effect_of result
-        ≡ reply.answered_by false (meaning.assuming_shape reply.check_sat_assuming) (forms_in arguments.entry) }
+        ≡ meaning.assuming_shape reply.check_sat_assuming (forms_in arguments.entry) }
 {
     match arguments.only() {
         Some(terms) => assuming(terms),
@@ -603,12 +597,22 @@ fn assuming_shape(arguments: Shapes<'_>) -> Option<Command<'_>>
 /// The check under a list of assumptions.
 fn assuming(terms: Shape<'_>) -> Option<Command<'_>>
     ensures { option_map effect_of result
-        ≡ reply.answered_by false (meaning.assuming_shape reply.check_sat_assuming) (shape_of terms.entry ∷ []) }
+        ≡ meaning.assuming_shape reply.check_sat_assuming (shape_of terms.entry ∷ []) }
 {
     match terms {
-        Shape::List(terms) => are_assumptions(terms).then_some(Command::Another),
+        Shape::List(terms) => assuming_all(terms),
         _ => None,
     }
+}
+
+fn assuming_all(terms: Shapes<'_>) -> Option<Command<'_>>
+    ensures { option_map effect_of result
+        ≡ meaning.assuming_shape reply.check_sat_assuming (Group (shapes_in terms.entry) ∷ []) }
+{
+    if !are_assumptions(terms) {
+        return None;
+    }
+    Some(Command::CheckSatAssuming(terms))
 }
 
 fn are_assumptions(forms: Shapes<'_>) -> bool

@@ -6,7 +6,7 @@ ghost use Rattle.sb_script.specs.Replies as meaning;
 ghost use Rattle.sb_script.specs.Texts.{number_of};
 ghost use Rattle.sb_stack.specs.Keeping.{Keeps, KeepsBy, Leaves};
 ghost use Rattle.sb_stack.specs.Stacked.{state_of};
-ghost use Rattle.sb_stack.specs.Steps.{IsStep};
+ghost use Rattle.sb_stack.specs.Steps.{IsStep, IsUnder};
 ghost use Rattle.sb_stack.specs.Taking.{IsAnswered};
 
 use crate::level::Level;
@@ -72,6 +72,8 @@ impl Stack {
             (state_of self.new)) }
         ensures err { OnErr result (state_of self.new ≡ state_of self.old) }
         ensures keeps { KeepsBy result self.old self.new }
+        ensures given { IfOk result
+            (λ step. IsUnder (meaning.pop (number_of count.now) (state_of self.old)) step self.new.assumptions) }
     {
         let Some(count) = number_up_to(count, self.levels.len()) else {
             return answered(self.fail(b"no such level"));
@@ -102,6 +104,7 @@ impl Stack {
         if let Some(level) = self.levels.pop() {
             self.scope.leave(level.names);
             self.assertions.truncate(level.assertions);
+            self.assumptions.clear();
         }
     }
 
@@ -112,6 +115,8 @@ impl Stack {
             (state_of self.new)) }
         ensures err { OnErr result (state_of self.new ≡ state_of self.old) }
         ensures keeps { KeepsBy result self.old self.new }
+        ensures given { IfOk result
+            (λ step. IsUnder (meaning.reset_assertions (state_of self.old)) step self.new.assumptions) }
     {
         let answer = success_line(self.alloc, self.print_success)?;
         self.leave_all();
@@ -124,6 +129,7 @@ impl Stack {
             (λ step. IsStep (meaning.reset (state_of self.old)) step (state_of self.old) (state_of self.new)) }
         ensures err { OnErr result (state_of self.new ≡ state_of self.old) }
         ensures keeps { KeepsBy result self.old self.new }
+        ensures given { IfOk result (λ step. IsUnder (meaning.reset (state_of self.old)) step self.new.assumptions) }
     {
         let answer = success_line(self.alloc, true)?;
         self.start_again();
@@ -138,6 +144,7 @@ impl Stack {
         self.scope.leave(0);
         self.assertions.clear();
         self.levels.clear();
+        self.assumptions.clear();
         self.mode = Mode::Plain;
     }
 
@@ -149,6 +156,7 @@ impl Stack {
         self.scope.clear();
         self.assertions.clear();
         self.levels.clear();
+        self.assumptions.clear();
         self.mode = Mode::Plain;
         self.logic_set = false;
         self.begun = false;

@@ -8,6 +8,7 @@
 #![tactic(auto)]
 
 mod asking;
+mod assuming;
 mod command;
 mod constant;
 mod define;
@@ -21,6 +22,7 @@ mod stack;
 mod value;
 mod verdict;
 
+pub use assuming::Assumption;
 pub use constant::LiveConstant;
 pub use stack::{Stack, Step};
 pub use verdict::Verdict;

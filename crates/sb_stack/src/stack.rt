@@ -1,6 +1,6 @@
 //! The stack.
 
-ghost use Rattle.std.specs.Prelude.{◌≡◌, ℕ, ◌≤◌, Bool, List, [], ◌++◌, true, map, length, Result, IfOk, OnOk, OnErr};
+ghost use Rattle.std.specs.Prelude.{◌≡◌, ℕ, ◌≤◌, Bool, List, [], ◌++◌, true, map, length, Result, Ok, IfOk, OnOk, OnErr};
 ghost use Rattle.std.specs.List.{All, list_all};
 ghost use Rattle.sb_reader.specs.Entries as entries;
 ghost use Rattle.sb_reader.specs.Forms.{form_of, shape_of};
@@ -22,13 +22,18 @@ ghost use Rattle.sb_script.specs.Brought.{is_brought_sort};
 ghost use Rattle.sb_sorts.specs.Bodies.{bound_in};
 ghost use Rattle.sb_term.specs.Numbered.{term_at, Extends};
 ghost use Rattle.sb_term.specs.Serials.{all_below};
-ghost use Rattle.sb_stack.specs.Commands.{effect_of};
+ghost use Rattle.sb_stack.specs.Commands.{effect_of, forms_in};
+ghost use Rattle.sb_stack.specs.declared.stack.Step.TheVariants as code;
 ghost use Rattle.sb_stack.specs.Keeping.{Keeps, KeepsBy, StandsFor};
-ghost use Rattle.sb_stack.specs.Speaking.{speaks_of};
-ghost use Rattle.sb_stack.specs.Stacked.{state_of, assertion_of, assertion_in, values_at, live_constants, live_in, are_words, have_levels, HasNumberBelow, without_words};
-ghost use Rattle.sb_stack.specs.Steps.{verdict_in, found, IsStep, IsMoved, IsEntry, entry_of};
+ghost use Rattle.sb_stack.specs.Speaking.{speaks_of, are_assumed};
+ghost use Rattle.sb_stack.specs.Assumptions.{assumed_in, assumes, assumes_known, is_live_assumed};
+ghost use Rattle.sb_stack.specs.Stacked.{state_of, assertion_of, assertion_in, values_at, live_constants, live_in, are_words, have_levels, HasNumberBelow, without_words, AreAssumed};
+ghost use Rattle.sb_stack.specs.Steps.{verdict_in, found, IsStep, IsUnder, IsMoved, IsEntry, entry_of};
 ghost use Rattle.sb_stack.specs.Taking.{IsAnswered, answered_in, with_print_success, with_produce_models, with_produce_assumptions, declares, asserts};
 
+use crate::assuming::{
+    Assumed, Assumption, all_literals, assumed_forms, first_unknown, some_wrong_sort,
+};
 use crate::command::{Command, command_of};
 use crate::constant::LiveConstant;
 use crate::level::Level;
@@ -39,7 +44,7 @@ use crate::reply::{
 };
 use crate::value::live_constants;
 use crate::verdict::Verdict;
-use sb_reader::{Next, Sexpr, Shape};
+use sb_reader::{Next, Sexpr, Shape, Shapes};
 use sb_script::laws::reading_keeps;
 use sb_sorts::{DeclareError, Parameter, ReadFault, Scope, read_body};
 use sb_term::{Assertion, Sort, Table, TermId};
@@ -63,7 +68,7 @@ pub(crate) enum Mode {
 pub enum Step {
     /// It is answered by these bytes, their line feed included, or by none.
     Answer(Vec<u8>),
-    /// A check is asked for: `settle` answers it.
+    /// A check is asked for, under the stack's `assumptions`: `settle` answers it.
     Check,
     /// Levels are left, with what was asserted there, and what was declared unless it is to stay: it is answered by these
     /// bytes, and so many levels above the first one are left. None: all assertions went.
@@ -88,6 +93,10 @@ pub struct Stack {
     pub(crate) words: Vec<Word>,
     /// The truth value of each constant of sort Bool at its serial, as that check had it.
     pub(crate) truths: Vec<bool>,
+    /// The assumptions of the last check, none once levels were left.
+    pub(crate) assumptions: Vec<Assumption>,
+    /// Those that contradict what was asserted, as the last check that was `unsat` had them.
+    pub(crate) unsat_assumptions: Vec<Assumption>,
     pub(crate) table: Table,
     pub(crate) assertions: Vec<Assertion>,
     /// The levels above the first one, the outermost first.
@@ -99,7 +108,7 @@ impl Model for Stack {
     ghost use Rattle.std.specs.Prelude.{reverse};
     ghost use Rattle.std.specs.Coded.{codes};
     ghost use Rattle.sb_meaning.proofs.CallerLemmas.{coded_term};
-    ghost use Rattle.sb_stack.specs.Keeping.{IsKept};
+    ghost use Rattle.sb_stack.specs.Keeping.{IsStacked};
 
     ghost Value = { Stacked };
 
@@ -115,12 +124,15 @@ impl Model for Stack {
       mode = s.mode;
       words = s.words.items;
       truths = s.truths.items;
+      assumptions = s.assumptions.items;
+      unsat_assumptions = s.unsat_assumptions.items;
       table = s.table;
       assertions = s.assertions.items;
       levels = reverse s.levels.items;
     } };
 
-    ghost invariant = { λ s. IsKept s.begun s.scope s.table s.assertions.items (reverse s.levels.items) };
+    ghost invariant = { λ s. IsStacked s.begun s.scope s.table s.assertions.items (reverse s.levels.items)
+        s.assumptions.items };
 }
 
 #[tactic(auto, using(crate::proofs::Changes::keeps_parts, crate::proofs::Changes::keeps_more))]
@@ -131,6 +143,7 @@ impl Stack {
         ensures assertions { result.assertions ≡ [] }
         ensures words { result.words ≡ [] }
         ensures truths { result.truths ≡ [] }
+        ensures assumptions { result.assumptions ≡ [] }
         ensures table { result.table ≡ [] }
         ensures levels { result.levels ≡ [] }
     {
@@ -145,6 +158,8 @@ impl Stack {
             mode: Mode::Plain,
             words: Vec::new(alloc),
             truths: Vec::new(alloc),
+            assumptions: Vec::new(alloc),
+            unsat_assumptions: Vec::new(alloc),
             table: Table::new(alloc),
             assertions: Vec::new(alloc),
             levels: Vec::new(alloc),
@@ -164,6 +179,8 @@ impl Stack {
         ensures grows { IsMoved result self.old.assertions self.new.assertions }
         ensures words { self.new.words ≡ self.old.words }
         ensures constants { length self.old.scope.sorts ≤ length self.new.scope.sorts }
+        ensures given { IfOk result
+            (λ step. IsUnder (step_of (entry_of entry.now) (state_of self.old)) step self.new.assumptions) }
     {
         self.answer(entry)
     }
@@ -176,6 +193,8 @@ impl Stack {
             (state_of self.new)) }
         ensures err { OnErr result (state_of self.new ≡ state_of self.old) }
         ensures keeps { KeepsBy result self.old self.new }
+        ensures given { IfOk result
+            (λ step. IsUnder (step_of (entry_of entry.now) (state_of self.old)) step self.new.assumptions) }
     {
         match entry {
             Next::Command(form) => self.run(form),
@@ -191,6 +210,9 @@ impl Stack {
             (state_of self.old) (state_of self.new)) }
         ensures err { OnErr result (state_of self.new ≡ state_of self.old) }
         ensures keeps { KeepsBy result self.old self.new }
+        ensures given { IfOk result
+            (λ step. IsUnder (meaning.step_of (entries.Command (form_of form.now)) (state_of self.old)) step
+            self.new.assumptions) }
     {
         match command_of(form) {
             Some(command) => self.take(command),
@@ -204,6 +226,8 @@ impl Stack {
             (state_of self.new)) }
         ensures err { OnErr result (state_of self.new ≡ state_of self.old) }
         ensures keeps { KeepsBy result self.old self.new }
+        ensures given { IfOk result
+            (λ step. IsUnder (effect_of command.entry (state_of self.old)) step self.new.assumptions) }
     {
         match command {
             Command::SetLogic(name) => answered(self.set_logic(name)),
@@ -222,9 +246,11 @@ impl Stack {
             Command::Assert(form) => answered(self.assert(form)),
             Command::Push(count) => answered(self.push(count)),
             Command::Pop(count) => self.pop(count),
-            Command::CheckSat => Ok(Step::Check),
+            Command::CheckSat => self.check(),
+            Command::CheckSatAssuming(forms) => self.check_assuming(forms),
             Command::GetModel => answered(self.get_model()),
             Command::GetValue(forms) => answered(self.get_value(forms)),
+            Command::GetUnsatAssumptions => answered(self.get_unsat_assumptions()),
             Command::Echo(text) => answered(self.echo(text)),
             Command::ResetAssertions => self.reset_assertions(),
             Command::Reset => self.reset(),
@@ -525,6 +551,78 @@ impl Stack {
         Ok(answer)
     }
 
+    /// Asks for a check without assumptions.
+    fn check(&mut self) -> Result<Step, AllocError>
+        ensures asked { result ≡ Ok code.Check }
+        ensures given { self.new ≡ record self.old { assumptions = [] } }
+    {
+        self.assumptions.clear();
+        Ok(Step::Check)
+    }
+
+    /// Asks for a check under assumptions, or says what is wrong with the first one that is none.
+    fn check_assuming(&mut self, forms: Shapes<'_>) -> Result<Step, AllocError>
+        ensures ok { IfOk result
+            (λ step. IsStep (meaning.check_sat_assuming (forms_in forms.entry) (state_of self.old)) step
+            (state_of self.old) (state_of self.new)) }
+        ensures err { OnErr result (state_of self.new ≡ state_of self.old) }
+        ensures keeps { KeepsBy result self.old self.new }
+        ensures given { IfOk result
+            (λ step. IsUnder (meaning.check_sat_assuming (forms_in forms.entry) (state_of self.old)) step
+            self.new.assumptions) }
+    {
+        let _declared = self.scope.declared();
+        let items = assumed_forms(self.alloc, &self.scope, forms)?;
+        self.assume(&items)
+    }
+
+    /// Asks for a check under these items, where they are assumptions.
+    fn assume(&mut self, items: &[Assumed]) -> Result<Step, AllocError>
+        requires { list_all (is_live_assumed (live_constants self.old)) (map assumed_in items.now) ≡ true }
+        ensures ok { IfOk result
+            (λ step. IsStep (assumes items.now (state_of self.old)) step (state_of self.old) (state_of self.new)) }
+        ensures err { OnErr result (state_of self.new ≡ state_of self.old) }
+        ensures keeps { KeepsBy result self.old self.new }
+        ensures given { IfOk result
+            (λ step. IsUnder (assumes items.now (state_of self.old)) step self.new.assumptions) }
+    {
+        match first_unknown(items) {
+            Some(name) => answered(self.fail_with_name(b"unknown symbol ", name)),
+            None => self.assume_known(items),
+        }
+    }
+
+    /// Asks for a check under items whose names all stand for something, where they are assumptions.
+    fn assume_known(&mut self, items: &[Assumed]) -> Result<Step, AllocError>
+        requires { list_all (is_live_assumed (live_constants self.old)) (map assumed_in items.now) ≡ true }
+        ensures ok { IfOk result
+            (λ step. IsStep (assumes_known items.now (state_of self.old)) step (state_of self.old)
+            (state_of self.new)) }
+        ensures err { OnErr result (state_of self.new ≡ state_of self.old) }
+        ensures keeps { KeepsBy result self.old self.new }
+        ensures given { IfOk result
+            (λ step. IsUnder (assumes_known items.now (state_of self.old)) step self.new.assumptions) }
+    {
+        if some_wrong_sort(items) {
+            return answered(self.fail(b"wrong sort"));
+        }
+        let found = all_literals(self.alloc, items)?;
+        match found {
+            Some(assumptions) => self.check_under(assumptions),
+            None => answered(self.fail(b"not a literal")),
+        }
+    }
+
+    /// Asks for a check under these assumptions.
+    fn check_under(&mut self, assumptions: Vec<Assumption>) -> Result<Step, AllocError>
+        requires { are_assumed (live_constants self.old) assumptions.items ≡ true }
+        ensures asked { result ≡ Ok code.Check }
+        ensures given { self.new ≡ record self.old { assumptions = assumptions.items } }
+    {
+        self.assumptions = assumptions;
+        Ok(Step::Check)
+    }
+
     /// Ends the run.
     fn exit(&self) -> Result<Step, AllocError>
         ensures { IfOk result
@@ -551,6 +649,16 @@ impl Stack {
         ensures named { list_all (speaks_of (live_constants self.now)) (live_terms (state_of self.now)) ≡ true }
     {
         self.assertions.as_slice()
+    }
+
+    /// The assumptions of the last check, in the order given: none where it had none, and once levels were left. They
+    /// are of live constants of sort Bool. Takes no memory.
+    pub fn assumptions(&self) -> &[Assumption]
+        ensures value { result.now ≡ self.now.assumptions }
+        ensures assumed { AreAssumed self.now }
+    {
+        let _sorts = self.scope.sorts();
+        self.assumptions.as_slice()
     }
 
     /// The names in force, in the order of declaration: those of the live constants with their serials and sorts. Takes
@@ -612,7 +720,7 @@ impl Stack {
     }
 
     /// Answers a check by what it found, and keeps it for the questions after it. The values of an earlier `Sat` stay
-    /// where this verdict has none. Takes no memory.
+    /// where this verdict has none, and the assumptions of an earlier `Unsat`. Takes no memory.
     pub fn settle(&mut self, verdict: Verdict) -> &'static [u8]
         ensures reply { result.now ≡ verdict_text (verdict_in (live_constants self.old) verdict) }
         ensures state { state_of self.new
@@ -626,7 +734,8 @@ impl Stack {
                 self.mode = Mode::Sat;
                 b"sat\n"
             }
-            Verdict::Unsat => {
+            Verdict::Unsat(assumptions) => {
+                self.unsat_assumptions = assumptions;
                 self.mode = Mode::Unsat;
                 b"unsat\n"
             }

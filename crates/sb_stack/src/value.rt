@@ -321,7 +321,7 @@ fn push_answer(
 }
 
 /// Appends the space in front of the entry at a place of a list, which the first has not.
-fn push_gap(text: &mut Vec<u8>, place: usize) -> Result<(), AllocError>
+pub(crate) fn push_gap(text: &mut Vec<u8>, place: usize) -> Result<(), AllocError>
     ensures { OnOk result (text.new.items ≡ text.old.items ++ gap_at place) }
 {
     if place > 0 {

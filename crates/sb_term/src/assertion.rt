@@ -1,6 +1,6 @@
-//! What a script asserts, and what a check assumes.
+//! What a script asserts.
 
-use crate::term::{Serial, TermId};
+use crate::term::TermId;
 
 /// An assertion of a script.
 #[derive(Clone, Copy, PartialEq, Eq)]
@@ -9,12 +9,4 @@ pub struct Assertion {
     pub term: Option<TermId>,
     /// The level that it stands on: how many pushes were in force where it was asserted.
     pub level: u64,
-}
-
-/// An assumption of a check: a constant of sort Bool, or its negation.
-#[derive(Clone, Copy, PartialEq, Eq)]
-pub struct Assumption {
-    pub serial: Serial,
-    /// Whether the constant itself is assumed, and not its negation.
-    pub positive: bool,
 }

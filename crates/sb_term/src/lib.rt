@@ -11,7 +11,7 @@ mod table;
 mod term;
 mod worklist;
 
-pub use assertion::{Assertion, Assumption};
+pub use assertion::Assertion;
 pub use sort::{Sort, Symbol};
 pub use table::Table;
 pub use term::{Serial, Term, TermId};

@@ -51,7 +51,7 @@ returns-in-GetValue c =
 
 pub returns-in-GetUnsatAssumptions : goal.returns-in-GetUnsatAssumptions
 returns-in-GetUnsatAssumptions c =
-    c.unsat_assumptions_shape.ensures ∙ sym (ap (by_kind c.args.arguments) c.in-GetUnsatAssumptions.is)
+    c.bare-in-GetUnsatAssumptions.ensures ∙ sym (ap (by_kind c.args.arguments) c.in-GetUnsatAssumptions.is)
 
 pub returns-in-GetUnsatCore : goal.returns-in-GetUnsatCore
 returns-in-GetUnsatCore c =

@@ -16,7 +16,8 @@ returns-then-not-branch c =
     let e = c.in_ok-is_inside.ensures in
     record {
       knows = e.knows;
-      decided = c.fragment_is_of_each.ensures (state_of c.args.stack.now) ∙ (e.decided ∙ c.if-not-branch.true);
+      decided = λ given.
+          c.fragment_is_of_each.ensures (state_of c.args.stack.now) ∙ (e.decided ∙ c.if-not-branch.true);
       store = e.store;
     }
 

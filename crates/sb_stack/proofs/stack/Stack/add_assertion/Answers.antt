@@ -22,17 +22,22 @@ invariant_of-self-2 c =
       mode = c.self.inside.mode;
       words = c.self.inside.words.items;
       truths = c.self.inside.truths.items;
+      assumptions = c.self.inside.assumptions.items;
+      unsat_assumptions = c.self.inside.unsat_assumptions.items;
       table = c.self.inside.table;
       assertions = c.self.inside.assertions.items;
       levels = reverse c.self.inside.levels.items;
     } in
     let a : Assertion = record { term = c.args.term; level = c.len-level.result } in
     let stands = subst (λ (k : Stacked). StandsFor k c.args.term) (sym c.self.view_is) c.requires in
-    kept_push c.self.inside.begun c.self.inside.scope c.self.inside.table c.self.inside.assertions.items c.push.new.self.items
-    (reverse c.self.inside.levels.items) a c.in_ok-push.ensures.items c.self.invariant
-    (stands_number kept c.args.term stands)
-    (c.len-level.ensures ∙ c.self.inside.levels.ok.0 ∙ sym (length-reverse c.self.inside.levels.items))
-    (stands_speaks kept c.args.term stands)
+    record {
+      kept = kept_push c.self.inside.begun c.self.inside.scope c.self.inside.table c.self.inside.assertions.items
+          c.push.new.self.items (reverse c.self.inside.levels.items) a c.in_ok-push.ensures.items c.self.invariant.kept
+          (stands_number kept c.args.term stands)
+          (c.len-level.ensures ∙ c.self.inside.levels.ok.0 ∙ sym (length-reverse c.self.inside.levels.items))
+          (stands_speaks kept c.args.term stands);
+      assumed = c.self.invariant.assumed;
+    }
 
 pub returns-clause-ok : goal.returns-clause-ok
 returns-clause-ok c =
@@ -46,13 +51,15 @@ returns-clause-ok c =
       mode = c.self.inside.mode;
       words = c.self.inside.words.items;
       truths = c.self.inside.truths.items;
+      assumptions = c.self.inside.assumptions.items;
+      unsat_assumptions = c.self.inside.unsat_assumptions.items;
       table = c.self.inside.table;
       assertions = c.self.inside.assertions.items;
       levels = reverse c.self.inside.levels.items;
     } in
     let a : Assertion = record { term = c.args.term; level = c.len-level.result } in
     ap (λ bs. state_of (record kept { begun = true; mode = mode.Plain; assertions = bs })) c.in_ok-push.ensures.items
-    ∙ asserted_is kept a c.self.invariant
+    ∙ asserted_is kept a c.self.invariant.kept
     ∙ ap (λ (k : Stacked). with_assertion (assertion_of k.table c.args.term) (state_of k)) c.self.view_is
 
 pub returns-clause-keeps : goal.returns-clause-keeps
@@ -67,6 +74,8 @@ returns-clause-keeps c =
       mode = c.self.inside.mode;
       words = c.self.inside.words.items;
       truths = c.self.inside.truths.items;
+      assumptions = c.self.inside.assumptions.items;
+      unsat_assumptions = c.self.inside.unsat_assumptions.items;
       table = c.self.inside.table;
       assertions = c.self.inside.assertions.items;
       levels = reverse c.self.inside.levels.items;

@@ -16,6 +16,8 @@ returns-clause-live c =
       mode = c.self.inside.mode;
       words = c.self.inside.words.items;
       truths = c.self.inside.truths.items;
+      assumptions = c.self.inside.assumptions.items;
+      unsat_assumptions = c.self.inside.unsat_assumptions.items;
       table = c.self.inside.table;
       assertions = c.self.inside.assertions.items;
       levels = reverse c.self.inside.levels.items;
@@ -35,10 +37,12 @@ returns-clause-named c =
       mode = c.self.inside.mode;
       words = c.self.inside.words.items;
       truths = c.self.inside.truths.items;
+      assumptions = c.self.inside.assumptions.items;
+      unsat_assumptions = c.self.inside.unsat_assumptions.items;
       table = c.self.inside.table;
       assertions = c.self.inside.assertions.items;
       levels = reverse c.self.inside.levels.items;
     } in
     rw (← c.self.view_is) (rw (assertions_live kept)
     (live_speak c.self.inside.scope.global (reverse c.self.inside.levels.items) c.self.inside.scope.names
-    (map (assertion_in c.self.inside.table) c.self.inside.assertions.items) c.self.invariant.theirs))
+    (map (assertion_in c.self.inside.table) c.self.inside.assertions.items) c.self.invariant.kept.theirs))

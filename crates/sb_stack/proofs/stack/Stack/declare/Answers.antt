@@ -2,21 +2,27 @@ use Rattle.std.proofs.Common.{reverse, refl, ap, sym, subst, ◌∙◌}
 use Rattle.sb_script.specs.Symbols.{is_taken}
 use Rattle.sb_term.specs.Symbols.{sort_in}
 use Rattle.sb_sorts.specs.Scopes.{ScopeNames, names_in}
-use Rattle.sb_stack.specs.Keeping.{IsKept}
+use Rattle.sb_stack.specs.Keeping.{IsStacked}
 use Rattle.sb_stack.specs.Stacked.{Stacked, state_of}
 use Rattle.sb_stack.proofs.Changes.{keeps_same, kept_declared, declare_step, keeps_declared, declares_taken}
+use Rattle.sb_stack.proofs.AssumedFacts.{assumed_named}
 use Rattle.sb_stack.proofs.Replying.{says, unanswered, keeps_view}
 use Rattle.sb_stack.proofs.stack.Stack.declare.Goals as goal
 
 pub invariant_of-self : goal.invariant_of-self
-invariant_of-self c =
-    kept_declared c.self.inside.begun c.self.inside.scope c.declare.new.self c.args.name.now c.args.sort c.self.inside.table
-    c.self.inside.assertions.items (reverse c.self.inside.levels.items) c.requires c.in-Ok.ensures.ok.0 c.self.invariant
+invariant_of-self c = record {
+  kept = kept_declared c.self.inside.begun c.self.inside.scope c.declare.new.self c.args.name.now c.args.sort
+      c.self.inside.table c.self.inside.assertions.items (reverse c.self.inside.levels.items) c.requires
+      c.in-Ok.ensures.ok.0 c.self.invariant.kept;
+  assumed = assumed_named c.self.inside.scope.names c.declare.new.self.names _ c.self.inside.assumptions.items
+      (ap (λ (s : ScopeNames). s.names) c.in-Ok.ensures.ok.0) c.self.invariant.assumed;
+}
 
 pub invariant_of-self-in-Err-AlreadyDeclared : goal.invariant_of-self-in-Err-AlreadyDeclared
 invariant_of-self-in-Err-AlreadyDeclared c =
-    subst (λ (s : ScopeNames). IsKept c.self.inside.begun s c.self.inside.table c.self.inside.assertions.items
-    (reverse c.self.inside.levels.items)) (sym c.in-Err-AlreadyDeclared.ensures.err) c.self.invariant
+    subst (λ (s : ScopeNames). IsStacked c.self.inside.begun s c.self.inside.table c.self.inside.assertions.items
+    (reverse c.self.inside.levels.items) c.self.inside.assumptions.items) (sym c.in-Err-AlreadyDeclared.ensures.err)
+    c.self.invariant
 
 pub returns-in_err-answer : goal.returns-in_err-answer
 returns-in_err-answer c =
@@ -34,13 +40,15 @@ returns-in-Ok c =
       mode = c.self.inside.mode;
       words = c.self.inside.words.items;
       truths = c.self.inside.truths.items;
+      assumptions = c.self.inside.assumptions.items;
+      unsat_assumptions = c.self.inside.unsat_assumptions.items;
       table = c.self.inside.table;
       assertions = c.self.inside.assertions.items;
       levels = reverse c.self.inside.levels.items;
     } in
     record {
       ok = rw (← c.self.view_is)
-          (declare_step kept c.args.name.now c.args.sort c.declare.new.self c.in_ok-answer.answer c.self.invariant
+          (declare_step kept c.args.name.now c.args.sort c.declare.new.self c.in_ok-answer.answer c.self.invariant.kept
           (c.in-Ok.ensures.ok.1 c.self.inside.table) c.in-Ok.ensures.ok.0 c.in_ok-answer.ensures);
       err = tt;
       keeps = keeps_view kept c.args.self.now _ c.self.view_is
@@ -59,6 +67,8 @@ returns-in-Err-AlreadyDeclared c =
       mode = c.self.inside.mode;
       words = c.self.inside.words.items;
       truths = c.self.inside.truths.items;
+      assumptions = c.self.inside.assumptions.items;
+      unsat_assumptions = c.self.inside.unsat_assumptions.items;
       table = c.self.inside.table;
       assertions = c.self.inside.assertions.items;
       levels = reverse c.self.inside.levels.items;
@@ -83,6 +93,8 @@ returns c =
       mode = c.self.inside.mode;
       words = c.self.inside.words.items;
       truths = c.self.inside.truths.items;
+      assumptions = c.self.inside.assumptions.items;
+      unsat_assumptions = c.self.inside.unsat_assumptions.items;
       table = c.self.inside.table;
       assertions = c.self.inside.assertions.items;
       levels = reverse c.self.inside.levels.items;

@@ -18,6 +18,8 @@ returns-clause-constants c =
       mode = c.self.inside.mode;
       words = c.self.inside.words.items;
       truths = c.self.inside.truths.items;
+      assumptions = c.self.inside.assumptions.items;
+      unsat_assumptions = c.self.inside.unsat_assumptions.items;
       table = c.self.inside.table;
       assertions = c.self.inside.assertions.items;
       levels = reverse c.self.inside.levels.items;
@@ -36,12 +38,15 @@ returns-clause-fit c =
       mode = c.self.inside.mode;
       words = c.self.inside.words.items;
       truths = c.self.inside.truths.items;
+      assumptions = c.self.inside.assumptions.items;
+      unsat_assumptions = c.self.inside.unsat_assumptions.items;
       table = c.self.inside.table;
       assertions = c.self.inside.assertions.items;
       levels = reverse c.self.inside.levels.items;
     } in
     rw (← c.self.view_is)
     (λ words truths w. rw (constants_live kept)
-    (fitting c.self.inside.table c.self.inside.scope.sorts c.self.inside.scope.names words truths c.self.invariant.brought
+    (fitting c.self.inside.table c.self.inside.scope.sorts c.self.inside.scope.names words truths
+    c.self.invariant.kept.brought
     (ap (λ ss. are_sorted (map sort_in ss) (constants_among c.self.inside.scope.names)) (sym c.sorts-sorts.ensures.value)
     ∙ c.sorts-sorts.ensures.sorted) w))

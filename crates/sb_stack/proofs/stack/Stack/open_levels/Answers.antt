@@ -10,9 +10,13 @@ use Rattle.sb_stack.proofs.stack.Stack.open_levels.Goals as goal
 pub invariant_of-self-2 : goal.invariant_of-self-2
 invariant_of-self-2 c =
     let l : Level = record { names = c.len-names.result; assertions = c.len-assertions.result } in
-    kept_opened c.self.inside.begun c.self.inside.scope c.self.inside.table c.self.inside.assertions.items
-    (reverse c.self.inside.levels.items) (reverse c.push_levels.new.levels.items) c.args.count l c.len-names.ensures
-    (c.len-assertions.ensures ∙ c.self.inside.assertions.ok.0) c.in_ok-push_levels.ensures.ok c.self.invariant
+    record {
+      kept = kept_opened c.self.inside.begun c.self.inside.scope c.self.inside.table c.self.inside.assertions.items
+          (reverse c.self.inside.levels.items) (reverse c.push_levels.new.levels.items) c.args.count l
+          c.len-names.ensures (c.len-assertions.ensures ∙ c.self.inside.assertions.ok.0)
+          c.in_ok-push_levels.ensures.ok c.self.invariant.kept;
+      assumed = c.self.invariant.assumed;
+    }
 
 pub returns-clause-ok : goal.returns-clause-ok
 returns-clause-ok c =
@@ -26,6 +30,8 @@ returns-clause-ok c =
       mode = c.self.inside.mode;
       words = c.self.inside.words.items;
       truths = c.self.inside.truths.items;
+      assumptions = c.self.inside.assumptions.items;
+      unsat_assumptions = c.self.inside.unsat_assumptions.items;
       table = c.self.inside.table;
       assertions = c.self.inside.assertions.items;
       levels = reverse c.self.inside.levels.items;
@@ -47,6 +53,8 @@ returns-clause-keeps c =
       mode = c.self.inside.mode;
       words = c.self.inside.words.items;
       truths = c.self.inside.truths.items;
+      assumptions = c.self.inside.assumptions.items;
+      unsat_assumptions = c.self.inside.unsat_assumptions.items;
       table = c.self.inside.table;
       assertions = c.self.inside.assertions.items;
       levels = reverse c.self.inside.levels.items;

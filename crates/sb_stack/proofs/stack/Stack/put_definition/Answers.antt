@@ -4,10 +4,11 @@ use Rattle.sb_term.specs.Numbered.{term_at}
 use Rattle.sb_term.specs.Symbols.{sort_in}
 use Rattle.sb_sorts.specs.Scopes.{ScopeNames, names_in}
 use Rattle.sb_stack.specs.Defining.{sorts_in}
-use Rattle.sb_stack.specs.Keeping.{IsKept, StandsFor}
+use Rattle.sb_stack.specs.Keeping.{IsStacked, StandsFor}
 use Rattle.sb_stack.specs.Stacked.{Stacked, state_of}
 use Rattle.sb_stack.proofs.Changes.{keeps_same, kept_defined, define_step, keeps_defined, defines_taken}
 use Rattle.sb_stack.proofs.Definitions.{sorts_as}
+use Rattle.sb_stack.proofs.AssumedFacts.{assumed_named}
 use Rattle.sb_stack.proofs.Replying.{says, unanswered, keeps_view}
 use Rattle.sb_stack.proofs.stack.Stack.put_definition.Goals as goal
 
@@ -23,19 +24,26 @@ invariant_of-self c =
       mode = c.self.inside.mode;
       words = c.self.inside.words.items;
       truths = c.self.inside.truths.items;
+      assumptions = c.self.inside.assumptions.items;
+      unsat_assumptions = c.self.inside.unsat_assumptions.items;
       table = c.self.inside.table;
       assertions = c.self.inside.assertions.items;
       levels = reverse c.self.inside.levels.items;
     } in
     let stands = subst (λ (k : Stacked). StandsFor k (Some c.args.body)) (sym c.self.view_is) c.requires in
-    kept_defined c.self.inside.begun c.self.inside.scope c.define.new.self c.args.name.now c.deref.result.now c.args.body
-    c.self.inside.table c.self.inside.assertions.items (reverse c.self.inside.levels.items) stands.0 stands.1
-    c.in-Ok.ensures.ok.0 c.self.invariant
+    record {
+      kept = kept_defined c.self.inside.begun c.self.inside.scope c.define.new.self c.args.name.now c.deref.result.now
+          c.args.body c.self.inside.table c.self.inside.assertions.items (reverse c.self.inside.levels.items) stands.0
+          stands.1 c.in-Ok.ensures.ok.0 c.self.invariant.kept;
+      assumed = assumed_named c.self.inside.scope.names c.define.new.self.names _ c.self.inside.assumptions.items
+          (ap (λ (s : ScopeNames). s.names) c.in-Ok.ensures.ok.0) c.self.invariant.assumed;
+    }
 
 pub invariant_of-self-in-Err-AlreadyDeclared : goal.invariant_of-self-in-Err-AlreadyDeclared
 invariant_of-self-in-Err-AlreadyDeclared c =
-    subst (λ (s : ScopeNames). IsKept c.self.inside.begun s c.self.inside.table c.self.inside.assertions.items
-    (reverse c.self.inside.levels.items)) (sym c.in-Err-AlreadyDeclared.ensures.err) c.self.invariant
+    subst (λ (s : ScopeNames). IsStacked c.self.inside.begun s c.self.inside.table c.self.inside.assertions.items
+    (reverse c.self.inside.levels.items) c.self.inside.assumptions.items) (sym c.in-Err-AlreadyDeclared.ensures.err)
+    c.self.invariant
 
 pub returns-in_err-sorts : goal.returns-in_err-sorts
 returns-in_err-sorts c =
@@ -58,6 +66,8 @@ returns-in-Ok c =
       mode = c.self.inside.mode;
       words = c.self.inside.words.items;
       truths = c.self.inside.truths.items;
+      assumptions = c.self.inside.assumptions.items;
+      unsat_assumptions = c.self.inside.unsat_assumptions.items;
       table = c.self.inside.table;
       assertions = c.self.inside.assertions.items;
       levels = reverse c.self.inside.levels.items;
@@ -67,7 +77,7 @@ returns-in-Ok c =
     record {
       ok = rw (← c.self.view_is)
           (define_step kept c.args.name.now c.deref.result.now (sorts_in c.args.parameters.now) c.args.body
-          c.define.new.self c.in_ok-answer.answer c.self.invariant (c.in-Ok.ensures.ok.1 c.self.inside.table)
+          c.define.new.self c.in_ok-answer.answer c.self.invariant.kept (c.in-Ok.ensures.ok.1 c.self.inside.table)
           c.in-Ok.ensures.ok.0 sorts c.in_ok-answer.ensures);
       err = tt;
       keeps = keeps_view kept k _ c.self.view_is
@@ -86,6 +96,8 @@ returns-in-Err-AlreadyDeclared c =
       mode = c.self.inside.mode;
       words = c.self.inside.words.items;
       truths = c.self.inside.truths.items;
+      assumptions = c.self.inside.assumptions.items;
+      unsat_assumptions = c.self.inside.unsat_assumptions.items;
       table = c.self.inside.table;
       assertions = c.self.inside.assertions.items;
       levels = reverse c.self.inside.levels.items;
@@ -111,6 +123,8 @@ returns c =
       mode = c.self.inside.mode;
       words = c.self.inside.words.items;
       truths = c.self.inside.truths.items;
+      assumptions = c.self.inside.assumptions.items;
+      unsat_assumptions = c.self.inside.unsat_assumptions.items;
       table = c.self.inside.table;
       assertions = c.self.inside.assertions.items;
       levels = reverse c.self.inside.levels.items;

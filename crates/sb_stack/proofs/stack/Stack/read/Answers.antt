@@ -11,12 +11,15 @@ use Rattle.sb_stack.proofs.ReadLive.{read_stands}
 use Rattle.sb_stack.proofs.stack.Stack.read.Goals as goal
 
 pub read_body-requires : goal.read_body-requires
-read_body-requires c = record { bodies = c.self.invariant.bodies }
+read_body-requires c = record { bodies = c.self.invariant.kept.bodies }
 
 pub invariant_of-self : goal.invariant_of-self
-invariant_of-self c =
-    kept_read c.self.inside.begun c.self.inside.scope c.self.inside.table c.read_body.new.table c.self.inside.assertions.items
-    (reverse c.self.inside.levels.items) c.self.invariant c.read_body.ensures.extends c.read_body.ensures.declared
+invariant_of-self c = record {
+  kept = kept_read c.self.inside.begun c.self.inside.scope c.self.inside.table c.read_body.new.table
+      c.self.inside.assertions.items (reverse c.self.inside.levels.items) c.self.invariant.kept
+      c.read_body.ensures.extends c.read_body.ensures.declared;
+  assumed = c.self.invariant.assumed;
+}
 
 pub returns-clause-reads : goal.returns-clause-reads
 returns-clause-reads c =
@@ -30,6 +33,8 @@ returns-clause-reads c =
       mode = c.self.inside.mode;
       words = c.self.inside.words.items;
       truths = c.self.inside.truths.items;
+      assumptions = c.self.inside.assumptions.items;
+      unsat_assumptions = c.self.inside.unsat_assumptions.items;
       table = c.self.inside.table;
       assertions = c.self.inside.assertions.items;
       levels = reverse c.self.inside.levels.items;
@@ -42,7 +47,7 @@ pub returns-clause-stands : goal.returns-clause-stands
 returns-clause-stands c =
     read_stands c.reading_keeps.ensures c.declared-declared.result c.self.inside.scope c.self.inside.table
     c.read_body.new.table c.args.parameters.now (shape_of c.args.form) c.read_body.result
-    c.declared-declared.ensures.serials c.self.invariant.defined c.read_body.ensures.reads
+    c.declared-declared.ensures.serials c.self.invariant.kept.defined c.read_body.ensures.reads
 
 pub returns-clause-state : goal.returns-clause-state
 returns-clause-state c =
@@ -56,11 +61,14 @@ returns-clause-state c =
       mode = c.self.inside.mode;
       words = c.self.inside.words.items;
       truths = c.self.inside.truths.items;
+      assumptions = c.self.inside.assumptions.items;
+      unsat_assumptions = c.self.inside.unsat_assumptions.items;
       table = c.self.inside.table;
       assertions = c.self.inside.assertions.items;
       levels = reverse c.self.inside.levels.items;
     } in
-    state_kept kept c.read_body.new.table c.self.invariant c.read_body.ensures.extends ∙ ap state_of c.self.view_is
+    state_kept kept c.read_body.new.table c.self.invariant.kept c.read_body.ensures.extends
+    ∙ ap state_of c.self.view_is
 
 pub returns-clause-keeps : goal.returns-clause-keeps
 returns-clause-keeps c =
@@ -74,6 +82,8 @@ returns-clause-keeps c =
       mode = c.self.inside.mode;
       words = c.self.inside.words.items;
       truths = c.self.inside.truths.items;
+      assumptions = c.self.inside.assumptions.items;
+      unsat_assumptions = c.self.inside.unsat_assumptions.items;
       table = c.self.inside.table;
       assertions = c.self.inside.assertions.items;
       levels = reverse c.self.inside.levels.items;

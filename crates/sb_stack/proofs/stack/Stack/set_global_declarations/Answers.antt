@@ -4,6 +4,8 @@ use Rattle.sb_script.specs.Options.{truth_in}
 use Rattle.sb_script.specs.State.{State}
 use Rattle.sb_script.specs.Steps.{Step, fails_by, succeeds, success}
 use Rattle.sb_reader.specs.Forms.{shape_of}
+use Rattle.sb_sorts.specs.Scopes.{ScopeNames, constants_among}
+use Rattle.sb_stack.specs.Speaking.{are_assumed}
 use Rattle.sb_stack.specs.Stacked.{Stacked, state_of}
 use Rattle.sb_stack.specs.Taking.{with_global_declarations}
 use Rattle.sb_stack.proofs.Changes.{kept_global, global_is, keeps_global}
@@ -37,13 +39,17 @@ returns-in_err-answer c =
     let k = c.args.self.now in unanswered _ c.from_residual.result k k refl c.from_residual.ensures.0
 
 pub set_global-requires : goal.set_global-requires
-set_global-requires c = c.self.invariant.fresh c.if-self.false
+set_global-requires c = c.self.invariant.kept.fresh c.if-self.false
 
 pub invariant_of-self : goal.invariant_of-self
-invariant_of-self c =
-    kept_global c.self.inside.begun c.in-Some.global c.self.inside.scope c.set_global.new.self c.self.inside.table
-    c.self.inside.assertions.items (reverse c.self.inside.levels.items) (c.self.invariant.fresh c.if-self.false)
-    c.set_global.ensures c.self.invariant
+invariant_of-self c = record {
+  kept = kept_global c.self.inside.begun c.in-Some.global c.self.inside.scope c.set_global.new.self c.self.inside.table
+      c.self.inside.assertions.items (reverse c.self.inside.levels.items) (c.self.invariant.kept.fresh c.if-self.false)
+      c.set_global.ensures c.self.invariant.kept;
+  assumed = ap (λ (s : ScopeNames). are_assumed (constants_among s.names) c.self.inside.assumptions.items)
+      c.set_global.ensures
+      ∙ c.self.invariant.assumed;
+}
 
 pub returns : goal.returns
 returns c =
@@ -57,6 +63,8 @@ returns c =
       mode = c.self.inside.mode;
       words = c.self.inside.words.items;
       truths = c.self.inside.truths.items;
+      assumptions = c.self.inside.assumptions.items;
+      unsat_assumptions = c.self.inside.unsat_assumptions.items;
       table = c.self.inside.table;
       assertions = c.self.inside.assertions.items;
       levels = reverse c.self.inside.levels.items;
@@ -66,6 +74,7 @@ returns c =
     (ap₂ (by_tests (state_of k)) (ap (λ (k : Stacked). k.begun) (sym c.self.view_is) ∙ c.if-self.false)
     (sym c.in-Some.ensures))
     (c.in_ok-answer.ensures ∙ ap (λ (k : Stacked). success (state_of k)) c.self.view_is)
-    (global_is kept c.in-Some.global c.set_global.new.self (c.self.invariant.fresh c.if-self.false) c.set_global.ensures
+    (global_is kept c.in-Some.global c.set_global.new.self (c.self.invariant.kept.fresh c.if-self.false)
+    c.set_global.ensures
     ∙ ap (λ (k : Stacked). with_global_declarations (state_of k) c.in-Some.global) c.self.view_is)
     (keeps_view kept k _ c.self.view_is (keeps_global kept c.set_global.new.self c.in-Some.global c.set_global.ensures))

@@ -35,9 +35,11 @@ returns-in_err-answer c =
     let k = c.args.self.now in unanswered _ c.from_residual.result k k refl c.from_residual.ensures.0
 
 pub invariant_of-self : goal.invariant_of-self
-invariant_of-self c =
-    kept_begun c.self.inside.begun c.self.inside.scope c.self.inside.table c.self.inside.assertions.items
-    (reverse c.self.inside.levels.items) c.self.invariant
+invariant_of-self c = record {
+  kept = kept_begun c.self.inside.begun c.self.inside.scope c.self.inside.table c.self.inside.assertions.items
+      (reverse c.self.inside.levels.items) c.self.invariant.kept;
+  assumed = c.self.invariant.assumed;
+}
 
 pub returns : goal.returns
 returns c =

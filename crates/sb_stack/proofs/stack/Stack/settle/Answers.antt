@@ -18,12 +18,14 @@ returns-in-Sat-clause-kept c =
 pub returns-in-Unsat-clause-state : goal.returns-in-Unsat-clause-state
 returns-in-Unsat-clause-state c =
     let old = c.args.self.now in
-    ap (λ (k : Stacked). settled (verdict_in (live_constants k) verdict.Unsat) (state_of k)) c.self.view_is
+    ap (λ (k : Stacked). settled (verdict_in (live_constants k) (verdict.Unsat c.in-Unsat.assumptions)) (state_of k))
+    c.self.view_is
     ∙ ap (λ v. settled (verdict_in (live_constants old) v) (state_of old)) (sym c.in-Unsat.is)
 
 pub returns-in-Unsat-clause-kept : goal.returns-in-Unsat-clause-kept
 returns-in-Unsat-clause-kept c =
-    ap (λ (k : Stacked). found verdict.Unsat k) c.self.view_is ∙ ap (λ v. found v c.args.self.now) (sym c.in-Unsat.is)
+    ap (λ (k : Stacked). found (verdict.Unsat c.in-Unsat.assumptions) k) c.self.view_is
+    ∙ ap (λ v. found v c.args.self.now) (sym c.in-Unsat.is)
 
 pub returns-in-Unknown-clause-state : goal.returns-in-Unknown-clause-state
 returns-in-Unknown-clause-state c =

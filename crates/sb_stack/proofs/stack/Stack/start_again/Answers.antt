@@ -1,9 +1,10 @@
 use Rattle.std.proofs.Common.{true, false, [], length, reverse, refl, ap, ap₂, sym, subst, ◌∙◌, arith}
 use Rattle.sb_script.specs.State.{start_behind}
-use Rattle.sb_sorts.specs.Scopes.{ScopeNames}
+use Rattle.sb_sorts.specs.Scopes.{ScopeNames, constants_among}
 use Rattle.sb_stack.specs.declared.stack.Mode.TheVariants as mode
 use Rattle.sb_stack.specs.Stacked.{Stacked, state_of}
 use Rattle.sb_stack.specs.Keeping.{IsKept, Leaves}
+use Rattle.sb_stack.specs.Speaking.{are_assumed}
 use Rattle.sb_stack.proofs.Changes.{kept_restarted, restarted_is}
 use Rattle.sb_stack.proofs.Lefts.{leaves_front}
 use Rattle.sb_stack.proofs.stack.Stack.start_again.Goals as goal
@@ -11,10 +12,14 @@ use Rattle.sb_stack.proofs.stack.Stack.start_again.Goals as goal
 pub invariant_of-self : goal.invariant_of-self
 invariant_of-self c =
     let table = c.self.inside.table in
-    subst (λ xs. IsKept false c.clear.new.self table xs (reverse c.clear-3.new.self.items)) (sym c.clear-2.ensures.items)
-    (subst (λ ls. IsKept false c.clear.new.self table [] (reverse ls)) (sym c.clear-3.ensures.items)
-    (kept_restarted c.self.inside.begun c.self.inside.scope c.clear.new.self table c.self.inside.assertions.items
-    (reverse c.self.inside.levels.items) c.clear.ensures c.self.invariant))
+    record {
+      kept = subst (λ xs. IsKept false c.clear.new.self table xs (reverse c.clear-3.new.self.items))
+          (sym c.clear-2.ensures.items)
+          (subst (λ ls. IsKept false c.clear.new.self table [] (reverse ls)) (sym c.clear-3.ensures.items)
+          (kept_restarted c.self.inside.begun c.self.inside.scope c.clear.new.self table c.self.inside.assertions.items
+          (reverse c.self.inside.levels.items) c.clear.ensures c.self.invariant.kept));
+      assumed = ap (are_assumed (constants_among c.clear.new.self.names)) c.clear-4.ensures.items;
+    }
 
 pub returns-clause-state : goal.returns-clause-state
 returns-clause-state c =
@@ -28,6 +33,8 @@ returns-clause-state c =
       mode = c.self.inside.mode;
       words = c.self.inside.words.items;
       truths = c.self.inside.truths.items;
+      assumptions = c.self.inside.assumptions.items;
+      unsat_assumptions = c.self.inside.unsat_assumptions.items;
       table = c.self.inside.table;
       assertions = c.self.inside.assertions.items;
       levels = reverse c.self.inside.levels.items;
@@ -58,6 +65,8 @@ returns-clause-leaves c =
       mode = c.self.inside.mode;
       words = c.self.inside.words.items;
       truths = c.self.inside.truths.items;
+      assumptions = c.self.inside.assumptions.items;
+      unsat_assumptions = c.self.inside.unsat_assumptions.items;
       table = c.self.inside.table;
       assertions = c.self.inside.assertions.items;
       levels = reverse c.self.inside.levels.items;
@@ -70,6 +79,7 @@ returns-clause-leaves c =
       produce_unsat_assumptions = false;
       mode = mode.Plain;
       scope = c.clear.new.self;
+      assumptions = c.clear-4.new.self.items;
       assertions = c.clear-2.new.self.items;
       levels = reverse c.clear-3.new.self.items;
     } in

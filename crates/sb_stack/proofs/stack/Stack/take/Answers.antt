@@ -3,7 +3,7 @@ use Rattle.sb_script.specs.Steps.{Step, answers, succeeds, is_unsupported, line,
 use Rattle.sb_stack.specs.declared.command.Command.{Command}
 use Rattle.sb_stack.specs.Commands.{effect_of}
 use Rattle.sb_stack.specs.Stacked.{Stacked, state_of}
-use Rattle.sb_stack.proofs.Replying.{unchanged, takes_reply, takes_as, takes_same}
+use Rattle.sb_stack.proofs.Replying.{unchanged, takes_reply, takes_as, takes_check, takes_exit}
 use Rattle.sb_stack.proofs.stack.Stack.take.Goals as goal
 
 -- what becomes of a command
@@ -86,7 +86,14 @@ returns-in-Pop c =
 pub returns-in-CheckSat : goal.returns-in-CheckSat
 returns-in-CheckSat c =
     let k = c.args.self.now in
-    takes_same _ _ _ k (ap (taken_by k) c.in-CheckSat.is) refl
+    takes_check _ _ c.check.result k c.check.new.self (ap (taken_by k) c.in-CheckSat.is) c.check.ensures.asked
+    c.check.ensures.given
+
+pub returns-in-CheckSatAssuming : goal.returns-in-CheckSatAssuming
+returns-in-CheckSatAssuming c =
+    let k = c.args.self.now in
+    takes_as _ _ c.check_assuming.result k c.check_assuming.new.self (ap (taken_by k) c.in-CheckSatAssuming.is)
+    c.check_assuming.ensures
 
 pub returns-in-GetModel : goal.returns-in-GetModel
 returns-in-GetModel c =
@@ -99,6 +106,13 @@ returns-in-GetValue c =
     let k = c.args.self.now in
     takes_reply _ _ c.get_value.result c.answered-in-GetValue.result k k (ap (taken_by k) c.in-GetValue.is)
     c.answered-in-GetValue.ensures (unchanged _ c.get_value.result k k refl c.get_value.ensures)
+
+pub returns-in-GetUnsatAssumptions : goal.returns-in-GetUnsatAssumptions
+returns-in-GetUnsatAssumptions c =
+    let k = c.args.self.now in
+    takes_reply _ _ c.get_unsat_assumptions.result c.answered-in-GetUnsatAssumptions.result k k
+    (ap (taken_by k) c.in-GetUnsatAssumptions.is) c.answered-in-GetUnsatAssumptions.ensures
+    (unchanged _ c.get_unsat_assumptions.result k k refl c.get_unsat_assumptions.ensures)
 
 pub returns-in-Echo : goal.returns-in-Echo
 returns-in-Echo c =
@@ -122,7 +136,7 @@ returns-in-Reset c =
 pub returns-in-Exit : goal.returns-in-Exit
 returns-in-Exit c =
     let k = c.args.self.now in
-    takes_same _ _ c.exit.result k (ap (taken_by k) c.in-Exit.is) c.exit.ensures
+    takes_exit _ _ c.exit.result k (ap (taken_by k) c.in-Exit.is) c.exit.ensures
 
 pub returns-in-Another : goal.returns-in-Another
 returns-in-Another c =
