@@ -1,5 +1,5 @@
 -- Behind each entry of a script its terms fit the sorts of the constants, and the script goes on.
-use Rattle.sb_prover.proofs.Words.{◌≡◌, ℕ, List, [], Option, Some, None, sym, subst, Continues, EntriesLeadOn, EntriesStayFit, GoesDown, IsFit, IsStep, LeadsOn, LeadsTo, State, Step, answers, asked_in, checks, exits, leaves, leaving_in, step_of}
+use Rattle.sb_prover.proofs.Words.{◌≡◌, ℕ, List, Option, Some, None, sym, subst, Continues, EntriesLeadOn, EntriesStayFit, GoesDown, IsFit, IsStep, LeadsOn, LeadsTo, State, Step, answers, asked_in, checks, exits, leaves, leaving_in, step_of}
 use Rattle.sb_script.specs.Steps as meaning
 use Rattle.sb_stack.specs.declared.stack.Step.TheVariants as code
 
@@ -22,7 +22,7 @@ by-code (leaves what text s) old new (code.Left bytes level) h leads fit =
     (goes-down what level old s text h.1.0 leads)
 by-code (answers text s) old new (code.Answer bytes) h leads fit =
     subst (λ (t : State). IsFit t × Continues (asked_in old) (asked_in t)) (sym h.1) (leads.1, leads.0)
-by-code (checks []) old new code.Check h leads fit = stays-same old new h fit
+by-code (checks given) old new code.Check h leads fit = stays-same old new h fit
 by-code (exits text) old new (code.Exit bytes) h leads fit = stays-same old new h.1 fit
 by-code _ old new _ h leads fit = absurd h
 

@@ -1,6 +1,7 @@
--- Where the live assertions that a search was asked about are true of words and truth values of their constants, a
--- check may give these values, with the words that memberships give each other constant.
-use Rattle.sb_prover.proofs.Words.{◌≡◌, ◌⊎◌, ℕ, zero, suc, ◌<◌, Bool, true, false, not, ◌&&◌, ◌||◌, ◌==◌, if◌then◌else◌, List, [], ◌∷◌, length, slice_get, Option, Some, inl, inr, refl, sym, ap, subst, ◌∙◌, arith, AreTruthsOf, IsReady, asked_alone, is_decided, list_all, AreTrueAt, Assertion, Constant, Contains, Decider, IsAbout, IsClosed, IsGiven, IsQuestion, IsSpoken, OccursAt, OccursNowhereAt, Sort, Stacked, Term, Text, Valuation, a_mark, all_at, all_hold, and_from, are_defaults, asks_of, asserted, assertion_in, boolean, constants_of, default_of, eqb-true, false_from_ne_true, false≢true, fits, get_or_from_slice_get, holds, integer, is_default, is_default_or_occurs, length-map, list_any, live, live_constants, live_laid, live_terms, occurs, or_left, or_right, reglan, same_Some, slice_get_within, state_of, terms_in, text, truth_in, value_at, value_in, values_at, word_in, is_listed}
+-- Where the live assertions that a search was asked about are true of words and truth values of their constants, and
+-- the assumptions are, a check may give these values, with the words that memberships give each other constant.
+use Rattle.sb_prover.proofs.Words.{AreTrueUnder, ap₂, are_assumed, assumed, assumption_holds, hold_both, is_assumed, list_any-append, make_true, map, ◌++◌, ◌≡◌, ◌⊎◌, ℕ, zero, suc, ◌<◌, Bool, true, false, not, ◌&&◌, ◌||◌, ◌==◌, if◌then◌else◌, List, [], ◌∷◌, length, slice_get, Option, Some, inl, inr, refl, sym, ap, subst, ◌∙◌, arith, AreTruthsOf, IsReady, asked_alone, is_decided, list_all, Assertion, Constant, Contains, Decider, IsAbout, IsClosed, IsGiven, IsQuestion, IsSpoken, OccursAt, OccursNowhereAt, Sort, Stacked, Term, Text, Valuation, a_mark, all_at, all_hold, and_from, are_defaults, asks_of, asserted, assertion_in, boolean, constants_of, default_of, eqb-true, false_from_ne_true, false≢true, fits, get_or_from_slice_get, holds, integer, is_default, is_default_or_occurs, length-map, list_any, live, live_constants, live_laid, live_terms, occurs, or_left, or_parts, or_right, reglan, same_Some, slice_get_within, state_of, terms_in, text, truth_in, value_at, value_in, values_at, word_in, is_listed}
+use Rattle.sb_prover.proofs.AssumedTruths.{assumed_hold, assumed_true, not_assumed, others_make, terms_hold, with_assumed}
 
 -- Values by default.
 
@@ -108,45 +109,70 @@ spoken_at kept s places n decided question o = by (question.only o.place o.liste
         about.2
 
 -- where a search was asked about the assertions at these places
-pub given_by : (kept : Decider) (s : Stacked) (places : List ℕ) (found : List (Option (List ℕ)))
-    (truths others : List Bool) (words : List (List ℕ))
-    → fits (constants_of (state_of s)) (values_at (live_constants s) words others) ≡ true → IsReady kept s
-    → IsQuestion kept.others.items s places → IsClosed kept s found words
-    → AreTruthsOf kept.spoken.keys truths others → AreTrueAt s places found truths
-    → IsGiven (state_of s) [] (values_at (live_constants s) words others)
-given_by kept s places found truths others words fitting ready question closed those h = record {
-  model = and_from (fits (constants_of (state_of s)) (values_at (live_constants s) words others))
-      (all_hold (live_terms (state_of s)) (values_at (live_constants s) words others)) fitting
-      (all_live (values_at (live_constants s) words others) (live (state_of s))
-      (λ place t there. true_at place t there (question.rest place (within place (asserted t) there))));
-  defaults = defaults_are (constants_of (state_of s)) (live_terms (state_of s)) (live_constants s) words others
-      (λ n none.
-      let silent = silent_there kept.others.items s n none in (
-        closed.defaults n silent none,
-        those n
-            ∙ ap (λ b. b && truth_in truths n)
-            (false_from_ne_true (is_listed kept.spoken.keys n) (λ listed. silent (ready.spoken.only n listed))),
-      ));
-  least = λ plain. closed.plain plain others;
-}
-  where
-    within : (place : ℕ) (a : Assertion) → slice_get (live (state_of s)) place ≡ Some a → place < length s.assertions
-    within place a there =
-        let low = slice_get_within (live (state_of s)) place a there in
-        omega (arith, low, ap length (live_laid s), length-map s.assertions (assertion_in s.table))
+module _ (kept : Decider) (s : Stacked) (places : List ℕ) (found : List (Option (List ℕ))) (truths others : List Bool)
+    (words : List (List ℕ))
+    (fitting : fits (constants_of (state_of s)) (values_at (live_constants s) words others) ≡ true)
+    (ready : IsReady kept s) (question : IsQuestion kept.others.items s places) (closed : IsClosed kept s found words)
+    (those : AreTruthsOf kept.spoken.keys s.assumptions truths others) (under : AreTrueUnder s places found truths)
+    (assumed_live : are_assumed (live_constants s) s.assumptions ≡ true) where
+  abbrev values : Valuation
+  values = values_at (live_constants s) words others
 
-    true_at : (place : ℕ) (t : Term) → slice_get (live (state_of s)) place ≡ Some (asserted t)
-        → Contains places place ⊎ ((n : ℕ) × IsAbout s place n × OccursNowhereAt s places n)
-        → holds t (values_at (live_constants s) words others) ≡ true
-    true_at place t there (inl listed) =
-        h words others closed.characters
-        (λ n o.
-        let spoken = spoken_at kept s places n ready.decided question o in (
-          closed.given n spoken,
-          those n ∙ ap (λ b. b && truth_in truths n) (ready.spoken.each n spoken),
-        ))
-        place t listed there
-    true_at place t there (inr other) =
-        closed.demands other.0 place t others
-        (silent_at kept.others.items s places other.0 question.asked other.2) there
-        (about_this s place other.0 t other.1 there)
+  made : make_true others s.assumptions ≡ true
+  made = others_make kept.spoken.keys s.assumptions truths others those under.1
+
+  pub assumptions_hold : list_all (assumption_holds values) s.assumptions ≡ true
+  assumptions_hold = assumed_hold (live_constants s) words others s.assumptions assumed_live made
+
+  within : (place : ℕ) (a : Assertion) → slice_get (live (state_of s)) place ≡ Some a → place < length s.assertions
+  within place a there =
+      let low = slice_get_within (live (state_of s)) place a there in
+      omega (arith, low, ap length (live_laid s), length-map s.assertions (assertion_in s.table))
+
+  -- a constant that is spoken of has the truth value that was found
+  spoken_truth : (n : ℕ) → IsSpoken kept.others.items s n → truth_in others n ≡ truth_in truths n
+  spoken_truth n spoken =
+      those n
+      ∙ ap (λ b. (b && truth_in truths n) || is_assumed s.assumptions n) (ready.spoken.each n spoken)
+      ∙ with_assumed (truth_in truths n) (is_assumed s.assumptions n) (assumed_true truths s.assumptions n under.1)
+
+  true_at : (place : ℕ) (t : Term) → slice_get (live (state_of s)) place ≡ Some (asserted t)
+      → Contains places place ⊎ ((n : ℕ) × IsAbout s place n × OccursNowhereAt s places n) → holds t values ≡ true
+  true_at place t there (inl listed) =
+      under.0 words others closed.characters
+      (λ n o.
+      let spoken = spoken_at kept s places n ready.decided question o in
+      (closed.given n spoken, spoken_truth n spoken))
+      place t listed there
+  true_at place t there (inr other) =
+      closed.demands other.0 place t others
+      (silent_at kept.others.items s places other.0 question.asked other.2) there
+      (about_this s place other.0 t other.1 there)
+
+  defaults : (n : ℕ) → list_any (occurs n) (map assumed s.assumptions ++ live_terms (state_of s)) ≡ false
+      → (word_in words n ≡ []) × (truth_in others n ≡ false)
+  defaults n none =
+      let terms = live_terms (state_of s) in
+      let both = or_parts (list_any (occurs n) (map assumed s.assumptions)) (list_any (occurs n) terms)
+      (sym (list_any-append (occurs n) (map assumed s.assumptions) terms) ∙ none) in
+      let silent = silent_there kept.others.items s n both.1 in (
+        closed.defaults n silent both.1,
+        those n
+            ∙ ap₂ (λ b c. (b && truth_in truths n) || c)
+            (false_from_ne_true (is_listed kept.spoken.keys n) (λ listed. silent (ready.spoken.only n listed)))
+            (not_assumed s.assumptions n both.0),
+      )
+
+  pub given_by : IsGiven (state_of s) s.assumptions values
+  given_by = record {
+    model = and_from (fits (constants_of (state_of s)) values)
+        (all_hold (map assumed s.assumptions ++ live_terms (state_of s)) values) fitting
+        (hold_both (map assumed s.assumptions) (live_terms (state_of s)) values
+        ∙ and_from (all_hold (map assumed s.assumptions) values) (all_hold (live_terms (state_of s)) values)
+        (terms_hold (live_constants s) words others s.assumptions assumed_live made)
+        (all_live values (live (state_of s))
+        (λ place t there. true_at place t there (question.rest place (within place (asserted t) there)))));
+    defaults = defaults_are (constants_of (state_of s)) (map assumed s.assumptions ++ live_terms (state_of s))
+        (live_constants s) words others defaults;
+    least = λ plain. closed.plain plain others;
+  }

@@ -12,3 +12,4 @@ mod Leaving
 mod FitSteps
 mod Solutions
 mod Given
+mod AssumedTruths

@@ -1,25 +1,10 @@
 -- The lines that are put for a check are taken one by one, and the last one ends it.
-use Rattle.sb_prover.proofs.Words.{◌≡◌, ℕ, ◌+◌, Bool, true, false, List, [], ◌∷◌, ◌++◌, map, Option, Some, None, Result, Ok, Err, refl, sym, ap, ◌∙◌, append_assoc, AllKept, IsSaid, Line, Progress, Puts, Question, Refusal, Said, SaysVerdict, Tells, TextIsOneLine, TextIsRead, TextsAreLines, Verdict, and_from, and_parts, append-nil, asks, at_check, at_rest, bytes_of, count_again, ended, first_lines, follow_all, follows, has_text, header_line, is_one_line, line, list_all, map-append, meets, newest_format, nothing_kept, refusal_of, takes, takes_at_check, takes_in, takes_kept, takes_read, takes_verdict, text_of, through, verdict_line, with_bytes, flat_map-append, LineText, texts_of, if_ended}
-
-abbrev texts : List Line → List LineText
-texts ls = map ended (map text_of ls)
+use Rattle.sb_prover.proofs.Words.{◌≡◌, ℕ, ◌+◌, Bool, true, false, List, [], ◌∷◌, ◌++◌, map, Option, Some, None, Result, Ok, Err, refl, sym, ap, ◌∙◌, append_assoc, AllKept, IsSaid, Line, Progress, Puts, Question, Refusal, Said, SaysVerdict, Tells, Verdict, and_from, append-nil, asks, at_check, at_rest, bytes_of, count_again, first_lines, follow_all, follows, has_text, line, list_all, map-append, meets, newest_format, nothing_kept, refusal_of, takes_at_check, takes_kept, takes_verdict, text_of, verdict_line, with_bytes, flat_map-append, goes_through, take_line, list_all-append}
 
 -- what a check has come to whose first line has come
 abbrev waiting : Question → List Said → AllKept → ℕ → Progress
 waiting q said kept next =
     record { phase = at_check q; begun = true; said = said; kept = kept; next = next }
-
--- a line that has a text is taken as it is
-taken : TextIsRead → (l : Line) → has_text l ≡ true → (p : Progress)
-    → takes (ended (text_of l)) p ≡ takes_in p.phase l p
-taken law l text p =
-    ap (λ r. takes_read (elim r as (λ _. Result Line Refusal) [ Ok m ↦ if_ended true m | Err refusal ↦ Err refusal ]) p)
-    (law l text)
-
-all-one : TextIsOneLine → (ls : List Line) → list_all is_one_line (map text_of ls) ≡ true
-all-one law [] = refl
-all-one law (l ∷ ls) =
-    and_from (is_one_line (text_of l)) (list_all is_one_line (map text_of ls)) (law l) (all-one law ls)
 
 -- A line that follows leaves a check waiting.
 
@@ -30,25 +15,22 @@ kept-line q said kept after next (verdict_line s) h = absurd (cc (h))
 kept-line q said kept after next _ h = ap (λ r. takes_kept r (waiting q said kept next)) h
 
 -- with the number of the next line
-Waits : Question → List Said → AllKept → AllKept → ℕ → List Line → List LineText → Type 0
-Waits q said kept after next ls more =
-    (n : ℕ) × (through (waiting q said kept next) (texts ls ++ more) ≡ through (waiting q said after n) more)
+Waits : Question → List Said → AllKept → AllKept → ℕ → List Line → List Line → Type 0
+Waits q said kept after next ls more = (n : ℕ)
+    × (goes_through take_line (waiting q said kept next) (ls ++ more)
+    ≡ goes_through take_line (waiting q said after n) more)
 
-lines-taken : TextIsRead → (q : Question) (said : List Said) (kept after : AllKept) (next : ℕ) (ls : List Line)
-    (more : List LineText) → list_all has_text ls ≡ true → follow_all q.asked kept ls ≡ Ok after
-    → Waits q said kept after next ls more
+lines-taken : (q : Question) (said : List Said) (kept after : AllKept) (next : ℕ) (ls more : List Line)
+    → follow_all q.asked kept ls ≡ Ok after → Waits q said kept after next ls more
 unfolding Waits
-lines-taken law q said kept after next [] more text h =
-    (next, ap (λ k. through (waiting q said k next) more) (same h))
+lines-taken q said kept after next [] more h =
+    (next, ap (λ k. goes_through take_line (waiting q said k next) more) (same h))
   where
     same : ◌≡◌ {A = Result AllKept Refusal} (Ok kept) (Ok after) → kept ≡ after
     same h = cc
-lines-taken law q said kept after next (l ∷ ls) more text h =
-    step (λ mid. lines-taken law q said mid after (next + 1) ls more parts.1) (follows q.asked kept l) refl h
+lines-taken q said kept after next (l ∷ ls) more h =
+    step (λ mid. lines-taken q said mid after (next + 1) ls more) (follows q.asked kept l) refl h
   where
-    parts : (has_text l ≡ true) × (list_all has_text ls ≡ true)
-    parts = and_parts (has_text l) (list_all has_text ls) text
-
     step : ((mid : AllKept) → follow_all q.asked mid ls ≡ Ok after → Waits q said mid after (next + 1) ls more)
         → (r : Result AllKept Refusal) → follows q.asked kept l ≡ r
         → elim r as (λ _. Result AllKept Refusal)
@@ -57,8 +39,7 @@ lines-taken law q said kept after next (l ∷ ls) more text h =
     step rest (Ok mid) is h =
         let more-lines = rest mid h in (
           more-lines.0,
-          ap (λ p. through p (texts ls ++ more)) (taken law l parts.0 (waiting q said kept next)
-              ∙ kept-line q said kept mid next l is) ∙ more-lines.1,
+          ap (λ p. goes_through take_line p (ls ++ more)) (kept-line q said kept mid next l is) ∙ more-lines.1,
         )
     step rest (Err refusal) is h = absurd (cc (h))
 
@@ -69,12 +50,11 @@ abbrev answered : List Said → AllKept → ℕ → Progress
 answered said kept next =
     record { phase = at_rest; begun = true; said = said; kept = count_again kept; next = next }
 
-verdict-taken : TextIsRead → (q : Question) (before : List Said) (kept : AllKept) (next : ℕ) (said : Said)
-    → has_text (verdict_line said) ≡ true → refusal_of q kept said ≡ None → through (waiting q before kept next)
-    (texts (verdict_line said ∷ [])) ≡ (answered (before ++ said ∷ []) kept (next + 1), [])
-verdict-taken law q before kept next said text right =
-    ap (λ p. through p []) (taken law (verdict_line said) text (waiting q before kept next)
-    ∙ ap (λ o. takes_verdict said o (waiting q before kept next)) right)
+verdict-taken : (q : Question) (before : List Said) (kept : AllKept) (next : ℕ) (said : Said)
+    → refusal_of q kept said ≡ None → goes_through take_line (waiting q before kept next) (verdict_line said ∷ [])
+    ≡ (answered (before ++ said ∷ []) kept (next + 1), [])
+verdict-taken q before kept next said right =
+    ap (λ o. goes_through take_line (takes_verdict said o (waiting q before kept next)) []) right
 
 -- All of it.
 
@@ -84,44 +64,41 @@ all_lines begun ls said = first_lines begun ++ (ls ++ verdict_line said ∷ [])
 
 abbrev Answers : Question → Bool → List Said → AllKept → AllKept → ℕ → List Line → Said → Type 0
 Answers q begun before kept after next ls said =
-    (n : ℕ) × (through (record { phase = at_check q; begun = begun; said = before; kept = kept; next = next })
-    (texts (all_lines begun ls said)) ≡ (answered (before ++ said ∷ []) after n, []))
+    (n : ℕ)
+    × (goes_through take_line (record { phase = at_check q; begun = begun; said = before; kept = kept; next = next })
+    (all_lines begun ls said) ≡ (answered (before ++ said ∷ []) after n, []))
 
-texts-append : (ls ms : List Line) → texts (ls ++ ms) ≡ texts ls ++ texts ms
-texts-append ls ms = ap (map ended) (map-append text_of ls ms) ∙ map-append ended (map text_of ls) (map text_of ms)
-
-begun-taken : TextIsRead → (q : Question) (before : List Said) (kept after : AllKept) (next : ℕ) (ls : List Line)
-    (said : Said) → list_all has_text ls ≡ true → follow_all q.asked kept ls ≡ Ok after
-    → has_text (verdict_line said) ≡ true → refusal_of q after said ≡ None
+begun-taken : (q : Question) (before : List Said) (kept after : AllKept) (next : ℕ) (ls : List Line) (said : Said)
+    → follow_all q.asked kept ls ≡ Ok after → refusal_of q after said ≡ None
     → Answers q true before kept after next ls said
 unfolding Waits
-begun-taken law q before kept after next ls said text follow spelled right =
-    let waits = lines-taken law q before kept after next ls (texts (verdict_line said ∷ [])) text follow in (
-      waits.0 + 1,
-      ap (through (waiting q before kept next)) (texts-append ls (verdict_line said ∷ []))
-          ∙ waits.1 ∙ verdict-taken law q before after waits.0 said spelled right,
-    )
+begun-taken q before kept after next ls said follow right =
+    let waits = lines-taken q before kept after next ls (verdict_line said ∷ []) follow in
+    (waits.0 + 1, waits.1 ∙ verdict-taken q before after waits.0 said right)
 
-check-taken : TextIsRead → (q : Question) (begun : Bool) (before : List Said) (kept after : AllKept) (next : ℕ)
-    (ls : List Line) (said : Said) → (begun ≡ false → kept ≡ nothing_kept newest_format)
-    → list_all has_text ls ≡ true → follow_all q.asked kept ls ≡ Ok after → has_text (verdict_line said) ≡ true
+check-taken : (q : Question) (begun : Bool) (before : List Said) (kept after : AllKept) (next : ℕ) (ls : List Line)
+    (said : Said) → (begun ≡ false → kept ≡ nothing_kept newest_format) → follow_all q.asked kept ls ≡ Ok after
     → refusal_of q after said ≡ None → Answers q begun before kept after next ls said
-check-taken law q true before kept after next ls said first text follow spelled right =
-    begun-taken law q before kept after next ls said text follow spelled right
-check-taken law q false before kept after next ls said first text follow spelled right =
-    let rest = begun-taken law q before (nothing_kept newest_format) after (next + 1) ls said text
-    (ap (λ k. follow_all q.asked k ls) (sym (first refl)) ∙ follow) spelled right in
-    let none : Progress = record { phase = at_check q; begun = false; said = before; kept = kept; next = next } in (
-      rest.0,
-      ap (λ p. through p (texts (ls ++ verdict_line said ∷ []))) (taken law (header_line newest_format) refl none)
-          ∙ rest.1,
-    )
+check-taken q true before kept after next ls said first follow right =
+    begun-taken q before kept after next ls said follow right
+check-taken q false before kept after next ls said first follow right =
+    begun-taken q before (nothing_kept newest_format) after (next + 1) ls said
+    (ap (λ k. follow_all q.asked k ls) (sym (first refl)) ∙ follow) right
 
--- the bytes of lines are the lines
-lines-read : TextIsOneLine → TextsAreLines → (ls : List Line) → texts_of (bytes_of (map text_of ls)) ≡ texts ls
-lines-read one law ls =
-    ap texts_of (sym (append-nil (bytes_of (map text_of ls)))) ∙ law (map text_of ls) [] (all-one one ls)
-    ∙ append-nil (texts ls)
+first-has-text : (begun : Bool) → list_all has_text (first_lines begun) ≡ true
+first-has-text true = refl
+first-has-text false = refl
+
+-- each of them has a text, where those in the middle and the verdict have
+all-have-text : (begun : Bool) (ls : List Line) (said : Said) → list_all has_text ls ≡ true
+    → has_text (verdict_line said) ≡ true → list_all has_text (all_lines begun ls said) ≡ true
+all-have-text begun ls said text spelled =
+    list_all-append has_text (first_lines begun) (ls ++ verdict_line said ∷ [])
+    ∙ and_from (list_all has_text (first_lines begun)) (list_all has_text (ls ++ verdict_line said ∷ []))
+    (first-has-text begun)
+    (list_all-append has_text ls (verdict_line said ∷ [])
+    ∙ and_from (list_all has_text ls) (list_all has_text (verdict_line said ∷ [])) text
+    (and_from (has_text (verdict_line said)) true spelled refl))
 
 -- What a tape tells of them.
 
@@ -146,26 +123,22 @@ pub tells-one : (l : Line) (old new : Option (List ℕ)) → new ≡ with_bytes 
 tells-one l old new told = told ∙ ap (λ bytes. with_bytes bytes old) (sym (append-nil (line (text_of l))))
 
 -- The first line where it did not stand there, lines that follow, and a verdict that may be said: they prove it.
-pub verdict-said : TextIsRead → TextIsOneLine → TextsAreLines → (before : Progress) (reached : AllKept) (q : Question)
-    (said : Said) (v : Verdict) (old begun mid new : Option (List ℕ)) → before.phase ≡ at_rest
+pub verdict-said : (before : Progress) (reached : AllKept) (q : Question) (said : Said) (v : Verdict)
+    (old begun mid new : Option (List ℕ)) → before.phase ≡ at_rest
     → (before.begun ≡ false → before.kept ≡ nothing_kept newest_format) → Tells (first_lines before.begun) old begun
     → Puts q.asked before.kept reached begun mid → has_text (verdict_line said) ≡ true
     → refusal_of q reached said ≡ None → SaysVerdict q (count_again reached) said v
     → new ≡ with_bytes (line (text_of (verdict_line said))) mid → IsSaid q v before reached old new
-verdict-said law one many before reached q said v old begun mid new rests first told puts spelled right says told-last =
+verdict-said before reached q said v old begun mid new rests first told puts spelled right says told-last =
     record {
       lines = bytes_of (map text_of (all_lines before.begun puts.lines said));
       after = answered (before.said ++ said ∷ []) reached taken-all.0;
       proves = record {
         said = said;
-        whole = (
-          map text_of (all_lines before.begun puts.lines said),
-          (refl, all-one one (all_lines before.begun puts.lines said)),
-        );
-        lines_follow = ap (through (meets (asks q) before))
-            (lines-read one many (all_lines before.begun puts.lines said))
-            ∙ ap (λ phase. through (meets (asks q) (record before { phase = phase }))
-            (texts (all_lines before.begun puts.lines said))) rests
+        printed = all_lines before.begun puts.lines said;
+        are_printed = (all-have-text before.begun puts.lines said puts.have_text spelled, refl);
+        lines_follow = ap (λ phase. goes_through take_line (meets (asks q) (record before { phase = phase }))
+            (all_lines before.begun puts.lines said)) rests
             ∙ taken-all.1;
         answered = refl;
         said_last = refl;
@@ -179,5 +152,5 @@ verdict-said law one many before reached q said v old begun mid new rests first 
     }
   where
     taken-all : Answers q before.begun before.said before.kept reached before.next puts.lines said
-    taken-all = check-taken law q before.begun before.said before.kept reached before.next puts.lines said first
-        puts.have_text puts.follow spelled right
+    taken-all = check-taken q before.begun before.said before.kept reached before.next puts.lines said first
+        puts.follow right

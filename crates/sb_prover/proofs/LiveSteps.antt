@@ -60,7 +60,7 @@ by-code (leaves what text s) old new (code.Left bytes level) h m = (
   low-down what level new h.1.0 (subst (StayLow what) (sym h.1.1) m.1),
 )
 by-code (answers text s) old new (code.Answer bytes) h m = subst (Stay old) (sym h.1) m
-by-code (checks []) old new code.Check h m = subst (Stay old) (sym h) (stays old)
+by-code (checks given) old new code.Check h m = subst (Stay old) (sym h) (stays old)
 by-code (exits text) old new (code.Exit bytes) h m = subst (Stay old) (sym h.1) (stays old)
 by-code _ old new _ h m = absurd h
 

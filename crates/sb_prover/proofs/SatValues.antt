@@ -1,5 +1,5 @@
 -- The values of a model, as the last line of its check says them.
-use Rattle.sb_prover.proofs.Words.{◌≡◌, ℕ, Bool, true, false, not, ◌&&◌, ◌||◌, ◌==◌, List, [], ◌∷◌, map, get_or, Some, None, option_map, refl, sym, ap, ap₂, ◌∙◌, arith, AllKept, Assertion, Constant, Question, Sort, Stacked, State, Text, Valuation, a_mark, all_hold, and_from, and_parts, are_characters, are_in_fragment, are_inside, are_small, asked_in, asserted, assertion_holds, boolean, constants_of, eqb-true, false≢true, fits, holds, in_fragment, integer, is_character, is_inside, is_model, is_model_of, is_of, is_small, is_small_value, list_all, live, live_constants, proofs, question_in, refusal_of, reglan, said_has_text, said_sat, said_value, state_of, term_of, terms_in, text, unless_wrong, value_at, valued, values_at, nat_tests, list_all-map}
+use Rattle.sb_prover.proofs.Words.{Term, assumed, assumption_holds, hold_both, question_of, ◌++◌, ◌≡◌, ℕ, Bool, true, false, not, ◌&&◌, ◌||◌, ◌==◌, List, [], ◌∷◌, map, get_or, Some, None, option_map, refl, sym, ap, ap₂, ◌∙◌, arith, AllKept, Assertion, Constant, Question, Sort, Stacked, State, Text, Valuation, a_mark, all_hold, and_from, and_parts, are_characters, are_in_fragment, are_inside, are_small, asked_in, asserted, assertion_holds, boolean, constants_of, eqb-true, false≢true, fits, holds, in_fragment, integer, is_character, is_inside, is_model, is_model_of, is_of, is_small, is_small_value, list_all, live, live_constants, proofs, refusal_of, reglan, said_has_text, said_sat, said_value, state_of, term_of, terms_in, text, unless_wrong, value_at, valued, values_at, nat_tests, list_all-map}
 use Rattle.sb_script.specs.Brought.{is_brought}
 use Rattle.sb_prover.proofs.LiveLevels.{Row, terms-by-level}
 
@@ -73,20 +73,24 @@ pub record AreSaid (stack : Stacked) (words : List (List ℕ)) (truths : List Bo
       ≡ Some (values_at (live_constants stack) words truths)
   pub small : said_has_text (said_sat (map (said_value words truths) (live_constants stack))) ≡ true
   pub right : (kept : AllKept)
-      → refusal_of (question_in (state_of stack) []) kept
+      → refusal_of (question_of stack) kept
       (said_sat (map (said_value words truths) (live_constants stack))) ≡ None
 
 pub sat-said : (stack : Stacked) (words : List (List ℕ)) (truths : List Bool) → in_fragment (state_of stack) ≡ true
-    → is_model (state_of stack) [] (values_at (live_constants stack) words truths) ≡ true → AreSaid stack words truths
-sat-said stack words truths inside model = record {
+    → is_model (state_of stack) stack.assumptions (values_at (live_constants stack) words truths) ≡ true
+    → list_all (assumption_holds (values_at (live_constants stack) words truths)) stack.assumptions ≡ true
+    → AreSaid stack words truths
+sat-said stack words truths inside model assumptions = record {
   valued_as = valued-given (constants_of s) ds words truths parts.0;
   small = small-values (constants_of s) ds words truths parts.0;
   right = λ kept. ap₂ (λ b c. unless_wrong (b && c)) inside
       (ap (λ o. elim o as (λ _. Bool) [ None ↦ false | Some v ↦ is_model_of q v ])
       (valued-given (constants_of s) ds words truths parts.0)
       ∙ and_from (fits (constants_of s) (values_at ds words truths)) _ parts.0
-      (and_from _ true (live-hold (values_at ds words truths) s
-      (and_parts (not (is_brought proofs) || are_in_fragment (live s)) (are_inside (live s)) inside).1 parts.1) refl));
+      (and_from _ (list_all (assumption_holds (values_at ds words truths)) stack.assumptions)
+      (live-hold (values_at ds words truths) s
+      (and_parts (not (is_brought proofs) || are_in_fragment (live s)) (are_inside (live s)) inside).1 terms)
+      assumptions));
 }
   where
     s : State
@@ -96,9 +100,17 @@ sat-said stack words truths inside model = record {
     ds = live_constants stack
 
     q : Question
-    q = question_in s []
+    q = question_of stack
+
+    given : List Term
+    given = map assumed stack.assumptions
 
     parts : (fits (constants_of s) (values_at ds words truths) ≡ true)
-        × (all_hold (terms_in (live s)) (values_at ds words truths) ≡ true)
+        × (all_hold (given ++ terms_in (live s)) (values_at ds words truths) ≡ true)
     parts = and_parts (fits (constants_of s) (values_at ds words truths))
-        (all_hold (terms_in (live s)) (values_at ds words truths)) model
+        (all_hold (given ++ terms_in (live s)) (values_at ds words truths)) model
+
+    terms : all_hold (terms_in (live s)) (values_at ds words truths) ≡ true
+    terms = (and_parts (all_hold given (values_at ds words truths))
+        (all_hold (terms_in (live s)) (values_at ds words truths))
+        (sym (hold_both given (terms_in (live s)) (values_at ds words truths)) ∙ parts.1)).1

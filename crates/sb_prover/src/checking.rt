@@ -1,18 +1,18 @@
 //! Checks, from what is known before any search to the verdict.
 
-ghost use Rattle.std.specs.Prelude.{◌≡◌, [], true, false, length, IsSome, IfOk, OnOk};
+ghost use Rattle.std.specs.Prelude.{◌≡◌, ℕ, ◌||◌, ◌&&◌, ◌==◌, [], true, false, length, IsSome, IfOk, OnOk};
 ghost use Rattle.std.specs.List.{list_all};
 ghost use Rattle.sb_script.specs.State.{live, live_terms};
 ghost use Rattle.sb_script.specs.Steps.{line};
 ghost use Rattle.sb_script.specs.Verdicts.{IsVerdict};
 ghost use Rattle.sb_script.specs.Fragment.{is_decided};
 ghost use Rattle.sb_script.specs.WellSorted.{is_well_sorted};
-ghost use Rattle.sb_rulebook.specs.Accepted.{question_in, asked_in};
+ghost use Rattle.sb_rulebook.specs.Accepted.{asked_in};
 ghost use Rattle.sb_rulebook.specs.Judging.{Progress};
 ghost use Rattle.sb_rulebook.specs.Kept.{AllKept};
 ghost use Rattle.sb_rulebook.specs.Lines.{text_of, verdict_line};
 ghost use Rattle.sb_proof.specs.Tapes.{with_bytes};
-ghost use Rattle.sb_stack.specs.Stacked.{Stacked, state_of, live_constants, without_words};
+ghost use Rattle.sb_stack.specs.Stacked.{Stacked, given_in, question_of, state_of, live_constants, without_words};
 ghost use Rattle.sb_stack.specs.Steps.{verdict_in, found};
 ghost use Rattle.sb_atoms.specs.Numbered.{HaveRegexesBelow};
 ghost use Rattle.sb_store.specs.Stores.{KnowsMore};
@@ -24,8 +24,9 @@ ghost use Rattle.sb_decide.specs.Knowing.{Knows};
 ghost use Rattle.sb_decide.specs.Ready.{IsDecided};
 ghost use Rattle.sb_solve.specs.SortedAtoms.{are_declared};
 ghost use Rattle.sb_solve.specs.Truth.{IsTrue};
+ghost use Rattle.sb_solve.specs.Values.{truth_in};
 ghost use Rattle.sb_prover.specs.Proving.{IsAbreast, IsProved, HasSpent, HaveLevels};
-ghost use Rattle.sb_prover.specs.Checking.{IsAsked, AreAsked, Finds, AreTruthsOf, IsReadyThen, IsCompleted, IsSolution, SaysTrue, verdict_of, said_by, IsNumbered};
+ghost use Rattle.sb_prover.specs.Checking.{IsAsked, AreAsked, AreDenied, Finds, AreTruthsAmong, AreTruthsOf, is_assumed, IsReadyThen, IsCompleted, IsSolution, SaysTrue, verdict_of, said_by, IsNumbered};
 
 use crate::prover::Prover;
 use crate::verdict::{number_of, say, say_values, truth_at};
@@ -35,11 +36,10 @@ use sb_lang::normal::normal_has_terms_words;
 use sb_lit::{Budget, ClauseId};
 use sb_proof::{Said, Tape, TapeFault};
 use sb_refute::Evidence;
-use sb_rulebook::laws::{text_is_one_line, text_is_read, texts_are_lines};
-use sb_solve::{Solved, mark, solve};
-use sb_sound::scripts::{empty_clause_refutes, entries_lead_on};
+use sb_solve::{Solved, denied, mark, solve};
+use sb_sound::scripts::{clause_refutes, entries_lead_on};
 use sb_sound::steps::{counted_again_stays_sound, follows_by_rule, line_stays_sound};
-use sb_stack::{Stack, Verdict};
+use sb_stack::{Assumption, Stack, Verdict};
 use sb_term::Serial;
 use sb_word::Word;
 use std::alloc::{AllocError, Global};
@@ -49,9 +49,15 @@ use std::alloc::{AllocError, Global};
 pub(crate) enum Solution {
     /// Words and truth values of a model, the one of each constant at its serial. Each constant that was declared has a
     /// word; truth values past the last one are false.
-    Sat { words: Vec<Word>, truths: Vec<bool> },
-    /// The number of the empty clause, which stands in the proof.
-    Unsat(ClauseId),
+    Sat {
+        words: Vec<Word>,
+        truths: Vec<bool>,
+    },
+    /// The number of a clause that stands in the proof, and the assumptions that it denies: it says nothing else.
+    Unsat {
+        clause: ClauseId,
+        core: Vec<Assumption>,
+    },
     /// A check may have no more lines.
     Spent,
     /// Not each live assertion is a decided one.
@@ -59,19 +65,20 @@ pub(crate) enum Solution {
 }
 
 impl Prover {
-    /// Answers a check of which this is known ([`Decider::decide`]): `Outside` where it is outside, `Unsat` where the
-    /// empty clause stands in the proof, else what a search finds over the live assertions that refute the check, where
-    /// a constant has no word, or over those of other structure and the memberships of their constants; and `Unknown`
-    /// where a check may have no more lines, or without lines no more steps: where a search is made, `budget` is then
-    /// one of 2^64 - 1 steps, of which those of the search are spent. Where there are no such assertions nothing is
-    /// searched. Where `proves` is true, puts the lines that prove the verdict, the verdict's own line as the last;
-    /// else what is put proves nothing, no lines of regexes are made for a lemma, and a check in which a constant has
-    /// no word is `Unsat` at once.
+    /// Answers a check of which this is known ([`Decider::decide`]), under the stack's assumptions: `Outside` where it
+    /// is outside, `Unsat` where the empty clause stands in the proof, else what a search finds over the live
+    /// assertions that refute the check, where a constant has no word, or over those of other structure and the
+    /// memberships of their constants; and `Unknown` where a check may have no more lines, or without lines no more
+    /// steps: where a search is made, `budget` is then one of 2^64 - 1 steps, of which those of the search are spent.
+    /// Where there are neither such assertions nor assumptions nothing is searched. An `Unsat` has the assumptions that
+    /// the clause denies to which the search came. Where `proves` is true, puts the lines that prove the verdict, the
+    /// verdict's own line as the last; else what is put proves nothing, no lines of regexes are made for a lemma, and a
+    /// check in which a constant has no word is `Unsat` at once, of no assumptions.
     ///
-    /// Linear in the lines, and for a `Sat` in the constants and their characters; the time is that of the search,
-    /// which may be exponential in the atoms of those assertions, and of what is explored that was not yet. Of the
-    /// script's state it changes the mode and the kept words alone. After an error nothing more may be put, and nothing
-    /// more asked of the decider.
+    /// Linear in the lines and in the assumptions, and for a `Sat` in the constants and their characters; the time is
+    /// that of the search, which may be exponential in the atoms of those assertions, and of what is explored that was
+    /// not yet. Of the script's state it changes the mode and the kept words alone. After an error nothing more may be
+    /// put, and nothing more asked of the decider.
     pub fn check<L: Tape>(
         &mut self,
         decider: &mut Decider,
@@ -91,10 +98,10 @@ impl Prover {
             self.old.evidence }
         ensures proves { IfOk result (λ v. proves ≡ true → (before : Progress)
             → IsAbreast decider.old.store self.old before
-            → IsProved (question_in (state_of stack.old) []) (verdict_in (live_constants stack.old) v) before
+            → IsProved (question_of stack.old) (verdict_in (live_constants stack.old) v) before
             decider.new.store self.new (L.Tape.told tape.old) (L.Tape.told tape.new)) }
         ensures verdict { IfOk result
-            (λ v. IsVerdict (state_of stack.old) [] (verdict_in (live_constants stack.old) v)) }
+            (λ v. IsVerdict (state_of stack.old) (given_in stack.old) (verdict_in (live_constants stack.old) v)) }
         ensures spent { IfOk result (λ v. HasSpent budget.new v) }
         ensures regexes { OnOk result (HaveRegexesBelow (length decider.new.store.arena) self.new.evidence.atoms) }
         ensures declared { OnOk result (are_declared (state_of stack.old).sorts self.new.evidence.atoms ≡ true) }
@@ -108,13 +115,11 @@ impl Prover {
         ensures counts { CountsTapeFault result (L.Tape.faults tape.old) (L.Tape.faults tape.new) }
     {
         if !proves && let Decided::Dead = decided {
-            return Ok(Verdict::Unsat);
+            return Ok(Verdict::Unsat(no_assumptions(self.alloc)));
         }
-        text_is_read();
-        text_is_one_line();
-        texts_are_lines();
         entries_lead_on();
-        empty_clause_refutes();
+        clause_refutes();
+        let _given = stack.assumptions();
         self.begin(tape)?;
         let solution = self.solution(decider, stack, decided, proves, tape, budget)?;
         say_solution(self.alloc, stack, &solution, proves, tape)?;
@@ -162,8 +167,12 @@ impl Prover {
         }
         fragment_is_of_each();
         if let Some(empty) = self.evidence.refuted() {
-            return Ok(Solution::Unsat(empty.clause));
+            return Ok(Solution::Unsat {
+                clause: empty.clause,
+                core: no_assumptions(self.alloc),
+            });
         }
+        let _given = stack.assumptions();
         follows_by_rule();
         line_stays_sound();
         counted_again_stays_sound();
@@ -178,13 +187,20 @@ impl Prover {
             tape,
             budget,
         )?;
-        let solution = completed(self.alloc, decider, stack, solved)?;
+        let solution = completed(self.alloc, decider, stack, &self.evidence, solved)?;
         Ok(solution)
     }
 }
 
-/// What a search comes to over the live assertions that it is asked about; where there are none it finds no words and
-/// no truth values, and nothing is searched.
+/// No assumptions.
+fn no_assumptions(alloc: Global) -> Vec<Assumption>
+    ensures { result.items ≡ [] }
+{
+    Vec::new(alloc)
+}
+
+/// What a search comes to over the live assertions that it is asked about, under the assumptions; where there are
+/// neither it finds no words and no truth values, and nothing is searched.
 fn searched<L: Tape>(
     alloc: Global,
     evidence: &mut Evidence,
@@ -227,7 +243,7 @@ fn searched<L: Tape>(
     normal_has_terms_words();
     let _assertions = stack.assertions();
     let places = asked_places(alloc, decider, decided)?;
-    if places.is_empty() {
+    if are_none(&places, stack.assumptions()) {
         return Ok(Solved::Sat {
             words: Vec::new(alloc),
             truths: Vec::new(alloc),
@@ -243,8 +259,18 @@ fn searched<L: Tape>(
         tape,
         budget,
     )?;
-    let _empty = evidence.refuted();
     Ok(solved)
+}
+
+/// Whether there is neither a place nor an assumption.
+fn are_none(places: &[usize], given: &[Assumption]) -> bool
+    ensures places { result ≡ true → length places.now ≡ 0 }
+    ensures given { result ≡ true → length given.now ≡ 0 }
+{
+    if places.len() > 0 {
+        return false;
+    }
+    given.len() == 0
 }
 
 /// The places of the live assertions that a search is asked about: where a constant has no word those of its
@@ -264,17 +290,18 @@ fn asked_places(
     }
 }
 
-/// What a search found of the constants that occur in assertions of other structure, with the word that its memberships
-/// give each other constant.
+/// What a search found of the constants that occur in assertions of other structure or are assumed, with the word that
+/// its memberships give each other constant; or the assumptions that the clause denies which it came to.
 fn completed(
     alloc: Global,
     decider: &mut Decider,
     stack: &mut Stack,
+    evidence: &Evidence,
     solved: Solved,
 ) -> Result<Solution, AllocError>
     requires knows { Knows decider.old stack.old }
     requires ready { IsReadyThen decider.old stack.old solved }
-    ensures completed { IfOk result (IsCompleted decider.old stack.old solved) }
+    ensures completed { IfOk result (IsCompleted decider.old stack.old evidence.now solved) }
     ensures knows { IfOk result (λ r. Knows decider.new (found (verdict_of r) stack.new)) }
     ensures rest { without_words stack.new ≡ without_words stack.old }
     ensures store { decider.new.store ≡ decider.old.store }
@@ -282,21 +309,79 @@ fn completed(
     let _count = stack.declared();
     match solved {
         Solved::Sat { words, truths } => {
-            let others = truths_of(alloc, decider.spoken.as_slice(), &truths)?;
+            let others = truths_of(
+                alloc,
+                decider.spoken.as_slice(),
+                stack.assumptions(),
+                &truths,
+            )?;
             let full = decider.close(alloc, stack, &words)?;
             Ok(Solution::Sat {
                 words: full,
                 truths: others,
             })
         }
-        Solved::Unsat(id) => Ok(Solution::Unsat(id)),
+        Solved::Unsat(id) => {
+            let core = core_of(alloc, evidence, stack, id)?;
+            Ok(Solution::Unsat { clause: id, core })
+        }
         Solved::Spent => Ok(Solution::Spent),
     }
 }
 
+/// The assumptions that the clause of a number denies.
+fn core_of(
+    alloc: Global,
+    evidence: &Evidence,
+    stack: &Stack,
+    id: ClauseId,
+) -> Result<Vec<Assumption>, AllocError>
+    ensures { IfOk result (λ core. AreDenied stack.now evidence.now id.0 core.items) }
+{
+    let literals = evidence.literals(id)?;
+    denied(alloc, evidence.atoms(), &literals, stack.assumptions())
+}
+
+/// The truth values of these constants; each other one is false, but where it is assumed to be true.
+fn truths_of(
+    alloc: Global,
+    serials: &[Serial],
+    given: &[Assumption],
+    truths: &[bool],
+) -> Result<Vec<bool>, AllocError>
+    ensures { IfOk result (λ others. AreTruthsOf serials.now given.now truths.now others.items) }
+{
+    let mut others = truths_among(alloc, serials, truths)?;
+    assume_all(&mut others, given)?;
+    Ok(others)
+}
+
+/// Makes true what is assumed to be.
+fn assume_all(truths: &mut Vec<bool>, given: &[Assumption]) -> Result<(), AllocError>
+    ensures { OnOk result ((n : ℕ) → truth_in truths.new.items n
+        ≡ (truth_in truths.old.items n || is_assumed given.now n)) }
+{
+    for assumption in given {
+        assume(truths, *assumption)?;
+    }
+    Ok(())
+}
+
+/// Makes a constant true that is assumed to be.
+fn assume(truths: &mut Vec<bool>, assumption: Assumption) -> Result<(), AllocError>
+    ensures { OnOk result ((n : ℕ) → truth_in truths.new.items n
+        ≡ (truth_in truths.old.items n || ((assumption.0 == n) && assumption.1))) }
+{
+    let positive = assumption.positive;
+    if !positive {
+        return Ok(());
+    }
+    mark(truths, assumption.serial)
+}
+
 /// The truth values of these constants; each other one is false.
-fn truths_of(alloc: Global, serials: &[Serial], truths: &[bool]) -> Result<Vec<bool>, AllocError>
-    ensures { IfOk result (λ others. AreTruthsOf serials.now truths.now others.items) }
+fn truths_among(alloc: Global, serials: &[Serial], truths: &[bool]) -> Result<Vec<bool>, AllocError>
+    ensures { IfOk result (λ others. AreTruthsAmong serials.now truths.now others.items) }
 {
     let mut others = Vec::new(alloc);
     for serial in serials {
@@ -325,7 +410,7 @@ fn say_solution<L: Tape>(
     }
     match solution {
         Solution::Sat { words, truths } => say_values(alloc, stack, words, truths, tape),
-        Solution::Unsat(id) => say(Said::Unsat(number_of(*id)), tape),
+        Solution::Unsat { clause, .. } => say(Said::Unsat(number_of(*clause)), tape),
         Solution::Spent => say(Said::Unknown(u64::MAX), tape),
         Solution::Outside => say(Said::Unsupported, tape),
     }
@@ -337,7 +422,7 @@ fn verdict_of(solution: Solution) -> Verdict
 {
     match solution {
         Solution::Sat { words, truths } => Verdict::Sat { words, truths },
-        Solution::Unsat(_) => Verdict::Unsat,
+        Solution::Unsat { clause: _, core } => Verdict::Unsat(core),
         Solution::Spent => Verdict::Unknown,
         Solution::Outside => Verdict::Outside,
     }

@@ -1,5 +1,5 @@
 -- Clauses that are kept, with one behind them.
-use Rattle.sb_refute.proofs.Words.{◌≡◌, ℕ, zero, suc, ◌<◌, ◌≤◌, ◌⊎◌, inl, inr, Bool, true, if◌then◌else◌, List, [], ◌∷◌, ◌++◌, length, map, take, slice_get, unwrap_or, Option, Some, None, refl, sym, ap, ◌∙◌, arith, and_from, and_parts, le-ltb, none-some, Kept, KeptClause, kept_at, stays_up_to, kept_up_to, are_reserved, has_room_for, is_reserved}
+use Rattle.sb_refute.proofs.Words.{◌≡◌, ℕ, zero, suc, ◌<◌, ◌≤◌, ◌⊎◌, inl, inr, Bool, true, if◌then◌else◌, List, [], ◌∷◌, ◌++◌, length, map, take, slice_get, unwrap_or, Option, Some, None, refl, sym, ap, ◌∙◌, arith, and_from, and_parts, le-ltb, none-some, option_map, same_Some, some-none, Lit, literals_in, Kept, KeptClause, kept_at, stays_up_to, kept_up_to, are_reserved, has_room_for, is_reserved}
 
 -- What stands in a list of options.
 
@@ -44,6 +44,17 @@ kept-cases (k ∷ ks) x (suc id) c h = elim (kept-cases ks x id c h) [
   | inl before ↦ inl before
   | inr last ↦ inr (ap suc last.0, last.1)
 ]
+
+-- The literals of a clause, by what a look-up gives.
+
+pub found-literals : (clause : Option KeptClause) (ls : List Lit) → Some ls ≡ option_map (λ c. c.literals) clause
+    → ls ≡ literals_in clause
+found-literals None ls h = absurd (some-none ls h)
+found-literals (Some c) ls h = same_Some ls c.literals h
+
+pub no-literals : (clause : Option KeptClause) → None ≡ option_map (λ c. c.literals) clause → [] ≡ literals_in clause
+no-literals None h = refl
+no-literals (Some c) h = absurd (none-some c.literals h)
 
 -- The places of their atoms.
 

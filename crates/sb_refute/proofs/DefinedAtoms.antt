@@ -1,7 +1,20 @@
 -- The lines of atoms of any kind follow.
-use Rattle.sb_refute.proofs.Words.{◌≡◌, ℕ, zero, suc, ◌+◌, ◌^◌, ◌<◌, Bool, true, false, ◌&&◌, ◌||◌, if◌then◌else◌, List, [], ◌∷◌, ◌++◌, length, take, slice_get, Option, Some, None, option_map, Result, Ok, Err, refl, sym, ap, subst, ◌∙◌, arith, list_any, and_from, lt-ltb, slice_get_within, slice_get-map, get_or_from_slice_get, map-append, take_more, take_at, length-map, length-take-le, Regex, Memo, line, AtomOver, bool_atom, in_atom, le_atom, sum_atom, and_atom, iff_atom, is_same_atom, is_well_formed, AllKept, Asked, atom_line, text_of, is_small, atom_has_text, by_rule, not_brought, follows, with_bytes, Names, AreDistinct, Extends, over, atoms_in, HasRegexBelow, HaveRegexesBelow, over_one, Traced, Tracks, TracesUncounted, puts_none, puts_one, puts_both, Backing, EvidencesUncounted, AreDue, IsLineOf, IsWritten, Leads, OrderTellsApart, regex_at, Piece, constant_piece, Refusal, unknown_id, repeated, not_normal, Atom, has_its_parts, with_regex, defined, is_brought, same_atom}
+use Rattle.sb_refute.proofs.Words.{◌≡◌, ℕ, zero, suc, ◌+◌, ◌^◌, ◌<◌, Bool, true, false, ◌&&◌, ◌||◌, if◌then◌else◌, List, [], ◌∷◌, ◌++◌, length, take, slice_get, Option, Some, None, is_some, option_map, Result, Ok, Err, refl, sym, ap, subst, ◌∙◌, arith, list_any, and_from, false≢true, lt-ltb, slice_get_within, slice_get-map, get_or_from_slice_get, map-append, take_more, take_at, length-map, length-take-le, Regex, Memo, line, AtomOver, bool_atom, in_atom, le_atom, sum_atom, and_atom, iff_atom, is_same_atom, is_well_formed, AllKept, Asked, atom_line, text_of, is_small, atom_has_text, by_rule, not_brought, follows, with_bytes, Names, AreDistinct, Extends, over, atoms_in, HasRegexBelow, HaveRegexesBelow, over_one, Traced, Tracks, TracesUncounted, puts_none, puts_one, puts_both, Backing, EvidencesUncounted, AreDue, IsLineOf, IsWritten, Leads, OrderTellsApart, regex_at, Piece, constant_piece, Refusal, unknown_id, repeated, not_normal, Atom, has_its_parts, with_regex, defined, is_brought, same_atom}
 use Rattle.sb_regex.specs.Numbered as regex
+use Rattle.sb_rulebook.specs.Atoms.{constant_of, member_in}
+use Rattle.sb_rulebook.specs.Brought.{is_brought_atom}
 use Rattle.sb_refute.proofs.Backs.{tracks-beside}
+
+-- a membership that is brought is of one constant
+pub no-member : (a : AtomOver ℕ) (ps : List Piece) (r : ℕ) → a ≡ in_atom ps r → is_brought_atom a ≡ true
+    → member_in a ≡ None → ⊥
+no-member a ps r is brought none =
+    step (constant_of ps) (subst (λ (b : AtomOver ℕ). is_brought_atom b ≡ true) is brought)
+    (subst (λ (b : AtomOver ℕ). member_in b ≡ None) is none)
+  where
+    step : (o : Option ℕ) → is_some o ≡ true → option_map {T = ℕ} {U = ℕ × ℕ} (λ serial. (serial, r)) o ≡ None → ⊥
+    step None brought none = false≢true brought
+    step (Some serial) brought none = Prim.cc (none)
 
 -- The atoms before a number.
 

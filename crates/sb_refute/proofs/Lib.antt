@@ -9,4 +9,5 @@ pub mod GateLiterals
 pub mod GateLines
 pub mod DefinedAtoms
 pub mod Asserting
+pub mod Assumptions
 pub mod CallerLemmas

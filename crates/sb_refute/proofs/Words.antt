@@ -1,5 +1,5 @@
 -- The words of the crates below, and of this one, that its proofs speak of.
-pub use Rattle.std.proofs.Common.{All, Bool, Contains, Err, IfSome, List, None, Ok, Option, Result, Some, [], ap, append-nil, append_assoc, ap₂, arith, false, if◌then◌else◌, inl, inr, length, length-append, map, nat_eq, nat_lt, option_map, refl, replicate, set, slice_get, subst, suc, sym, take, true, unwrap_or, zero, ℕ, ◌&&◌, ◌++◌, ◌+◌, ◌-◌, ◌<◌, ◌^◌, ◌||◌, ◌∙◌, ◌∷◌, ◌≡◌, ◌≢◌, ◌≤◌, ◌⊎◌}
+pub use Rattle.std.proofs.Common.{All, Bool, Contains, Err, IfSome, List, None, Ok, Option, Result, Some, [], ap, append-nil, append_assoc, ap₂, arith, false, if◌then◌else◌, inl, inr, is_some, length, length-append, map, nat_eq, nat_lt, option_map, refl, replicate, set, slice_get, subst, suc, sym, take, true, unwrap_or, zero, ℕ, ◌&&◌, ◌++◌, ◌+◌, ◌-◌, ◌<◌, ◌^◌, ◌||◌, ◌∙◌, ◌∷◌, ◌≡◌, ◌≢◌, ◌≤◌, ◌⊎◌}
 pub use Rattle.std.proofs.Math.Seq.{take-nil}
 pub use Rattle.std.proofs.lemmas.Bool.{and_from, and_parts, false≢true, le-ltb, lt-ltb, ltb-true}
 pub use Rattle.std.proofs.lemmas.Bool.Decides.{nat_tests}
@@ -17,12 +17,12 @@ pub use Rattle.sb_lit.specs.Kept.{Kept, KeptClause, kept_at, kept_up_to, stays_u
 pub use Rattle.sb_lit.specs.declared.clause.Lit.{Lit}
 pub use Rattle.sb_lang.specs.OrderLaws.{OrderTellsApart}
 pub use Rattle.sb_lang.specs.Regex.{Regex}
-pub use Rattle.sb_meaning.specs.Terms.{Term}
+pub use Rattle.sb_meaning.specs.Terms.{Term, boolean}
 pub use Rattle.sb_script.specs.Brought.{is_structure}
 pub use Rattle.sb_script.specs.Pieces.{Piece, constant_piece}
 pub use Rattle.sb_script.specs.Steps.{line}
 pub use Rattle.sb_rulebook.proofs.CallerLemmas.{same_atom}
-pub use Rattle.sb_rulebook.specs.AtomRules.{defined, has_its_parts, with_regex}
+pub use Rattle.sb_rulebook.specs.AtomRules.{defined, has_its_parts, is_declared, with_regex}
 pub use Rattle.sb_rulebook.specs.Atoms.{Atom, AtomOver, and_atom, bool_atom, iff_atom, in_atom, is_same_atom, is_well_formed, le_atom, sum_atom}
 pub use Rattle.sb_rulebook.specs.Brought.{is_brought}
 pub use Rattle.sb_rulebook.specs.Follows.{by_rule, follows, not_brought}
@@ -44,11 +44,12 @@ pub use Rattle.sb_clauses.specs.Propagation.{State, are_reserved, has_room_for, 
 pub use Rattle.sb_deriv.specs.Faithful.{KeepsEntries, Memo}
 pub use Rattle.sb_atoms.proofs.CallerLemmas.{atoms_kept, earlier_more, earlier_none, named_before, over_one}
 pub use Rattle.sb_atoms.specs.GateClauses.{atom_at, clause_of, gate_clauses, is_trivial}
-pub use Rattle.sb_atoms.specs.Numbered.{AreDistinct, Extends, HasRegexBelow, HaveRegexesBelow, NameEarlier, Names, atom_in, atoms_in, over}
+pub use Rattle.sb_atoms.specs.Numbered.{AreDistinct, Extends, HasRegexBelow, HaveRegexesBelow, IsWith, NameEarlier, Names, atom_in, atoms_in, over}
 pub use Rattle.sb_atoms.specs.Translated.{AreDefined, brought_translation}
 pub use Rattle.sb_trace.proofs.CallerLemmas.{counts_none, counts_on, puts_both, puts_none, puts_one, only_numbers_both, only_numbers_same, tracks_grow}
 pub use Rattle.sb_trace.specs.Putting.{CountsTapeFault}
 pub use Rattle.sb_trace.specs.Tracking.{OnlyNumbers, Traced, TracesUncounted, Tracks}
+pub use Rattle.sb_refute.specs.Assuming.{literals_at, literals_in}
 pub use Rattle.sb_refute.specs.Backing.{AreUpTo, Backing, Backs, EvidencesUncounted, HasGates, HasGatesOf, IsLowestEmpty, IsStatement, KeepsAsserted, asserted_at, backing_of, empty_at, left_above, left_all, refuted_up_to, unit_at}
 pub use Rattle.sb_refute.specs.Lines.{AreDue, Becomes, Called, IsAssertion, IsClaimed, IsEmptyOf, IsLineOf, IsOfGates, IsStanding, IsWritten, Leads, LeadsAlways, LeadsClaimed, at_bottom, lower_of, placed}
 pub use Rattle.sb_refute.specs.Standing.{Stand}

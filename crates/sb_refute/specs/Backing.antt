@@ -55,10 +55,6 @@ unit_at a = record { literals = a.literal ∷ []; level = a.level }
 abbrev pub empty_at : EmptyClause → KeptClause
 empty_at empty = record { literals = []; level = empty.level }
 
--- the empty clause is kept at the number
-abbrev pub IsEmptyAt : Kept → ℕ → Type 0
-IsEmptyAt kept id = (level : ℕ) × (kept_at kept id ≡ Some (record { literals = []; level = level }))
-
 -- each clause of the gates of the atom is kept, at level 0
 abbrev pub HasGatesOf : ℕ → List (AtomOver ℕ) → Kept → Type 0
 HasGatesOf i atoms kept = (a : AtomOver ℕ) (clause : List Lit) → Names atoms i a → Contains (gate_clauses i a) clause

@@ -1,3 +1,4 @@
 pub mod Backing
 pub mod Standing
 pub mod Lines
+pub mod Assuming

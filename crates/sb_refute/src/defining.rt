@@ -8,6 +8,7 @@ ghost use Rattle.sb_proof.specs.Lines.{piece_in, atom_in as line_atom, line_in};
 ghost use Rattle.sb_proof.specs.Tapes.{with_bytes};
 ghost use Rattle.sb_deriv.specs.Faithful.{Memo};
 ghost use Rattle.sb_rulebook.specs.Atoms.{bool_atom, in_atom, and_atom, iff_atom};
+ghost use Rattle.sb_rulebook.specs.Brought.{is_brought_atom};
 ghost use Rattle.sb_rulebook.specs.Kept.{AllKept, Asked};
 ghost use Rattle.sb_rulebook.specs.Lines.{text_of};
 ghost use Rattle.sb_rulebook.specs.LineLaws.{is_small_literal};
@@ -17,13 +18,14 @@ ghost use Rattle.sb_trace.specs.Tracking.{OnlyNumbers, Tracks};
 ghost use Rattle.sb_refute.specs.Backing.{Backing};
 ghost use Rattle.sb_refute.specs.Lines.{AreDue, Called, IsLineOf, IsWritten, Leads};
 
-use sb_atoms::{Atom, AtomId, Atoms};
+use sb_atoms::{AtomId, Atoms};
 use sb_lang::order::order_tells_apart;
 use sb_lit::Lit;
-use sb_proof::{Atom as ProofAtom, Line, Piece, Tape, TapeFault};
+use sb_proof::{Atom, Line, Piece, Tape, TapeFault};
 use sb_regex::{Arena, RegexId};
 use sb_term::Serial;
 use sb_trace::Trace;
+use smallvec::SmallVec;
 use std::alloc::{AllocError, Global};
 
 /// Puts the lines of the atoms from this number on, each behind those of its regex.
@@ -93,10 +95,11 @@ fn line_of<L: Tape>(
     alloc: Global,
     trace: &mut Trace,
     arena: &Arena,
-    atom: &Atom,
+    atom: &Atom<RegexId>,
     tape: &mut L,
-) -> Result<ProofAtom, TapeFault>
-    requires { HasRegexBelow (length arena.now) (atom_in atom.now) }
+) -> Result<Atom<u64>, TapeFault>
+    requires regex { HasRegexBelow (length arena.now) (atom_in atom.now) }
+    requires brought { is_brought_atom (atom_in atom.now) ≡ true }
     ensures { Called result
         (λ line. (asked : Asked) (memo : Memo) (before : AllKept) → Tracks arena.now memo trace.old before
         → IsLineOf asked before arena.now memo trace.new (atom_in atom.now) (line_atom line) (L.Tape.told tape.old)
@@ -104,10 +107,16 @@ fn line_of<L: Tape>(
         (OnlyNumbers trace.old trace.new) (L.Tape.faults tape.old) (L.Tape.faults tape.new) }
 {
     match atom {
-        Atom::Bool(serial) => Ok(constant_line(*serial)),
-        Atom::In(serial, regex) => member_line(alloc, trace, arena, *serial, *regex, tape),
+        Atom::Bool(serial) => Ok(constant_line(Serial(*serial))),
+        Atom::In(..) => {
+            let Some(member) = atom.member() else {
+                unreachable!();
+            };
+            member_line(alloc, trace, arena, Serial(member.0), member.1, tape)
+        }
         Atom::And(literals) => Ok(conjunction_line(alloc, literals.as_slice())?),
         Atom::Iff(one, other) => Ok(equivalence_line(*one, *other)),
+        Atom::Le(..) | Atom::Sum(..) => unreachable!(),
     }
 }
 
@@ -119,7 +128,7 @@ fn member_line<L: Tape>(
     serial: Serial,
     regex: RegexId,
     tape: &mut L,
-) -> Result<ProofAtom, TapeFault>
+) -> Result<Atom<u64>, TapeFault>
     requires { regex < length arena.now }
     ensures { Called result
         (λ line. (asked : Asked) (memo : Memo) (before : AllKept) → Tracks arena.now memo trace.old before
@@ -128,39 +137,36 @@ fn member_line<L: Tape>(
         (OnlyNumbers trace.old trace.new) (L.Tape.faults tape.old) (L.Tape.faults tape.new) }
 {
     let number = trace.number(arena, regex, tape)?;
-    let pieces = constant(alloc, serial)?;
-    Ok(ProofAtom::In(pieces, number))
+    Ok(Atom::In(constant(alloc, serial), number))
 }
 
 /// The pieces of a constant alone.
-fn constant(alloc: Global, serial: Serial) -> Result<Vec<Piece>, AllocError>
-    ensures { IfOk result (λ pieces. map piece_in pieces.items ≡ constant_piece serial.0 ∷ []) }
+fn constant(alloc: Global, serial: Serial) -> SmallVec<Piece, 1>
+    ensures { map piece_in result.items ≡ constant_piece serial.0 ∷ [] }
 {
-    let mut pieces = Vec::new(alloc);
-    pieces.push(Piece::Constant(serial.0))?;
-    Ok(pieces)
+    SmallVec::from_buf(alloc, [Piece::Constant(serial.0)])
 }
 
 /// That a constant is true.
-fn constant_line(serial: Serial) -> ProofAtom
+fn constant_line(serial: Serial) -> Atom<u64>
     ensures { IsWritten (bool_atom serial.0) (line_atom result) }
 {
-    ProofAtom::Bool(serial.0)
+    Atom::Bool(serial.0)
 }
 
 /// That two literals are both true or both false.
-fn equivalence_line(one: Lit, other: Lit) -> ProofAtom
+fn equivalence_line(one: Lit, other: Lit) -> Atom<u64>
     ensures { IsWritten (iff_atom one other) (line_atom result) }
 {
-    ProofAtom::Iff(one, other)
+    Atom::Iff(one, other)
 }
 
 /// The conjunction of literals.
-fn conjunction_line(alloc: Global, literals: &[Lit]) -> Result<ProofAtom, AllocError>
+fn conjunction_line(alloc: Global, literals: &[Lit]) -> Result<Atom<u64>, AllocError>
     ensures { IfOk result (λ line. IsWritten (and_atom literals.now) (line_atom line)) }
 {
     let all = copied(alloc, literals)?;
-    Ok(ProofAtom::And(all))
+    Ok(Atom::And(SmallVec::from_vec(all)))
 }
 
 /// The literals, of which each has a text.

@@ -7,26 +7,31 @@ ghost use Rattle.sb_lang.specs.Regex.{Regex};
 ghost use Rattle.sb_deriv.specs.Faithful.{Memo};
 ghost use Rattle.sb_term.specs.Numbered.{term_at};
 ghost use Rattle.sb_store.specs.Stores.{Grows, IsStoreOf};
+ghost use Rattle.sb_meaning.specs.Terms.{boolean};
+ghost use Rattle.sb_rulebook.specs.AtomRules.{is_declared};
+ghost use Rattle.sb_rulebook.specs.Atoms.{bool_atom};
 ghost use Rattle.sb_rulebook.specs.Kept.{AllKept, Asked, nothing_kept, dropped_above, all_dropped};
-ghost use Rattle.sb_atoms.specs.Numbered.{atoms_in, HaveRegexesBelow, Extends};
+ghost use Rattle.sb_atoms.specs.Numbered.{atoms_in, HaveRegexesBelow, Extends, IsWith};
 ghost use Rattle.sb_atoms.specs.Translated.{brought_translation, AreDefined, HasNoLiteral};
 ghost use Rattle.sb_trace.specs.Putting.{CountsTapeFault};
 ghost use Rattle.sb_trace.specs.Tracking.{OnlyNumbers};
 ghost use Rattle.sb_refute.specs.Backing.{backing_of, IsLowestEmpty, HasGates, Backs, EvidencesUncounted, IsStatement, KeepsAsserted, AreUpTo, asserted_at, empty_at, left_above, refuted_up_to, left_all};
 ghost use Rattle.sb_refute.specs.Lines.{AreDue, Becomes, Called, IsClaimed, IsStanding, Leads, LeadsClaimed, LeadsFrom, placed, IsEmptyOf, lower_of};
 ghost use Rattle.sb_refute.specs.Standing.{Stand};
+ghost use Rattle.sb_refute.specs.Assuming.{Says, literals_at};
 
 use crate::defining::{define_atoms, put_line};
 use sb_atoms::Atoms;
 use sb_clauses::{Clauses, Engine};
 use sb_lit::{Clause, ClauseId, Lit};
-use sb_proof::{Line, Tape, TapeFault};
+use sb_proof::{Atom, Line, Tape, TapeFault};
 use sb_regex::Arena;
 use sb_search::Choices;
 use sb_sound::clauses::assertion_lines_are_exact;
 use sb_store::{Store, regexes_grow};
-use sb_term::{Table, TermId};
+use sb_term::{Serial, Table, TermId};
 use sb_trace::Trace;
+use sb_trail::CompactLit;
 use std::alloc::{AllocError, Global};
 use std::marker::Model;
 
@@ -153,6 +158,13 @@ impl Evidence {
         self.parts.refuted
     }
 
+    /// The literals of the clause of a number, none where there is none. Linear in them.
+    pub fn literals(&self, id: ClauseId) -> Result<Vec<Lit>, AllocError>
+        ensures { IfOk result (λ literals. literals.items ≡ literals_at self.now.kept id.0) }
+    {
+        literals_of(self.alloc, self.parts.engine.clauses(), id)
+    }
+
     /// Forgets what a reader drops where the levels above this one are left, and so many assertions stay: the clauses
     /// above the level, and of which assertions there are clauses at the other places. Takes no memory, and time linear
     /// in the places that are left, and in the clauses that go with a logarithm of those above level 0.
@@ -248,6 +260,40 @@ impl Evidence {
             term,
         )?;
         self.lines(&store.arena, known, place, found, level, tape)
+    }
+
+    /// The literal of an assumption: that the Bool constant is true, or that it is false. Where the constant has no
+    /// atom the line of one is put, and in any case those of the gates of all atoms that lack them. Constant time, but
+    /// for these gates. After an error nothing more may be put.
+    pub fn assume<L: Tape>(
+        &mut self,
+        arena: &Arena,
+        serial: Serial,
+        positive: bool,
+        tape: &mut L,
+    ) -> Result<Lit, TapeFault>
+        requires regexes { HaveRegexesBelow (length arena.now) self.old.atoms }
+        ensures puts { OnOk result ((asked : Asked) (memo : Memo) (before : AllKept)
+            → Backs arena.now memo self.old before → is_declared asked.sorts boolean serial.0 ≡ true
+            → EvidencesUncounted asked before arena.now memo self.new (L.Tape.told tape.old) (L.Tape.told tape.new)) }
+        ensures literal { IfOk result (Says self.new.atoms (serial.0, positive)) }
+        ensures asserted { OnOk result (self.new.asserted ≡ self.old.asserted) }
+        ensures gates { OnOk result (HasGates (length self.new.atoms) self.new.atoms self.new.kept) }
+        ensures grows { OnOk result (IsWith self.old.atoms self.new.atoms (bool_atom serial.0)) }
+        ensures extends { OnOk result (Extends self.old.atoms self.new.atoms) }
+        ensures regexes { OnOk result (HaveRegexesBelow (length arena.now) self.new.atoms) }
+        ensures counts { CountsTapeFault result (L.Tape.faults tape.old) (L.Tape.faults tape.new) }
+    {
+        let parts = &mut self.parts;
+        let known = parts.atoms.len();
+        let id = parts.atoms.add(Atom::Bool(serial.0))?;
+        self.define(arena, known, tape)?;
+        self.put_gates(tape)?;
+        self.stands();
+        Ok(Lit {
+            atom: id.number() as u64,
+            positive,
+        })
     }
 
     /// The clause of the assertion at a place, whose literal and level these are. Puts the lines of the atoms from this
@@ -398,6 +444,27 @@ impl Evidence {
     {
         let _parts = &self.parts;
     }
+}
+
+/// The literals of the clause of a number, none where there is none.
+fn literals_of(alloc: Global, clauses: &Clauses, id: ClauseId) -> Result<Vec<Lit>, AllocError>
+    ensures { IfOk result (λ literals. literals.items ≡ literals_at clauses.now id.0) }
+{
+    match clauses.literals(id) {
+        Some(literals) => enlarged(alloc, literals),
+        None => Ok(Vec::new(alloc)),
+    }
+}
+
+/// The literals, each as a larger number.
+fn enlarged(alloc: Global, literals: &[CompactLit]) -> Result<Vec<Lit>, AllocError>
+    ensures { IfOk result (λ all. all.items ≡ literals.now) }
+{
+    let mut all = Vec::with_capacity(alloc, literals.len())?;
+    for literal in literals {
+        all.push(literal.literal())?;
+    }
+    Ok(all)
 }
 
 /// The empty clause of the lowest level, of this one, which is that of the clauses before a number, and of the others.

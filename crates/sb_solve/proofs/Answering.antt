@@ -1,5 +1,5 @@
 -- What a check comes to, by the clauses that were put, the search and its end.
-use Rattle.sb_solve.proofs.Words.{◌≡◌, ℕ, ◌<◌, Bool, true, false, List, [], ◌∷◌, length, Option, refl, sym, ap, subst, ◌∙◌, arith, list_all, false≢true, ltb-true, slice_get-get_or, Lit, Spending, Kept, held, HasNoneFalse, live, asked_in, AtomOver, bool_atom, AllKept, Asked, AreTerms, FollowsByRule, LineStaysSound, CountedAgainStaysSound, Stacked, Store, state_of, atom_at, gate_clauses, atoms_in, atoms_kept, earlier_table, IsCounted, puts_both, Backing, Backs, Evidences, HasGates, GrowsTo, is_atom, AreWanted, is_in, AreKept, IsKept, IsDecided, AreLiterals, IsAnswered, terms_at, Answers, IsDone, IsNumbered, IsValuedBy, AreOfLevels, IsSolved, AreStated, IsTrue, Solved, Contains}
+use Rattle.sb_solve.proofs.Words.{AreSaid, Assumption, IsKeptCore, IsRefuting, Regex, Says, all_weaker, and_from, are_atoms, denies, eq-eqb, inl, inr, is_among, is_same_literal, is_same_literal-true, is_same_truth, list_all-append, list_any, map, negation, not, option_map, or_cases, or_left, or_right, over, slice_get, slice_get-map, ◌++◌, ◌==◌, ◌≡◌, ℕ, ◌<◌, Bool, true, false, List, [], ◌∷◌, length, Option, refl, sym, ap, subst, ◌∙◌, arith, list_all, false≢true, ltb-true, slice_get-get_or, Lit, Spending, Kept, held, HasNoneFalse, live, asked_in, AtomOver, bool_atom, AllKept, Asked, AreTerms, FollowsByRule, LineStaysSound, CountedAgainStaysSound, Stacked, Store, state_of, atom_at, gate_clauses, atoms_in, atoms_kept, earlier_table, IsCounted, puts_both, Backing, Backs, Evidences, HasGates, GrowsTo, is_atom, AreWanted, is_in, AreKept, IsKept, IsDecided, AreLiterals, IsAnswered, terms_at, Answers, IsDone, IsValuedBy, AreOfLevels, IsSolved, AreStated, IsTrue, Solved, Contains}
 use Rattle.sb_solve.specs.declared.check.Solved.TheVariants as solved
 use Rattle.sb_solve.proofs.Deciding.{all_in}
 use Rattle.sb_solve.proofs.Ended.{kept_grown}
@@ -40,11 +40,55 @@ gated atoms old kept (l ∷ ls) wanted grows gates are known i there =
     below : i < length atoms
     below = ltb-true i (length atoms) (all_in (is_atom atoms) wanted i known there)
 
--- The literals are those of the assertions at some places, whose clauses are kept, and a search was made over these.
+-- A clause that has negated literals of assumptions alone.
+
+same_truth_itself : (p : Bool) → is_same_truth p p ≡ true
+same_truth_itself true = refl
+same_truth_itself false = refl
+
+-- a literal that is the negation of one of an assumption denies it
+denies_one : (rs : List Regex) (atoms : List (AtomOver ℕ)) (a : Assumption) (l m : Lit) → Says atoms a l
+    → is_same_literal (negation l) m ≡ true → denies m (slice_get (atoms_in rs atoms) m.atom) a ≡ true
+denies_one rs atoms a l m says same =
+    subst (λ (n : Lit). denies n (slice_get (atoms_in rs atoms) n.atom) a ≡ true)
+    (is_same_literal-true (negation l) m same)
+    (ap (λ o. denies (negation l) o a)
+    (slice_get-map (over rs) atoms l.atom ∙ ap (option_map (over rs)) says.0)
+    ∙ and_from (a.0 == a.0) (is_same_truth (not l.positive) (not a.1)) (eq-eqb a.0 a.0 refl)
+    (ap (λ p. is_same_truth (not l.positive) (not p)) (sym says.1) ∙ same_truth_itself (not l.positive)))
+
+denies_some : (rs : List Regex) (atoms : List (AtomOver ℕ)) (given : List Assumption) (ls : List Lit)
+    → AreSaid atoms given ls → (m : Lit) → is_among (map negation ls) m ≡ true
+    → list_any (denies m (slice_get (atoms_in rs atoms) m.atom)) given ≡ true
+denies_some rs atoms [] [] are m among = absurd (false≢true among)
+denies_some rs atoms [] (l ∷ ls) are m among = absurd are
+denies_some rs atoms (a ∷ given) [] are m among = absurd are
+denies_some rs atoms (a ∷ given) (l ∷ ls) are m among =
+    let test : Assumption → Bool = denies m (slice_get (atoms_in rs atoms) m.atom) in
+    elim (or_cases (is_same_literal (negation l) m) (is_among (map negation ls) m) among) [
+      | inl here ↦ or_left (test a) (list_any test given) (denies_one rs atoms a l m are.0 here)
+      | inr later ↦ or_right (test a) (list_any test given) (denies_some rs atoms given ls are.1 m later)
+    ]
+
+refuting : (atoms : List (AtomOver ℕ)) (given : List Assumption) (ls : List Lit) (kept : Kept) (id : ℕ)
+    → AreSaid atoms given ls → IsKeptCore kept ls id → IsRefuting given atoms kept id
+refuting atoms given ls kept id are core = record {
+  clause = core.clause;
+  there = core.there;
+  refutes = λ rs.
+      all_weaker (is_among (map negation ls))
+      (λ (m : Lit). list_any (denies m (slice_get (atoms_in rs atoms) m.atom)) given)
+      (λ m among. denies_some rs atoms given ls are m among) core.clause.literals core.negated;
+}
+
+-- The literals are those of the assertions at some places, whose clauses are kept, and those of the assumptions, and a
+-- search was made over these.
 module _ (s : Stacked) (places : List ℕ) (x y z : Store) (e f k : Backing) (told between new : Option (List ℕ))
-    (literals : List Lit) (proves : Bool) (before after : Spending) (solution : Solved)
+    (literals assumed : List Lit) (proves : Bool) (before after : Spending) (solution : Solved)
     (stated : AreStated s places x y e f told between literals)
-    (done : IsDone s literals proves y f before between z k after new solution) where
+    (gates : 0 < length (literals ++ assumed) → HasGates (length f.atoms) f.atoms f.kept)
+    (said : AreSaid f.atoms s.assumptions assumed) (known : are_atoms f.atoms assumed ≡ true)
+    (done : IsDone s (literals ++ assumed) assumed proves y f before between z k after new solution) where
   abbrev asked : Asked
   asked = asked_in (state_of s)
 
@@ -78,9 +122,11 @@ module _ (s : Stacked) (places : List ℕ) (x y z : Store) (e f k : Backing) (to
   wanted_atoms : list_all (is_atom f.atoms) done.wanted ≡ true
   wanted_atoms =
       done.among [] (earlier_table [] f.atoms done.stand.earlier)
+      (list_all-append (λ (l : Lit). is_atom f.atoms l.atom) literals assumed
+      ∙ and_from (are_atoms f.atoms literals) (are_atoms f.atoms assumed)
       (are_of_table s y.arena f f.atoms
       (λ place l one. subst (λ (n : Lit). n.atom < length f.atoms) one.literal
-      (done.stand.of_atoms place one.clause one.there)) places literals stated.all)
+      (done.stand.of_atoms place one.clause one.there)) places literals stated.all) known)
 
   literals_there : (start : AllKept) → Backs x.arena x.graph.memo e start
       → AreLiterals (atoms_in z.arena k.atoms) k.kept (terms_at (live (state_of s)) places) literals
@@ -105,10 +151,14 @@ module _ (s : Stacked) (places : List ℕ) (x y z : Store) (e f k : Backing) (to
         },
       )) places literals stated.all
 
+  said_behind : AreSaid k.atoms s.assumptions assumed
+  said_behind = subst (λ (ts : List (AtomOver ℕ)). AreSaid ts s.assumptions assumed) (sym done.searched.atoms) said
+
   answered : (words : List (Option (List ℕ))) (truths : List Bool)
-      → (v : IsValuedBy s z.arena k.atoms k.kept done.wanted words truths) → (start : AllKept)
+      → (v : IsValuedBy s assumed z.arena k.atoms k.kept done.wanted words truths) → (start : AllKept)
       → Backs x.arena x.graph.memo e start → AreTerms asked
-      → IsAnswered z.arena k.atoms done.wanted literals k.kept v.search.trail.literals v.theory places (state_of s)
+      → IsAnswered z.arena k.atoms done.wanted literals assumed k.kept v.search.trail.literals v.theory places
+      (state_of s) s.assumptions
   answered words truths v start b terms = record {
     decided = subst (λ (ts : List (AtomOver ℕ)). IsDecided z.arena ts done.wanted k.kept v.search.trail.literals)
         (sym done.searched.atoms)
@@ -120,27 +170,27 @@ module _ (s : Stacked) (places : List ℕ) (x y z : Store) (e f k : Backing) (to
           full = v.full.full;
           none_false = subst (λ (kept : Kept). HasNoneFalse kept (held v.search.trail.literals)) v.keeps
               v.full.none_false;
-          gates = gated f.atoms f.kept k.kept literals done.wanted done.searched.kept stated.gates done.closed
+          gates = gated f.atoms f.kept k.kept (literals ++ assumed) done.wanted done.searched.kept gates done.closed
               wanted_atoms;
         });
     agrees = v.agrees;
-    closed = subst (λ (ts : List (AtomOver ℕ)). AreWanted ts literals done.wanted) (sym done.searched.atoms)
-        done.closed;
+    closed = subst (λ (ts : List (AtomOver ℕ)). AreWanted ts (literals ++ assumed) done.wanted)
+        (sym done.searched.atoms) done.closed;
     stated = literals_there start b;
+    said = said_behind;
+    on = v.full.assumed;
     terms = terms;
   }
 
-  by_kind : (found a : Solved) → Answers s z.arena k.atoms k.kept done.wanted after found
-      → IsNumbered k.refuted found a → IsSolved s places x.arena x.graph.memo e k after a
-  by_kind (solved.Sat words truths) a v is =
-      subst (IsSolved s places x.arena x.graph.memo e k after) (sym is) (record {
-        characters = v.model.characters;
-        given = λ start b terms.
-            v.model.given places literals k.kept (answered words.items truths.items v start b terms);
-      })
-  by_kind (solved.Unsat id) a core is =
-      subst (IsSolved s places x.arena x.graph.memo e k after) (sym is.2) (is.0, is.1, refl)
-  by_kind solved.Spent a spent is = subst (IsSolved s places x.arena x.graph.memo e k after) (sym is) spent
+  by_kind : (a : Solved) → Answers s assumed z.arena k.atoms k.kept done.wanted after a
+      → IsSolved s places x.arena x.graph.memo e k after a
+  by_kind (solved.Sat words truths) v = record {
+    characters = v.model.characters;
+    given = λ start b terms.
+        v.model.given places literals assumed k.kept (answered words.items truths.items v start b terms);
+  }
+  by_kind (solved.Unsat id) core = refuting k.atoms s.assumptions assumed k.kept id.0 said_behind core
+  by_kind solved.Spent spent = spent
 
   pub answer : IsSolved s places x.arena x.graph.memo e k after solution
-  answer = by_kind done.found solution done.answers done.is_numbered
+  answer = by_kind solution done.answers

@@ -1,5 +1,5 @@
 -- Where each atom that is wanted has a value, and no kept clause is false, the values are truths.
-use Rattle.sb_solve.proofs.Words.{◌≡◌, ℕ, zero, suc, ◌+◌, ◌<◌, ◌⊎◌, Bool, true, false, not, ◌&&◌, ◌==◌, nat_eq, nat_lt, cond, if◌then◌else◌, List, [], ◌∷◌, length, get_or, slice_get, Option, Some, None, option_map, option_and_then, unwrap_or, refl, sym, ap, ap₂, subst, ◌∙◌, arith, inl, inr, list_all, list_any, is_none, false≢true, and_parts, and_from, or_cases, or_left, or_right, eqb-true, eq-eqb, ltb-true, append-nil, slice_get-map, get_or_from_slice_get, unwrap_or-slice_get, Lit, is_among, is_same_literal, is_false_under, is_false_clause, is_true_under, Kept, is_same_literal-of, is_same_literal-true, literal_of_parts, all_among, Regex, regex_at, Assigned, held, value_of, entry_of, IsConsistent, HasNoneFalse, Sort, Term, Valuation, holds, Piece, constant_piece, word_piece, Atom, AtomOver, bool_atom, in_atom, le_atom, sum_atom, and_atom, iff_atom, literal_holds, truths_of, translation, HasSorts, fits_sorts, TranslationHolds, IsTruthAt, truth_at_place, all_in_front, literal_holds-take, over, atoms_in, are_alike, gate_clauses, gate, is_as_it_says, all_say, each-part, of-gate, has_value, word_at, is_true_by, is_true_of, fits_subject, constant_of, subject_of, is_atom, is_of_wanted, wanted_of, wanted_on, is_in, atoms_of, parts_of, is_simple, is_closed, is_true, is_constant, makes_true, truth_by, IsKept, AreKept, IsDecided, IsGiven, all_weaker, list_all-map, slice_get-get_or, some-none, any-filter_same, language, all_hold, number_in, list_any_none}
+use Rattle.sb_solve.proofs.Words.{◌≡◌, ℕ, zero, suc, ◌+◌, ◌<◌, ◌⊎◌, Bool, true, false, not, ◌&&◌, ◌==◌, nat_eq, nat_lt, cond, if◌then◌else◌, List, [], ◌∷◌, length, get_or, slice_get, Option, Some, None, option_map, option_and_then, unwrap_or, refl, sym, ap, ap₂, subst, ◌∙◌, arith, inl, inr, list_all, list_any, is_none, false≢true, and_parts, and_from, or_cases, or_left, or_right, eqb-true, eq-eqb, ltb-true, append-nil, slice_get-map, get_or_from_slice_get, unwrap_or-slice_get, Lit, is_among, is_same_literal, is_false_under, is_false_clause, is_true_under, Kept, is_same_literal-of, is_same_literal-true, literal_of_parts, all_among, Regex, regex_at, Assigned, held, value_of, entry_of, IsConsistent, HasNoneFalse, Sort, Term, Valuation, holds, Piece, constant_piece, word_piece, Atom, AtomOver, bool_atom, in_atom, le_atom, sum_atom, and_atom, iff_atom, literal_holds, truths_of, translation, HasSorts, fits_sorts, TranslationHolds, IsTruthAt, truth_at_place, all_in_front, literal_holds-take, over, atoms_in, are_alike, gate_clauses, gate, is_as_it_says, all_say, each-part, of-gate, has_value, word_at, is_true_by, is_true_of, fits_subject, constant_of, subject_of, is_atom, is_of_wanted, wanted_of, wanted_on, is_in, is_same_truth, atoms_of, parts_of, is_simple, is_closed, is_true, is_constant, makes_true, truth_by, IsKept, AreKept, IsDecided, IsGiven, all_weaker, list_all-map, slice_get-get_or, some-none, any-filter_same, language, all_hold, number_in, list_any_none}
 use Rattle.sb_rulebook.specs.Atoms as rulebook
 use Rattle.sb_solve.proofs.Gathered.{names_before}
 
@@ -142,6 +142,12 @@ kept_true es n kept (clause ∷ clauses) none_false k h =
         ]
 
 -- Atom by atom.
+
+same_sign : (p b : Bool) → (if p then b else not b) ≡ true → is_same_truth b p ≡ true
+same_sign true true h = refl
+same_sign true false h = absurd (false≢true h)
+same_sign false true h = absurd (false≢true h)
+same_sign false false h = refl
 
 same_truths : (a b : Bool) → are_alike a b ≡ true → a ≡ b
 same_truths true true h = refl
@@ -359,13 +365,24 @@ module _ (rs : List Regex) (atoms : List (AtomOver ℕ)) (wanted : List ℕ) (ke
         ∙ holds_on es (length atoms) l low
         ∙ h
 
+    has_sign : (l : Lit) → is_in wanted l.atom ≡ true → IsConsistent (held es) → is_true_under (held es) l ≡ true
+        → on_trail es l ≡ true
+    has_sign l there consistent h = elim (true_or_false es l (all_in (has_value es) wanted l.atom d.full there)) [
+      | inl yes_here ↦ yes_here
+      | inr false_here ↦ absurd (false≢true (sym (consistent l h) ∙ false_here))
+    ]
+
     pub literal_right : (l : Lit) → is_in wanted l.atom ≡ true → IsConsistent (held es)
         → is_true_under (held es) l ≡ true → literal_holds (truths_of v (atoms_in rs atoms)) l ≡ true
-    literal_right l there consistent h =
-        elim (true_or_false es l (all_in (has_value es) wanted l.atom d.full there)) [
-          | inl yes_here ↦ by_trail l there yes_here
-          | inr false_here ↦ absurd (false≢true (sym (consistent l h) ∙ false_here))
-        ]
+    literal_right l there consistent h = by_trail l there (has_sign l there consistent h)
+
+    -- and a constant is as true as the literal has it that the trail has of its atom
+    pub constant_right : (l : Lit) (serial : ℕ) → is_in wanted l.atom ≡ true → IsConsistent (held es)
+        → is_true_under (held es) l ≡ true → slice_get atoms l.atom ≡ Some (bool_atom serial)
+        → is_same_truth (truth_by atoms es wanted serial) l.positive ≡ true
+    constant_right l serial there consistent h at =
+        ap (λ b. is_same_truth b l.positive) (of_constant l.atom serial there at)
+        ∙ same_sign l.positive (is_true es l.atom) (has_sign l there consistent h)
 
     pub term_right : TranslationHolds → (sorts : List Sort) (t : Term) (l : Lit) → HasSorts v sorts
         → fits_sorts sorts t ≡ true → translation (atoms_in rs atoms) t ≡ Some l → is_in wanted l.atom ≡ true

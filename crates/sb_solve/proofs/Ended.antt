@@ -1,7 +1,6 @@
 -- What a search leaves, and what comes of it.
-use Rattle.sb_solve.proofs.Words.{◌≡◌, ◌≤◌, ℕ, Bool, true, List, [], ◌∷◌, length, take, Option, Some, None, refl, sym, ap, subst, ◌∙◌, take-append_seam, Asserted, false≢true, Global, Vec, Lit, Spending, Kept, KeptClause, kept_at, Regex, has_room_for, AtomOver, Stacked, Store, AreDistinct, Backing, IsLowestEmpty, unit_at, Stand, each-reserved, kept-stays, room-for-each, stand-traced, FollowsByLevel, GrowsTo, HaveAtoms, IsValid, IsTaught, AreWanted, AreAmong, AreTaken, Answers, HasCore, IsDone, IsNumbered, IsSearched, Runs, backing_in, Solved, State, IsKeptCore, are_negated, Traced, EmptyClause, written, Written, Strings, Tables, Choices}
+use Rattle.sb_solve.proofs.Words.{◌≡◌, ◌≤◌, ℕ, Bool, true, List, length, take, Option, Some, None, refl, sym, ap, subst, ◌∙◌, take-append_seam, Asserted, Global, Vec, Lit, Spending, Kept, KeptClause, kept_at, has_room_for, AtomOver, Stacked, Store, AreDistinct, Backing, unit_at, Stand, each-reserved, kept-stays, room-for-each, stand-traced, FollowsByLevel, GrowsTo, HaveAtoms, IsValid, IsTaught, AreWanted, AreAmong, AreTaken, Answers, IsDone, IsSearched, Runs, backing_in, Solved, State, Traced, EmptyClause, written, Written, Strings, Tables, Choices}
 use Rattle.sb_theory.specs.Strings as theory
-use Rattle.sb_solve.specs.declared.check.Solved.TheVariants as solved
 
 -- Kept clauses.
 
@@ -57,20 +56,22 @@ searched_over b y z before after old new refuted room stands grows follows write
     have = each-reserved (length b.strings.atoms) b.engine.kept room
 
 -- the theory's words may be taken then
-pub runs_to : (s : Stacked) (b c : Tables) (y : Strings) (z : State) (choices : Choices)
+pub runs_to : (s : Stacked) (assumed : List Lit) (b c : Tables) (y : Strings) (z : State) (choices : Choices)
     (words : Vec (Option (List ℕ)) Global) (before after : Spending) (old new : Option (List ℕ)) (answer : Solved)
     → c ≡ record b { strings = record y { words = words }; engine = z; choices = choices } → y.wanted ≡ b.strings.wanted
     → has_room_for (length b.strings.atoms) b.engine.kept ≡ true → theory.Stands y z.trail.literals
     → GrowsTo b.engine.kept z.kept → FollowsByLevel (IsTaught y.store.arena y.atoms y.wanted) b.engine.kept z.kept
     → theory.Writes b.strings y (written b.engine.kept before old) (written z.kept after new)
     → after.limit ≡ before.limit → before.spent ≤ after.spent
-    → Answers s y.store.arena y.atoms z.kept y.wanted after answer → Runs s b before old c after new answer
-runs_to s b c y z choices words before after old new answer is same room stands grows follows writes limit spends says =
-    subst (λ (t : Tables). Runs s b before old t after new answer) (sym is) (record {
+    → Answers s assumed y.store.arena y.atoms z.kept y.wanted after answer
+    → Runs s assumed b before old c after new answer
+runs_to s assumed b c y z choices words before after old new answer is same room stands grows follows writes limit
+    spends says =
+    subst (λ (t : Tables). Runs s assumed b before old t after new answer) (sym is) (record {
       searched = λ refuted.
           searched_over b y z before after old new refuted room stands grows
           (λ level values obeys. follows level values (λ clause taught. obeys clause taught.1)) writes limit spends;
-      answers = subst (λ (ns : List ℕ). Answers s y.store.arena y.atoms z.kept ns after answer) same says;
+      answers = subst (λ (ns : List ℕ). Answers s assumed y.store.arena y.atoms z.kept ns after answer) same says;
       refuted_stays = refl;
       gates_stay = refl;
       first_stays = refl;
@@ -85,9 +86,9 @@ same_backing t ts us ks js xs ys q r n m atoms kept asserted refuted gates = cc
 
 -- What comes of it, over tables that were taken.
 
-module _ (s : Stacked) (x : Store) (e : Backing) (wanted : List ℕ) (proves : Bool) (b c : Tables)
-    (before after : Spending) (old new : Option (List ℕ)) (found : Solved) (taken : AreTaken x e wanted proves b)
-    (runs : Runs s b before old c after new found) where
+module _ (s : Stacked) (assumed : List Lit) (x : Store) (e : Backing) (wanted : List ℕ) (proves : Bool) (b c : Tables)
+    (before after : Spending) (old new : Option (List ℕ)) (solution : Solved) (taken : AreTaken x e wanted proves b)
+    (runs : Runs s assumed b before old c after new solution) where
   searched : (refuted : Option EmptyClause) → IsSearched proves x e before old c.strings.store
       (record (backing_in c) { refuted = refuted }) after new
   searched refuted =
@@ -116,11 +117,10 @@ module _ (s : Stacked) (x : Store) (e : Backing) (wanted : List ℕ) (proves : B
       e.asserted c.refuted e.refuted c.gates e.gates after.atoms front after.asserted refuted gates))
       (stand-traced e c.strings.trace taken.stand)
 
-  pub done : (literals : List Lit) (f : Backing) (solution : Solved) → AreDistinct e.atoms
-      → AreWanted e.atoms literals wanted → AreAmong e.atoms literals wanted
-      → f ≡ record (backing_in c) { refuted = f.refuted } → IsNumbered f.refuted found solution
-      → IsDone s literals proves x e before old c.strings.store f after new solution
-  done literals f solution distinct closed among is number = record {
+  pub done : (literals : List Lit) (f : Backing) → AreDistinct e.atoms → AreWanted e.atoms literals wanted
+      → AreAmong e.atoms literals wanted → f ≡ record (backing_in c) { refuted = f.refuted }
+      → IsDone s literals assumed proves x e before old c.strings.store f after new solution
+  done literals f distinct closed among is = record {
     stand = taken.stand;
     searched = subst (λ (d : Backing). IsSearched proves x e before old c.strings.store d after new) (sym is)
         (searched f.refuted);
@@ -128,28 +128,9 @@ module _ (s : Stacked) (x : Store) (e : Backing) (wanted : List ℕ) (proves : B
     distinct = distinct;
     closed = closed;
     among = among;
-    found = found;
-    answers = subst (λ (d : Backing). Answers s c.strings.store.arena d.atoms d.kept wanted after found) (sym is)
-        (subst (λ (ns : List ℕ). Answers s c.strings.store.arena c.strings.atoms c.engine.kept ns after found)
-        taken.wanted runs.answers);
-    is_numbered = number;
+    answers = subst (λ (d : Backing). Answers s assumed c.strings.store.arena d.atoms d.kept wanted after solution)
+        (sym is)
+        (subst (λ (ns : List ℕ).
+        Answers s assumed c.strings.store.arena c.strings.atoms c.engine.kept ns after solution) taken.wanted
+        runs.answers);
   }
-
--- Where there are no values.
-
-pub core_of : (s : Stacked) (rs : List Regex) (atoms : List (AtomOver ℕ)) (kept : Kept) (wanted : List ℕ)
-    (budget : Spending) (answer : Solved) → Answers s rs atoms kept wanted budget answer → HasCore kept answer
-core_of s rs atoms kept wanted budget (solved.Sat words truths) h = tt
-core_of s rs atoms kept wanted budget (solved.Unsat id) h = h
-core_of s rs atoms kept wanted budget solved.Spent h = tt
-
--- a clause that has negated assumptions alone, where there are none, has no literals
-no_literals : (ls : List Lit) → are_negated [] ls ≡ true → ls ≡ []
-no_literals [] h = refl
-no_literals (l ∷ ls) h = absurd (false≢true h)
-
-pub never_none : (kept : Kept) (id : ℕ) (o : Option EmptyClause) → IsKeptCore kept [] id → IsLowestEmpty kept o
-    → o ≡ None → ⊥
-never_none kept id (Some empty) core lowest is = Prim.cc (is)
-never_none kept id None core lowest is = lowest id core.clause core.there
-    (no_literals core.clause.literals core.negated)

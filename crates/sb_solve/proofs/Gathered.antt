@@ -1,5 +1,10 @@
 -- Atoms that are gathered with their parts.
 use Rattle.sb_solve.proofs.Words.{◌≡◌, ℕ, zero, suc, ◌+◌, ◌<◌, ◌≤◌, Bool, true, false, ◌&&◌, nat_eq, nat_lt, if◌then◌else◌, List, [], ◌∷◌, ◌++◌, length, take, get_or, slice_get, Option, Some, None, option_map, refl, sym, ap, subst, ◌∙◌, arith, append_assoc, list_all, list_any, IsDistinct, and_parts, and_from, or_left, or_right, lt-ltb, ltb-true, append-nil, take_more, take-append-le, list_any-append, slice_get-map, equal_itself, insert_key, insert_all, Lit, Regex, AtomOver, bool_atom, in_atom, le_atom, sum_atom, and_atom, iff_atom, is_table, names_below, names_from, over, atoms_in, is_atom, are_atoms, is_in, atoms_of, parts_of, parts_at, is_simple_at, is_closed, AreLeast, AreWanted, all_push, all_weaker, list_all-map, slice_get_within, same_Some, slice_get-get_or, Follow, Closes}
+use Rattle.std.specs.Prelude.{Result, OnOk}
+use Rattle.std.proofs.lemmas.Result.{on_ok_weaker}
+use Rattle.sb_rulebook.specs.Atoms.{literals_in}
+use Rattle.sb_atoms.specs.Numbered.{Names}
+use Rattle.sb_solve.specs.Wanted.{is_simple}
 
 -- Numbers that are added where they are not there.
 
@@ -175,3 +180,21 @@ are_known_atoms rs atoms literals new least table h =
     parts_in i (Some a) there known =
         parts_known (length atoms) i rs a (omega (arith, ltb-true i (length atoms) known))
         (names_before rs atoms i a table there)
+
+-- What is added for the atom of a number.
+
+pub parts_there : {A E : Type 0} (r : Result A E) (atoms : List (AtomOver ℕ)) (i n : ℕ) (a : AtomOver ℕ)
+    (old new : List ℕ) (ls : List Lit) → n ≡ i → Names atoms n a → ls ≡ literals_in a
+    → OnOk r (new ≡ insert_all nat_eq old (atoms_of ls)) → OnOk r (new ≡ insert_all nat_eq old (parts_at atoms i))
+parts_there r atoms i n a old new ls is named read added =
+    on_ok_weaker r
+    (λ e. e ∙ ap (insert_all nat_eq old) (ap atoms_of read
+    ∙ sym (ap (λ o. elim o as (λ _. List ℕ) [ None ↦ [] | Some atom ↦ parts_of atom ])
+    (subst (λ j. slice_get atoms j ≡ Some a) is named)))) added
+
+pub simple_there : (atoms : List (AtomOver ℕ)) (i n : ℕ) (a : AtomOver ℕ) → n ≡ i → Names atoms n a
+    → is_simple a ≡ true → is_simple_at atoms i ≡ true
+simple_there atoms i n a is named simple =
+    ap (λ o. elim o as (λ _. Bool) [ None ↦ true | Some atom ↦ is_simple atom ])
+    (subst (λ j. slice_get atoms j ≡ Some a) is named)
+    ∙ simple

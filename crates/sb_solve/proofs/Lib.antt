@@ -9,4 +9,5 @@ pub mod Stated
 pub mod Ended
 pub mod Truths
 pub mod Answering
+pub mod Claims
 pub mod CallerLemmas

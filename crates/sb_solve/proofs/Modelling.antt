@@ -1,11 +1,11 @@
--- The values of the end of a search make the assertions true that it is about.
-use Rattle.sb_solve.proofs.Words.{◌≡◌, ℕ, zero, suc, ◌+◌, ◌<◌, Bool, true, false, if◌then◌else◌, List, [], ◌∷◌, map, length, get_or, slice_get, Option, Some, None, refl, sym, ap, ap₂, subst, ◌∙◌, arith, list_all, false≢true, and_parts, or_left, or_right, eq-eqb, same_Some, Lit, Kept, Regex, Assigned, Sort, boolean, integer, text, reglan, Term, Terms, constant, word, numeral, apply, parameter, no_terms, with_term, is_same_sort, Value, Valuation, Text, Int, Truth, is_of, default_of, value_in, holds, constant_piece, Assertion, asserted, a_mark, live, Atom, AtomOver, bool_atom, in_atom, HasSorts, TranslationHolds, is_declared, is_one_of, speaks_of, speak_of, Stacked, state_of, live_constants, value_at, values_at, value_there, same_sort, atoms_in, is_in, atoms_of, truth_by, truth_in, word_in, word_or_empty, word_there, is_word_there, are_words_there, AreLiterals, IsAnswered, IsLiteral, term_onto, terms_at, are_declared, is_sorted, HasLive, AreTrueAt, ne_eqb, are_characters, is_brought_sort, occurs, occurs_in_some, sort_in, list_all-map}
+-- The values of the end of a search make the assertions true that it is about, and the assumptions.
+use Rattle.sb_solve.proofs.Words.{◌≡◌, ℕ, zero, suc, ◌+◌, ◌<◌, Bool, true, false, if◌then◌else◌, List, [], ◌∷◌, map, length, get_or, slice_get, Option, Some, None, refl, sym, ap, ap₂, subst, ◌∙◌, arith, list_all, false≢true, and_parts, or_left, or_right, eq-eqb, same_Some, Lit, Kept, Regex, Assigned, Sort, boolean, integer, text, reglan, Term, Terms, constant, word, numeral, apply, parameter, no_terms, with_term, is_same_sort, Value, Valuation, Text, Int, Truth, is_of, default_of, value_in, holds, constant_piece, Assertion, asserted, a_mark, live, Atom, AtomOver, bool_atom, in_atom, HasSorts, TranslationHolds, is_declared, is_one_of, speaks_of, speak_of, Stacked, state_of, live_constants, value_at, values_at, value_there, same_sort, atoms_in, is_in, atoms_of, truth_by, truth_in, word_in, word_or_empty, word_there, is_word_there, are_words_there, AreLiterals, IsAnswered, IsLiteral, term_onto, terms_at, are_declared, is_sorted, HasLive, AreTrueAt, ne_eqb, are_characters, is_brought_sort, occurs, occurs_in_some, sort_in, list_all-map, AreSaid, AreTrueUnder, Assumption, IsConsistent, Says, and_from, are_true, held, is_same_truth, is_true_under, list_all-append, make_true, map-append}
 use Rattle.std.specs.List.{Contains}
 use Rattle.sb_meaning.specs.Truth as meaning
 use Rattle.sb_term.specs.declared.sort.Sort as code_sort
 use Rattle.sb_solve.specs.Decided as deciding
 use Rattle.sb_solve.proofs.Gathered.{all_at}
-use Rattle.sb_solve.proofs.Deciding.{term_right}
+use Rattle.sb_solve.proofs.Deciding.{constant_right, term_right}
 use Rattle.sb_solve.proofs.LiveRows.{live_fits, sorted_there, term_passes}
 
 -- Valuations that agree on the constants that occur in a term give it the same meaning.
@@ -138,9 +138,10 @@ module _ (atoms : List Atom) (kept : Kept) (wanted : List ℕ) (xs : List Assert
 
 -- The theory's words, and the truth values of the trail.
 
-module _ (rs : List Regex) (atoms : List (AtomOver ℕ)) (wanted : List ℕ) (literals : List Lit) (kept : Kept)
+module _ (rs : List Regex) (atoms : List (AtomOver ℕ)) (wanted : List ℕ) (literals assumed : List Lit) (kept : Kept)
     (entries : List Assigned) (theory : List (Option (List ℕ))) (places : List ℕ) (s : Stacked) (h : HasLive s)
-    (a : IsAnswered rs atoms wanted literals kept entries theory places (state_of s))
+    (a : IsAnswered rs atoms wanted literals assumed kept entries theory places (state_of s) s.assumptions)
+    (consistent : IsConsistent (held entries))
     (declared : are_declared (map sort_in s.scope.sorts) atoms ≡ true)
     (characters : are_words_there theory ≡ true) (truths : List Bool)
     (said : (n : ℕ) → truth_in truths n ≡ truth_by atoms entries wanted n)
@@ -172,21 +173,51 @@ module _ (rs : List Regex) (atoms : List (AtomOver ℕ)) (wanted : List ℕ) (li
     gives = record {
       agrees = a.agrees;
       gives_words = λ i n r there at.
-          ap text_of (value_here n text (atom_sorted i (in_atom (constant_piece n ∷ []) r) there at));
+          ap text_of (value_here n text
+          (and_parts (is_declared Sorts text n) true (atom_sorted i (in_atom (constant_piece n ∷ []) r) there at)).0);
       gives_truths = λ i n there at.
-          ap truth_of (value_here n boolean (atom_sorted i (bool_atom n) there at)) ∙ said n;
+          ap truth_of (value_here n boolean
+          (and_parts (is_declared Sorts boolean n) true (atom_sorted i (bool_atom n) there at)).0) ∙ said n;
     }
+
+    -- the atoms of the assertions' literals are wanted, and those of the assumptions
+    wanted_both : (list_all (is_in wanted) (atoms_of literals) ≡ true)
+        × (list_all (is_in wanted) (atoms_of assumed) ≡ true)
+    wanted_both =
+        and_parts (list_all (is_in wanted) (atoms_of literals)) (list_all (is_in wanted) (atoms_of assumed))
+        (sym (list_all-append (is_in wanted) (atoms_of literals) (atoms_of assumed))
+        ∙ ap (list_all (is_in wanted)) (sym (map-append (λ (l : Lit). l.atom) literals assumed))
+        ∙ a.closed.first)
 
     true_here : TranslationHolds → (place : ℕ) (t : Term) → Contains places place
         → slice_get (live (state_of s)) place ≡ Some (asserted t) → holds t v ≡ true
     true_here law place t listed at =
-        let q = stated_at (atoms_in rs atoms) kept wanted (live (state_of s)) places literals a.stated a.closed.first
+        let q = stated_at (atoms_in rs atoms) kept wanted (live (state_of s)) places literals a.stated wanted_both.0
         listed.0 place t listed.1 listed.2 at in
         term_right rs atoms wanted kept entries theory v a.decided gives law Sorts t q.literal
         (have_sorts s.scope.sorts theory truths h.brought characters)
         (live_fits s h.levelled a.terms place t at) q.is.is q.there q.is.kept_there
 
-    pub true_at : TranslationHolds → AreTrueAt s places theory truths
+    one_true : (b : Assumption) (l : Lit) → Says atoms b l → is_in wanted l.atom ≡ true
+        → is_true_under (held entries) l ≡ true → is_same_truth (truth_in truths b.0) b.1 ≡ true
+    one_true b l says there on =
+        ap (λ t. is_same_truth t b.1) (said b.0)
+        ∙ ap (is_same_truth (truth_by atoms entries wanted b.0)) (sym says.1)
+        ∙ constant_right rs atoms wanted kept entries theory v a.decided gives l b.0 there consistent on says.0
+
+    all_true : (bs : List Assumption) (ls : List Lit) → AreSaid atoms bs ls
+        → list_all (is_in wanted) (atoms_of ls) ≡ true → are_true (held entries) ls ≡ true
+        → make_true truths bs ≡ true
+    all_true [] [] are there on = refl
+    all_true [] (l ∷ ls) are there on = absurd are
+    all_true (b ∷ bs) [] are there on = absurd are
+    all_true (b ∷ bs) (l ∷ ls) are there on =
+        let p = and_parts (is_in wanted l.atom) (list_all (is_in wanted) (atoms_of ls)) there in
+        let q = and_parts (is_true_under (held entries) l) (are_true (held entries) ls) on in
+        and_from (is_same_truth (truth_in truths b.0) b.1) (make_true truths bs) (one_true b l are.0 p.0 q.0)
+        (all_true bs ls are.1 p.1 q.1)
+
+    true_at : TranslationHolds → AreTrueAt s places theory truths
     true_at law full others are same place t listed at =
         sym (ap (λ m. meaning.all_true (meaning.truth_in m))
         (same_meaning Cs v (values_at Cs full others) t
@@ -197,3 +228,6 @@ module _ (rs : List Regex) (atoms : List (AtomOver ℕ)) (wanted : List ℕ) (li
         ∙ sym (value_there Cs full others n k one))
         (term_passes (speaks_of Cs) (live (state_of s)) place t h.named at)))
         ∙ true_here law place t listed at
+
+    pub true_under : TranslationHolds → AreTrueUnder s places theory truths
+    true_under law = (true_at law, all_true s.assumptions assumed a.said wanted_both.1 a.on)

@@ -1,9 +1,10 @@
--- Computed examples of atoms that are wanted, and of values.
+-- Computed examples of atoms that are wanted, of values, and of assumptions.
 use Rattle.std.specs.Prelude.{◌≡◌, ℕ, true, false, List, [], ◌∷◌, Option, Some, None, refl}
 use Rattle.sb_lit.specs.declared.clause.Lit.{Lit}
 use Rattle.sb_trail.specs.declared.assigned.Assigned.{Assigned}
 use Rattle.sb_script.specs.Pieces.{constant_piece}
-use Rattle.sb_rulebook.specs.Atoms.{AtomOver, bool_atom, in_atom, and_atom, iff_atom}
+use Rattle.sb_rulebook.specs.Atoms.{Atom, AtomOver, bool_atom, in_atom, and_atom, iff_atom}
+use Rattle.sb_solve.specs.Assumed.{denied_in, make_true, refutes_in}
 use Rattle.sb_solve.specs.Wanted.{atoms_of, parts_at, is_simple_at, are_closed}
 use Rattle.sb_solve.specs.Values.{is_true, truth_by, truth_in, word_in, word_there, are_words_there}
 
@@ -97,3 +98,29 @@ none_past_the_last = refl
 
 of_characters : are_words_there alone ≡ true
 of_characters = refl
+
+-- 0: the Bool constant 5. 1: the Bool constant 7
+abbrev two : List Atom
+two = bool_atom 5 ∷ bool_atom 7 ∷ []
+
+each_in_the_order_given : denied_in two (minus 0 ∷ plus 1 ∷ []) ((7, false) ∷ (5, true) ∷ (7, false) ∷ [])
+    ≡ (7, false) ∷ (5, true) ∷ []
+each_in_the_order_given = refl
+
+no_other_one : denied_in two (minus 0 ∷ []) ((5, false) ∷ (7, true) ∷ (5, true) ∷ []) ≡ (5, true) ∷ []
+no_other_one = refl
+
+by_no_literals : denied_in two [] ((5, true) ∷ []) ≡ []
+by_no_literals = refl
+
+of_denied_ones : refutes_in two (minus 0 ∷ plus 1 ∷ []) ((7, false) ∷ (5, true) ∷ []) ≡ true
+of_denied_ones = refl
+
+of_one_that_is_not : refutes_in two (minus 0 ∷ minus 1 ∷ []) ((7, false) ∷ (5, true) ∷ []) ≡ false
+of_one_that_is_not = refl
+
+as_assumed : make_true (true ∷ []) ((0, true) ∷ (3, false) ∷ []) ≡ true
+as_assumed = refl
+
+not_as_assumed : make_true [] ((0, true) ∷ []) ≡ false
+not_as_assumed = refl

@@ -2,6 +2,8 @@ pub mod Words
 pub mod Wanted
 pub mod Gathering
 pub mod Values
+pub mod Assumed
+pub mod Denying
 pub mod Decided
 pub mod SortedAtoms
 pub mod Entailed

@@ -1,11 +1,11 @@
 -- Private: a search over the evidence and the tables, from its beginning to its answer.
-use Rattle.std.specs.Prelude.{◌≡◌, ◌≤◌, ℕ, Bool, true, false, List, [], length, Option, Some}
+use Rattle.std.specs.Prelude.{◌≡◌, ◌≤◌, ℕ, Bool, true, false, List, [], length, Option}
 use Rattle.sb_solve.specs.Words.{AllKept, AreDistinct, Asked, AtomOver, Backing, Backs, EmptyClause, Evidences, FollowsByLevel, HaveAtoms, HaveRegexesBelow, IsCounted, IsValid, Kept, Lit, Regex, RegexesGrow, Spending, Stacked, Stand, Stands, Store, are_atoms, atoms_in, is_atom, is_table, is_true_by, list_all, state_of, wanted_on}
 use Rattle.sb_clauses.specs.Propagation.{State}
 use Rattle.sb_analyze.specs.Cores.{IsKeptCore}
 use Rattle.sb_search.specs.Found.{GrowsTo, IsFull}
 use Rattle.sb_solve.specs.Answered.{IsAnswered}
-use Rattle.sb_solve.specs.Solved.{AreTrueAt}
+use Rattle.sb_solve.specs.Solved.{AreTrueUnder}
 use Rattle.sb_solve.specs.Values.{are_words_there}
 use Rattle.sb_solve.specs.Wanted.{AreWanted}
 use Rattle.sb_solve.specs.declared.check.Solved.{Solved}
@@ -58,62 +58,54 @@ pub record IsSearched (proves : Bool) (x : Store) (e : Backing) (before : Spendi
     pub puts : proves ≡ true → (asked : Asked) (kept : AllKept) → Backs x.arena x.graph.memo e kept
         → IsCounted asked kept before → Evidences asked kept y.arena y.graph.memo f after old new
 
--- The words are words of characters, and where the end of the search is an answer about the assertions at some places,
--- these are true of the words and the truth values.
+-- The words are words of characters, and where the end of the search is an answer about the assertions at some places
+-- and the assumptions, these are true of the words and the truth values.
 pub record IsModel (s : Stacked) (rs : List Regex) (atoms : List (AtomOver ℕ)) (wanted : List ℕ) (search : State)
     (theory words : List (Option (List ℕ))) (truths : List Bool) : Type 0
   where
     pub characters : are_words_there words ≡ true
-    pub given : (places : List ℕ) (literals : List Lit) (kept : Kept)
-        → IsAnswered rs atoms wanted literals kept search.trail.literals theory places (state_of s)
-        → AreTrueAt s places words truths
+    pub given : (places : List ℕ) (literals assumed : List Lit) (kept : Kept)
+        → IsAnswered rs atoms wanted literals assumed kept search.trail.literals theory places (state_of s)
+        s.assumptions
+        → AreTrueUnder s places words truths
 
 abbrev pub HasModel : Stacked → Tables → List (Option (List ℕ)) → List Bool → Type 0
 HasModel s t = IsModel s t.strings.store.arena t.strings.atoms t.strings.wanted t.engine t.strings.words.items
 
--- The search ended with a value for each atom that is wanted, which the theory's words bear out.
-pub record IsValuedBy (s : Stacked) (rs : List Regex) (atoms : List (AtomOver ℕ)) (kept : Kept) (wanted : List ℕ)
-    (words : List (Option (List ℕ))) (truths : List Bool) : Type 0
+-- The search ended with a value for each atom that is wanted, which the theory's words bear out, and with the literals
+-- of the assumptions.
+pub record IsValuedBy (s : Stacked) (assumed : List Lit) (rs : List Regex) (atoms : List (AtomOver ℕ)) (kept : Kept)
+    (wanted : List ℕ) (words : List (Option (List ℕ))) (truths : List Bool) : Type 0
   where
     pub search : State
     pub theory : List (Option (List ℕ))
     pub keeps : search.kept ≡ kept
-    pub full : IsFull wanted [] search
+    pub full : IsFull wanted assumed search
     pub agrees : list_all (is_true_by rs atoms theory) (wanted_on wanted search.trail.literals) ≡ true
     pub model : IsModel s rs atoms wanted search theory words truths
 
--- What the answer says, with the number of some clause without literals,
-abbrev pub Answers : Stacked → List Regex → List (AtomOver ℕ) → Kept → List ℕ → Spending → Solved → Type 0
-Answers s rs atoms kept wanted budget (solved.Sat words truths) =
-    IsValuedBy s rs atoms kept wanted words.items truths.items
-Answers s rs atoms kept wanted budget (solved.Unsat id) = IsKeptCore kept [] id.0
-Answers s rs atoms kept wanted budget solved.Spent = budget.spent ≡ budget.limit
-
-abbrev pub HasCore : Kept → Solved → Type 0
-HasCore kept (solved.Unsat id) = IsKeptCore kept [] id.0
-HasCore kept _ = Unit {0}
-
--- and with that of the empty clause
-abbrev pub IsNumbered : Option EmptyClause → Solved → Solved → Type 0
-IsNumbered refuted (solved.Unsat id) s = (empty : EmptyClause) × (refuted ≡ Some empty)
-    × (s ≡ solved.Unsat empty.clause)
-IsNumbered refuted t s = s ≡ t
+-- what the answer says under assumptions of these literals
+abbrev pub Answers : Stacked → List Lit → List Regex → List (AtomOver ℕ) → Kept → List ℕ → Spending → Solved → Type 0
+Answers s assumed rs atoms kept wanted budget (solved.Sat words truths) =
+    IsValuedBy s assumed rs atoms kept wanted words.items truths.items
+Answers s assumed rs atoms kept wanted budget (solved.Unsat id) = IsKeptCore kept assumed id.0
+Answers s assumed rs atoms kept wanted budget solved.Spent = budget.spent ≡ budget.limit
 
 -- What a search makes of the tables, whatever empty clause the evidence has then.
-pub record Runs (s : Stacked) (b : Tables) (before : Spending) (old : Option (List ℕ)) (c : Tables) (after : Spending)
-    (new : Option (List ℕ)) (solved : Solved) : Type 0
+pub record Runs (s : Stacked) (assumed : List Lit) (b : Tables) (before : Spending) (old : Option (List ℕ)) (c : Tables)
+    (after : Spending) (new : Option (List ℕ)) (solved : Solved) : Type 0
   where
     pub searched : (refuted : Option EmptyClause) → IsSearched b.strings.proves b.strings.store (backing_in b) before
         old c.strings.store (record (backing_in c) { refuted = refuted }) after new
-    pub answers : Answers s c.strings.store.arena c.strings.atoms c.engine.kept b.strings.wanted after solved
+    pub answers : Answers s assumed c.strings.store.arena c.strings.atoms c.engine.kept b.strings.wanted after solved
     pub refuted_stays : c.refuted ≡ b.refuted
     pub gates_stay : c.gates ≡ b.gates
     pub first_stays : c.before ≡ b.before
 
 -- What comes of it, over the evidence and the store where they lie.
-pub record IsDone (s : Stacked) (literals : List Lit) (proves : Bool) (x : Store) (e : Backing) (before : Spending)
-    (old : Option (List ℕ)) (y : Store) (f : Backing) (after : Spending) (new : Option (List ℕ)) (solved : Solved)
-    : Type 0
+pub record IsDone (s : Stacked) (literals assumed : List Lit) (proves : Bool) (x : Store) (e : Backing)
+    (before : Spending) (old : Option (List ℕ)) (y : Store) (f : Backing) (after : Spending) (new : Option (List ℕ))
+    (solved : Solved) : Type 0
   where
     pub stand : Stand e
     pub searched : IsSearched proves x e before old y f after new
@@ -121,6 +113,4 @@ pub record IsDone (s : Stacked) (literals : List Lit) (proves : Bool) (x : Store
     pub distinct : AreDistinct e.atoms
     pub closed : AreWanted e.atoms literals wanted
     pub among : AreAmong e.atoms literals wanted
-    pub found : Solved
-    pub answers : Answers s y.arena f.atoms f.kept wanted after found
-    pub is_numbered : IsNumbered f.refuted found solved
+    pub answers : Answers s assumed y.arena f.atoms f.kept wanted after solved

@@ -1,7 +1,8 @@
 -- What a check comes to.
 use Rattle.std.specs.Prelude.{◌≡◌, ◌⊎◌, ℕ, Bool, true, List, slice_get, Option, Some, option_map, Contains}
-use Rattle.sb_solve.specs.Words.{AllKept, AreTerms, Asserted, Backing, Backs, EmptyClause, Memo, Regex, Spending, Stacked, Term, are_words, asked_in, asserted, asserted_at, holds, live, live_constants, state_of, values_at}
+use Rattle.sb_solve.specs.Words.{AllKept, AreTerms, Asserted, Backing, Backs, Memo, Regex, Spending, Stacked, Term, are_words, asked_in, asserted, asserted_at, holds, live, live_constants, state_of, values_at}
 use Rattle.sb_script.specs.Models.{occurs}
+use Rattle.sb_solve.specs.Assumed.{IsRefuting, make_true}
 use Rattle.sb_solve.specs.Values.{truth_in, word_in, word_or_empty, word_there, are_words_there}
 use Rattle.sb_solve.specs.declared.check.Solved.{Solved}
 use Rattle.sb_solve.specs.declared.check.Solved.TheVariants as solved
@@ -31,19 +32,23 @@ AreTrueAt s places words truths = (full : List (List ℕ)) (others : List Bool) 
     → (place : ℕ) (t : Term) → Contains places place → slice_get (live (state_of s)) place ≡ Some (asserted t)
     → holds t (values_at (live_constants s) full others) ≡ true
 
+-- So are they, and the truth values make the assumptions true.
+abbrev pub AreTrueUnder : Stacked → List ℕ → List (Option (List ℕ)) → List Bool → Type 0
+AreTrueUnder s places words truths = AreTrueAt s places words truths × (make_true truths s.assumptions ≡ true)
+
 -- The words are words of characters. Where a reader of the proof kept what the evidence knew before, and the live
--- assertions fit the sorts of constants, those at these places are true of the words and truth values.
+-- assertions fit the sorts of constants, those at these places, and the assumptions, are true of the words and truth
+-- values.
 pub record IsValued (s : Stacked) (places : List ℕ) (rs : List Regex) (memo : Memo) (e : Backing)
     (words : List (Option (List ℕ))) (truths : List Bool) : Type 0
   where
     pub characters : are_words_there words ≡ true
     pub given : (before : AllKept) → Backs rs memo e before → AreTerms (asked_in (state_of s))
-        → AreTrueAt s places words truths
+        → AreTrueUnder s places words truths
 
--- What an answer about the assertions at some places says, over what was known before it and what is known then: there
--- are values; the number is that of the empty clause; all is spent.
+-- What an answer about the assertions at some places and the assumptions says, over what was known before it and what
+-- is known then: there are values; the number is that of a clause that denies assumptions alone; all is spent.
 abbrev pub IsSolved : Stacked → List ℕ → List Regex → Memo → Backing → Backing → Spending → Solved → Type 0
 IsSolved s places rs memo e f budget (solved.Sat words truths) = IsValued s places rs memo e words.items truths.items
-IsSolved s places rs memo e f budget (solved.Unsat id) =
-    (empty : EmptyClause) × (f.refuted ≡ Some empty) × (empty.clause ≡ id)
+IsSolved s places rs memo e f budget (solved.Unsat id) = IsRefuting s.assumptions f.atoms f.kept id.0
 IsSolved s places rs memo e f budget solved.Spent = budget.spent ≡ budget.limit

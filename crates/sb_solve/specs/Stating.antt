@@ -1,9 +1,11 @@
--- Private: the clauses of live assertions, as they are put in front of a search.
+-- Private: the clauses of live assertions, and the literals of assumptions, as they are put in front of a search.
 use Rattle.std.specs.Prelude.{◌≡◌, ◌≢◌, ℕ, ◌<◌, true, List, [], ◌∷◌, length, slice_get, Option, Some}
-use Rattle.sb_solve.specs.Words.{AllKept, Asserted, Backing, Backs, EvidencesUncounted, Grows, HasGates, HaveRegexesBelow, IsStatement, Lit, Regex, Stacked, Store, Term, asked_in, asserted, asserted_at, atoms_in, live, state_of, translation}
+use Rattle.sb_solve.specs.Words.{AllKept, Asked, Asserted, Assumption, Backing, Backs, EvidencesUncounted, Grows, HasGates, HaveRegexesBelow, IsStatement, Lit, Memo, Regex, Sort, Stacked, Store, Term, asked_in, asserted, asserted_at, atoms_in, list_all, live, state_of, translation}
 use Rattle.sb_term.specs.Numbered.{term_at}
 use Rattle.sb_atoms.specs.Numbered as table
+use Rattle.sb_sound.specs.ScriptLaws.{assumption_fits}
 use Rattle.sb_solve.specs.SortedAtoms.{are_declared}
+use Rattle.sb_solve.specs.Assumed.{AreSaid}
 use Rattle.sb_solve.specs.Solved.{AreOfLevels, level_at}
 
 -- the number is of the term of the live assertion at the place, on this level
@@ -56,3 +58,19 @@ pub record AreStated (s : Stacked) (places : List ℕ) (x y : Store) (e f : Back
     pub levels : AreOfLevels (asked_in (state_of s)).live e.asserted f.asserted
     pub gates : 0 < length literals → HasGates (length f.atoms) f.atoms f.kept
     pub all : AllStated s y.arena f places literals
+
+-- The literals are those of the assumptions, whose atoms stand in the proof.
+pub record Assumes (given : List Assumption) (rs : List Regex) (e f : Backing) (old new : Option (List ℕ))
+    (literals : List Lit) : Type 0
+  where
+    pub puts : (asked : Asked) (memo : Memo) (before : AllKept)
+        → list_all (assumption_fits asked.sorts) given ≡ true → Backs rs memo e before
+        → EvidencesUncounted asked before rs memo f old new
+    pub atoms : table.Extends e.atoms f.atoms
+    pub regexes : HaveRegexesBelow (length rs) f.atoms
+    pub declared : (sorts : List Sort) → list_all (assumption_fits sorts) given ≡ true
+        → are_declared sorts e.atoms ≡ true → are_declared sorts f.atoms ≡ true
+    pub asserted : f.asserted ≡ e.asserted
+    pub gates : HasGates (length e.atoms) e.atoms e.kept → HasGates (length f.atoms) f.atoms f.kept
+    pub own : 0 < length literals → HasGates (length f.atoms) f.atoms f.kept
+    pub all : AreSaid f.atoms given literals

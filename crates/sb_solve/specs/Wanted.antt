@@ -1,6 +1,8 @@
 -- The atoms of literals, and the atoms that these speak of.
-use Rattle.std.specs.Prelude.{◌≡◌, ℕ, Bool, true, false, ◌&&◌, nat_eq, List, [], ◌∷◌, map, slice_get, Some, None}
-use Rattle.sb_solve.specs.Words.{AtomOver, IsDistinct, Lit, and_atom, bool_atom, constant_piece, iff_atom, in_atom, list_all, list_any}
+use Rattle.std.specs.Prelude.{◌≡◌, ℕ, Bool, true, ◌&&◌, nat_eq, List, [], map, slice_get, Some, None}
+use Rattle.sb_rulebook.specs.Atoms.{literals_in}
+use Rattle.sb_rulebook.specs.Brought.{is_brought_atom}
+use Rattle.sb_solve.specs.Words.{AtomOver, IsDistinct, Lit, list_all, list_any}
 
 abbrev pub is_in : List ℕ → ℕ → Bool
 is_in numbers n = list_any (nat_eq n) numbers
@@ -10,17 +12,11 @@ atoms_of literals = map (λ l. l.atom) literals
 
 -- the atoms of the literals that an atom speaks of
 abbrev pub parts_of : AtomOver ℕ → List ℕ
-parts_of (and_atom ls) = atoms_of ls
-parts_of (iff_atom l m) = l.atom ∷ m.atom ∷ []
-parts_of _ = []
+parts_of a = atoms_of (literals_in a)
 
 -- the atom speaks of literals, or of one constant
 abbrev pub is_simple : AtomOver ℕ → Bool
-is_simple (bool_atom serial) = true
-is_simple (in_atom (constant_piece serial ∷ []) r) = true
-is_simple (and_atom ls) = true
-is_simple (iff_atom l m) = true
-is_simple _ = false
+is_simple = is_brought_atom
 
 -- a number past the table has no parts
 abbrev pub parts_at : List (AtomOver ℕ) → ℕ → List ℕ

@@ -10,7 +10,7 @@ pub use Rattle.sb_meaning.specs.Terms.{Sort, Term, boolean, text}
 pub use Rattle.sb_meaning.specs.Truth.{holds}
 pub use Rattle.sb_meaning.specs.Values.{Valuation}
 pub use Rattle.sb_script.specs.Pieces.{constant_piece}
-pub use Rattle.sb_script.specs.State.{Assertion, a_mark, asserted, live, live_terms}
+pub use Rattle.sb_script.specs.State.{Assertion, Assumption, a_mark, asserted, live, live_terms}
 pub use Rattle.sb_script.specs.WellSorted.{is_well_sorted}
 pub use Rattle.sb_rulebook.specs.Accepted.{asked_in}
 pub use Rattle.sb_rulebook.specs.AtomRules.{is_declared}

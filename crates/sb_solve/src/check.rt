@@ -7,10 +7,11 @@ ghost use Rattle.sb_solve.specs.Solved.{AreOfLevels, IsSolved};
 ghost use Rattle.sb_solve.specs.Truth.{IsTrue};
 
 use crate::searching::search_for;
-use crate::stating::literals;
+use crate::stating::{assumed, joined, literals};
 use sb_lit::{Budget, ClauseId};
 use sb_proof::{Tape, TapeFault};
 use sb_refute::Evidence;
+use sb_rulebook::laws::translation_stays;
 use sb_sound::steps::{counted_again_stays_sound, follows_by_rule, line_stays_sound};
 use sb_stack::Stack;
 use sb_store::{Store, regexes_grow};
@@ -21,22 +22,24 @@ use std::alloc::Global;
 #[derive(Drop)]
 pub enum Solved {
     /// Words and truth values, the one of each constant at its serial: those of the constants that occur in these
-    /// assertions make them true, whatever the others are. A constant without a word has the empty one; truth values
-    /// past the last one are false.
+    /// assertions and in the assumptions make them true, whatever the others are. A constant without a word has the
+    /// empty one; truth values past the last one are false.
     Sat {
         words: Vec<Option<Word>>,
         truths: Vec<bool>,
     },
-    /// The number of the empty clause, which stands in the proof: no values make them true.
+    /// The number of a clause that stands in the proof, and denies assumptions alone: no values make the assertions and
+    /// these assumptions true.
     Unsat(ClauseId),
     /// The budget is spent.
     Spent,
 }
 
-/// Decides whether some values make the live assertions at these places true, of Boolean structure as all live ones are:
-/// the clause of each stands in the proof then, with those of all gates, and behind them the lines of a search over these
-/// clauses. A step of the budget is spent for each line that is counted. Where `proves` is false, what is put proves
-/// nothing: no regex is explored to its end for a lemma, and a step is spent for each lemma and each learned clause.
+/// Decides whether some values make the live assertions at these places true, of Boolean structure as all live ones
+/// are, with the assumptions of the check: the clause of each assertion stands in the proof then, with the atom of each
+/// assumption and the clauses of all gates, and behind them the lines of a search over these clauses. A step of the
+/// budget is spent for each line that is counted. Where `proves` is false, what is put proves nothing: no regex is
+/// explored to its end for a lemma, and a step is spent for each lemma and each learned clause.
 ///
 /// The time is that of the search, which may be exponential in the atoms, and of what is explored of regexes.
 /// `NoMemory` only for want of memory. After an error the evidence may be empty and the store too, and
@@ -80,8 +83,11 @@ pub fn solve<L: Tape>(
     follows_by_rule();
     line_stays_sound();
     counted_again_stays_sound();
-    let literals = literals(alloc, evidence, store, stack, places, tape)?;
+    translation_stays();
+    let stated = literals(alloc, evidence, store, stack, places, tape)?;
+    let assumed = assumed(alloc, evidence, &store.arena, stack.assumptions(), tape)?;
+    let literals = joined(stated, &assumed)?;
     search_for(
-        alloc, evidence, store, stack, &literals, proves, tape, budget,
+        alloc, evidence, store, stack, &literals, &assumed, proves, tape, budget,
     )
 }

@@ -1,13 +1,13 @@
 //! The atoms that a search is to decide.
 
 ghost use Rattle.std.specs.Prelude.{◌≡◌, ◌<◌, ℕ, true, nat_eq, List, length, IfOk, OnOk};
-ghost use Rattle.sb_solve.specs.Words.{Regex, are_atoms, atom_in, atoms_in, is_atom, is_table, list_all};
+ghost use Rattle.sb_solve.specs.Words.{Regex, are_atoms, atoms_in, is_atom, is_table, list_all};
 ghost use Rattle.indexmap.specs.IndexSet.{insert_all};
-ghost use Rattle.sb_solve.specs.Wanted.{atoms_of, parts_of, parts_at, is_simple, is_simple_at, AreWanted};
+ghost use Rattle.sb_solve.specs.Wanted.{atoms_of, parts_at, is_simple_at, AreWanted};
 ghost use Rattle.sb_solve.specs.Gathering.{Closes};
 
 use indexmap::IndexSet;
-use sb_atoms::{Atom, AtomId, Atoms};
+use sb_atoms::{AtomId, Atoms};
 use sb_lit::Lit;
 use std::alloc::{AllocError, Global};
 
@@ -62,18 +62,6 @@ fn add_parts(atoms: &Atoms, found: &mut IndexSet<u64>, atom: u64) -> Result<(), 
     if id.number() >= atoms.len() {
         return Ok(());
     }
-    add_described(found, atoms.describe(id))
-}
-
-/// Adds the atoms of the literals that an atom speaks of.
-fn add_described(found: &mut IndexSet<u64>, described: &Atom) -> Result<(), AllocError>
-    ensures parts { OnOk result
-        (found.new.keys ≡ insert_all nat_eq found.old.keys (parts_of (atom_in described.now))) }
-    ensures simple { is_simple (atom_in described.now) ≡ true }
-{
-    match described {
-        Atom::And(literals) => add_all(found, literals.as_slice()),
-        Atom::Iff(one, other) => add_all(found, &[*one, *other]),
-        Atom::Bool(_) | Atom::In(..) => Ok(()),
-    }
+    let literals = atoms.describe(id).literals(*found.allocator())?;
+    add_all(found, &literals)
 }

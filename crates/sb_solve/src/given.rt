@@ -4,8 +4,10 @@ ghost use Rattle.std.specs.Prelude.{◌≡◌, ℕ, true, false, ◌||◌, ◌==
 ghost use Rattle.sb_solve.specs.Words.{Names, atom_in, bool_atom};
 ghost use Rattle.sb_solve.specs.Values.{is_constant, constant_is, makes_true, truth_by, truth_in, is_word_there, are_words_there};
 
-use sb_atoms::{Atom, AtomId, Atoms};
+use sb_atoms::{AtomId, Atoms};
 use sb_lit::Lit;
+use sb_proof::Atom;
+use sb_regex::RegexId;
 use sb_term::Serial;
 use sb_trail::Trail;
 use sb_word::Word;
@@ -50,7 +52,7 @@ fn put_truth(
 }
 
 /// The Bool constant that an atom is of.
-fn constant_at(atoms: &Atoms, atom: u64) -> Option<Serial>
+pub(crate) fn constant_at(atoms: &Atoms, atom: u64) -> Option<Serial>
     ensures some { IfSome result (λ found. Names atoms.now atom (bool_atom found.0)) }
     ensures none { IfNone result ((serial : ℕ) → is_constant serial (slice_get atoms.now atom) ≡ false) }
 {
@@ -65,13 +67,13 @@ fn constant_at(atoms: &Atoms, atom: u64) -> Option<Serial>
 }
 
 /// The Bool constant that an atom is of.
-fn constant_in(described: &Atom) -> Option<Serial>
+fn constant_in(described: &Atom<RegexId>) -> Option<Serial>
     ensures some { IfSome result (λ found. atom_in described.now ≡ bool_atom found.0) }
     ensures none { IfNone result ((serial : ℕ) → constant_is serial (atom_in described.now) ≡ false) }
 {
     match described {
-        Atom::Bool(serial) => Some(*serial),
-        Atom::In(..) | Atom::And(_) | Atom::Iff(..) => None,
+        Atom::Bool(serial) => Some(Serial(*serial)),
+        Atom::In(..) | Atom::Le(..) | Atom::Sum(..) | Atom::And(_) | Atom::Iff(..) => None,
     }
 }
 

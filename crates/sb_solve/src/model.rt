@@ -2,11 +2,11 @@
 //! and the truth values of the trail.
 
 ghost use Rattle.std.specs.Prelude.{◌≡◌, ℕ, true, List, IfOk};
-ghost use Rattle.sb_solve.specs.Words.{Kept, Lit, Regex, state_of};
+ghost use Rattle.sb_solve.specs.Words.{IsConsistent, Kept, Lit, Regex, held, state_of};
 ghost use Rattle.sb_solve.specs.Answered.{IsAnswered};
 ghost use Rattle.sb_solve.specs.SortedAtoms.{are_declared};
 ghost use Rattle.sb_solve.specs.Modelled.{HasLive};
-ghost use Rattle.sb_solve.specs.Solved.{AreTrueAt};
+ghost use Rattle.sb_solve.specs.Solved.{AreTrueUnder};
 ghost use Rattle.sb_solve.specs.Values.{are_words_there};
 
 use crate::given::{read, truths};
@@ -25,7 +25,7 @@ pub struct Values {
 }
 
 /// The values that a check gives, where these atoms are wanted for the literals of the live assertions that it is
-/// about, and the trail and the theory's words are those of the search's end.
+/// about and for those of its assumptions, and the trail and the theory's words are those of the search's end.
 ///
 /// Linear in the atoms that are wanted, the theory's words, and the largest serial of a Bool constant that is true.
 pub fn model(
@@ -37,16 +37,26 @@ pub fn model(
     stack: &Stack,
 ) -> Result<Values, AllocError>
     requires { are_declared (state_of stack.now).sorts atoms.now ≡ true }
-    ensures given { IfOk result (λ values. (rs : List Regex) (places : List ℕ) (literals : List Lit) (kept : Kept)
-        → IsAnswered rs atoms.now wanted.now literals kept trail.now.literals words.items places (state_of stack.now)
-        → AreTrueAt stack.now places values.words.items values.truths.items) }
+    ensures given { IfOk result
+        (λ values. (rs : List Regex) (places : List ℕ) (literals assumed : List Lit) (kept : Kept)
+        → IsAnswered rs atoms.now wanted.now literals assumed kept trail.now.literals words.items places
+        (state_of stack.now) stack.now.assumptions
+        → AreTrueUnder stack.now places values.words.items values.truths.items) }
     ensures characters { IfOk result (λ values. are_words_there values.words.items ≡ true) }
 {
     translation_holds();
     live(stack);
+    one_value(trail);
     let truths = truths(alloc, atoms, wanted, trail)?;
     read(&words);
     Ok(Values { words, truths })
+}
+
+/// Says of the trail that no literal is on it with its negation.
+fn one_value(trail: &Trail)
+    ensures { IsConsistent (held trail.now.literals) }
+{
+    let _entries = trail.literals();
 }
 
 /// What is known of live constants and terms.

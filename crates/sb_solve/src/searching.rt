@@ -2,10 +2,9 @@
 
 ghost use Rattle.std.specs.Prelude.{◌≡◌, [], true, take, length, IfOk, OnOk};
 ghost use Rattle.sb_clauses.specs.Propagation.{has_room_for};
-ghost use Rattle.sb_solve.specs.Words.{AreDistinct, CountsTapeFault, HaveRegexesBelow, IsStore, Stand, Stands, state_of};
-ghost use Rattle.sb_refute.specs.Backing.{IsLowestEmpty};
+ghost use Rattle.sb_solve.specs.Words.{AreDistinct, CountsTapeFault, HaveRegexesBelow, IsStore, Stand, Stands, are_atoms, state_of};
 ghost use Rattle.sb_solve.specs.SortedAtoms.{are_declared};
-ghost use Rattle.sb_solve.specs.Searched.{AreAmong, AreTaken, HasCore, HasModel, IsDone, IsNumbered, Runs, backing_in};
+ghost use Rattle.sb_solve.specs.Searched.{AreAmong, AreTaken, HasModel, IsDone, Runs, backing_in};
 ghost use Rattle.sb_solve.specs.Wanted.{AreWanted};
 
 use crate::check::Solved;
@@ -36,14 +35,16 @@ pub(crate) struct Tables {
     pub before: usize,
 }
 
-/// Searches for values of the atoms that these literals speak of, over the clauses of the evidence. Where `proves` is
-/// false no lines are put for lemmas and regexes. After an error the evidence and the store may be empty.
+/// Searches for values of the atoms that these literals speak of, over the clauses of the evidence, where those of the
+/// assumptions are true. Where `proves` is false no lines are put for lemmas and regexes. After an error the evidence
+/// and the store may be empty.
 pub(crate) fn search_for<L: Tape>(
     alloc: Global,
     evidence: &mut Evidence,
     store: &mut Store,
     stack: &Stack,
     literals: &[Lit],
+    assumed: &[Lit],
     proves: bool,
     tape: &mut L,
     budget: &mut Budget,
@@ -51,16 +52,17 @@ pub(crate) fn search_for<L: Tape>(
     requires store { IsStore store.old }
     requires regexes { HaveRegexesBelow (length store.old.arena) evidence.old.atoms }
     requires declared { are_declared (state_of stack.now).sorts evidence.old.atoms ≡ true }
-    ensures done { IfOk result (IsDone stack.now literals.now proves store.old evidence.old budget.old
+    requires assumed { are_atoms evidence.old.atoms assumed.now ≡ true }
+    ensures done { IfOk result (IsDone stack.now literals.now assumed.now proves store.old evidence.old budget.old
         (L.Tape.told tape.old) store.new evidence.new budget.new (L.Tape.told tape.new)) }
     ensures counts { CountsTapeFault result (L.Tape.faults tape.old) (L.Tape.faults tape.new) }
 {
     let wanted = wanted_of(alloc, evidence.atoms(), literals)?;
     let mut tables = taken(alloc, evidence, store, wanted, proves);
-    match run(alloc, &mut tables, stack, tape, budget) {
+    match run(alloc, &mut tables, stack, assumed, tape, budget) {
         Ok(solved) => {
             put_back(tables, evidence, store);
-            Ok(numbered(solved, evidence))
+            Ok(solved)
         }
         Err(fault) => {
             drop(tables);
@@ -115,12 +117,12 @@ fn taken(
     }
 }
 
-/// The search, which assumes nothing, from its beginning to its end. The number in its answer is that of some clause
-/// without literals.
+/// The search, under these assumptions, from its beginning to its end.
 fn run<L: Tape>(
     alloc: Global,
     tables: &mut Tables,
     stack: &Stack,
+    assumed: &[Lit],
     tape: &mut L,
     budget: &mut Budget,
 ) -> Result<Solved, TapeFault>
@@ -128,8 +130,9 @@ fn run<L: Tape>(
     requires trail { tables.old.engine.trail.literals ≡ [] }
     requires known { has_room_for (length tables.old.strings.atoms) tables.old.engine.kept ≡ true }
     requires declared { are_declared (state_of stack.now).sorts tables.old.strings.atoms ≡ true }
-    ensures runs { IfOk result (Runs stack.now tables.old budget.old (L.Tape.told tape.old) tables.new budget.new
-        (L.Tape.told tape.new)) }
+    requires assumed { are_atoms tables.old.strings.atoms assumed.now ≡ true }
+    ensures runs { IfOk result (Runs stack.now assumed.now tables.old budget.old (L.Tape.told tape.old) tables.new
+        budget.new (L.Tape.told tape.new)) }
     ensures counts { CountsTapeFault result (L.Tape.faults tape.old) (L.Tape.faults tape.new) }
 {
     let found = search(
@@ -138,7 +141,7 @@ fn run<L: Tape>(
         &mut tables.engine,
         &mut tables.choices,
         tape,
-        &[],
+        assumed,
         budget,
     )?;
     match found {
@@ -179,7 +182,6 @@ fn put_back(tables: Tables, evidence: &mut Evidence, store: &mut Store)
     requires known { has_room_for (length tables.strings.atoms) tables.engine.kept ≡ true }
     requires stands { Stand (record (backing_in tables) { kept = take tables.before tables.engine.kept }) }
     ensures evidence { evidence.new ≡ record (backing_in tables) { refuted = evidence.new.refuted } }
-    ensures lowest { IsLowestEmpty tables.engine.kept evidence.new.refuted }
     ensures store { store.new ≡ tables.strings.store }
 {
     let Tables {
@@ -202,22 +204,4 @@ fn put_back(tables: Tables, evidence: &mut Evidence, store: &mut Store)
     };
     drop(mem::replace(evidence, Evidence::from_parts(parts, before)));
     drop(mem::replace(store, strings.store));
-}
-
-/// The answer, with the number of the evidence's empty clause.
-fn numbered(solved: Solved, evidence: &Evidence) -> Solved
-    requires core { HasCore evidence.now.kept solved }
-    requires lowest { IsLowestEmpty evidence.now.kept evidence.now.refuted }
-    ensures { IsNumbered evidence.now.refuted solved result }
-{
-    match solved {
-        Solved::Unsat(_) => {
-            let Some(empty) = evidence.refuted() else {
-                unreachable!();
-            };
-            Solved::Unsat(empty.clause)
-        }
-        Solved::Sat { words, truths } => Solved::Sat { words, truths },
-        Solved::Spent => Solved::Spent,
-    }
 }

@@ -1,14 +1,15 @@
-//! The literals of live assertions.
+//! The literals of live assertions, and of assumptions.
 
 ghost use Rattle.std.specs.Prelude.{◌≡◌, ◌<◌, ◌∷◌, ◌++◌, [], true, length, IfOk, OnOk};
 ghost use Rattle.sb_solve.specs.Words.{All, CountsTapeFault, HaveRegexesBelow, IsStoreOf, is_decided, is_well_sorted, list_all, live, live_terms, state_of};
-ghost use Rattle.sb_solve.specs.Stating.{IsAssertionAt, States, AreStated};
+ghost use Rattle.sb_solve.specs.Stating.{Assumes, IsAssertionAt, States, AreStated};
 
 use sb_lit::Lit;
 use sb_proof::{Tape, TapeFault};
 use sb_refute::Evidence;
+use sb_regex::Arena;
 use sb_rulebook::laws::{fitting_is_translated, translation_stays};
-use sb_stack::Stack;
+use sb_stack::{Assumption, Stack};
 use sb_store::Store;
 use sb_term::TermId;
 use std::alloc::{AllocError, Global};
@@ -46,6 +47,52 @@ pub(crate) fn literals<L: Tape>(
         put(&mut literals, literal)?;
     }
     Ok(literals)
+}
+
+/// The literals of the assumptions, in order. The atom of each stands in the proof then, with the lines that it lacked.
+pub(crate) fn assumed<L: Tape>(
+    alloc: Global,
+    evidence: &mut Evidence,
+    arena: &Arena,
+    given: &[Assumption],
+    tape: &mut L,
+) -> Result<Vec<Lit>, TapeFault>
+    requires regexes { HaveRegexesBelow (length arena.now) evidence.old.atoms }
+    ensures assumes { IfOk result (λ literals. Assumes given.now arena.now evidence.old evidence.new
+        (L.Tape.told tape.old) (L.Tape.told tape.new) literals.items) }
+    ensures counts { CountsTapeFault result (L.Tape.faults tape.old) (L.Tape.faults tape.new) }
+{
+    let mut literals = Vec::new(alloc);
+    for assumption in given {
+        let literal = assume(evidence, arena, *assumption, tape)?;
+        put(&mut literals, literal)?;
+    }
+    Ok(literals)
+}
+
+/// The literal of an assumption, whose atom stands in the proof then.
+fn assume<L: Tape>(
+    evidence: &mut Evidence,
+    arena: &Arena,
+    assumption: Assumption,
+    tape: &mut L,
+) -> Result<Lit, TapeFault>
+    requires regexes { HaveRegexesBelow (length arena.now) evidence.old.atoms }
+    ensures assumes { IfOk result (λ literal. Assumes (assumption ∷ []) arena.now evidence.old evidence.new
+        (L.Tape.told tape.old) (L.Tape.told tape.new) (literal ∷ [])) }
+    ensures counts { CountsTapeFault result (L.Tape.faults tape.old) (L.Tape.faults tape.new) }
+{
+    let literal = evidence.assume(arena, assumption.serial, assumption.positive, tape)?;
+    Ok(literal)
+}
+
+/// The literals, and behind them the others.
+pub(crate) fn joined(literals: Vec<Lit>, others: &[Lit]) -> Result<Vec<Lit>, AllocError>
+    ensures { IfOk result (λ all. all.items ≡ literals.items ++ others.now) }
+{
+    let mut all = literals;
+    all.extend_from_slice(others)?;
+    Ok(all)
 }
 
 /// Puts a literal behind the others.

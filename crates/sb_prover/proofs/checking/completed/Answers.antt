@@ -1,4 +1,4 @@
-use Rattle.sb_prover.proofs.Words.{ℕ, Bool, List, Option, refl, subst, sym, AreTruthsOf, IfOk-from_err, IsClosed, IsCompleted, IsReadyThen, Serial}
+use Rattle.sb_prover.proofs.Words.{ℕ, List, Option, refl, subst, sym, IfOk-from_err, IsClosed, IsCompleted, IsReadyThen}
 use Rattle.sb_prover.specs.declared.checking.Solution.TheVariants as solution
 use Rattle.sb_prover.proofs.checking.completed.Goals as goal
 
@@ -34,13 +34,13 @@ returns-in_ok-full-in-Sat c =
     let closed = subst (λ (found : List (Option (List ℕ))).
     IsClosed c.args.decider.now c.args.stack.now found full.items) c.deref-in-Sat.ensures.value e.closed in
     record {
-      completed = subst (λ solved. IsCompleted c.args.decider.now c.args.stack.now solved (solution.Sat full others))
+      completed = subst
+          (λ solved. IsCompleted c.args.decider.now c.args.stack.now c.args.evidence.now solved
+          (solution.Sat full others))
           (sym c.in-Sat.is) (
             closed,
-            subst (λ (truths : List Bool). AreTruthsOf c.args.decider.now.spoken.keys truths others.items)
-                c.deref.ensures.value
-                (subst (λ (serials : List Serial). AreTruthsOf serials c.deref.result.now others.items)
-                c.as_slice.ensures.keys c.in_ok-others-in-Sat.ensures),
+            rw (c.as_slice.ensures.keys, c.assumptions.ensures.value, c.deref.ensures.value)
+                at c.in_ok-others-in-Sat.ensures,
             c.declared-count.ensures.fit full.items others.items closed.characters,
           );
       knows = e.knows others;
@@ -48,14 +48,25 @@ returns-in_ok-full-in-Sat c =
       store = e.store;
     }
 
-pub returns-in-Unsat : goal.returns-in-Unsat
-returns-in-Unsat c =
+pub returns-in_ok-core-in-Unsat : goal.returns-in_ok-core-in-Unsat
+returns-in_ok-core-in-Unsat c =
     let e = c.requires.knows in
     record {
       completed = subst
-          (λ solved. IsCompleted c.args.decider.now c.args.stack.now solved (solution.Unsat c.in-Unsat.id))
-          (sym c.in-Unsat.is) refl;
+          (λ solved. IsCompleted c.args.decider.now c.args.stack.now c.args.evidence.now solved
+          (solution.Unsat c.in-Unsat.id c.in_ok-core-in-Unsat.core))
+          (sym c.in-Unsat.is) (refl, c.in_ok-core-in-Unsat.ensures);
       knows = record { inside = e.inside; taken = e.taken; words = e.words; declared = e.declared };
+      rest = refl;
+      store = refl;
+    }
+
+pub returns-in_err-core-in-Unsat : goal.returns-in_err-core-in-Unsat
+returns-in_err-core-in-Unsat c =
+    let x = c.from_residual-in_err-core-in-Unsat in
+    record {
+      completed = IfOk-from_err x.result _ x.ensures.0;
+      knows = IfOk-from_err x.result _ x.ensures.0;
       rest = refl;
       store = refl;
     }
@@ -64,7 +75,8 @@ pub returns-in-Spent : goal.returns-in-Spent
 returns-in-Spent c =
     let e = c.requires.knows in
     record {
-      completed = subst (λ solved. IsCompleted c.args.decider.now c.args.stack.now solved solution.Spent)
+      completed = subst
+          (λ solved. IsCompleted c.args.decider.now c.args.stack.now c.args.evidence.now solved solution.Spent)
           (sym c.in-Spent.is) tt;
       knows = record { inside = e.inside; taken = e.taken; words = e.words; declared = e.declared };
       rest = refl;

@@ -1,4 +1,4 @@
-use Rattle.sb_prover.proofs.Words.{◌<◌, length, refl, subst, sym, ◌∙◌, All, AreAsked, Decider, IfOk-from_err, IsAsked, Solved, asked_in, counts_none, counts_on, eqb-true, err_from_is_err_and, more_same, puts_none, state_of}
+use Rattle.sb_prover.proofs.Words.{◌<◌, ap, length, refl, subst, sym, ◌∙◌, All, AreAsked, Decider, IfOk-from_err, IsAsked, Solved, asked_in, counts_none, counts_on, err_from_is_err_and, more_same, puts_none, state_of}
 use Rattle.sb_prover.proofs.Solutions.{asked-below, levels-known, none-valued, values-found, found-by}
 use Rattle.sb_prover.proofs.checking.searched.Goals as goal
 
@@ -10,7 +10,7 @@ solve-requires g c =
     let s = c.args.stack.now in
     let old = c.args.decider.now in
     record {
-      places = subst (All (λ place. place < length s.assertions)) (sym c.deref.ensures.value)
+      places = subst (All (λ place. place < length s.assertions)) (sym c.deref-2.ensures.value)
           (asked-below old.others.items s c.args.decided c.in_ok-places.places.items
           (c.in_ok-places.ensures s c.requires.knows c.requires.asked));
       decided = c.requires.inside;
@@ -37,13 +37,14 @@ returns-in_err-places g c =
       counts = counts_none x.result p.0 (g.L.Tape.faults c.args.tape.now) p.1 p.2;
     }
 
-pub returns-then-is_empty : goal.returns-then-is_empty
-returns-then-is_empty g c =
+pub returns-then-are_none : goal.returns-then-are_none
+returns-then-are_none g c =
     let s = c.args.stack.now in
     let old = c.args.decider.now in
     let before = c.args.evidence.now in
     let places = c.in_ok-places.places.items in
-    let none = sym c.in_ok-places.places.ok.0 ∙ eqb-true _ _ (sym c.is_empty.ensures ∙ c.if-is_empty.true) in
+    let none = sym (ap length c.deref.ensures.value) ∙ c.are_none.ensures.places c.if-are_none.true in
+    let alone = sym (ap length c.assumptions.ensures.value) ∙ c.are_none.ensures.given c.if-are_none.true in
     record {
       puts = λ proves kept backs counts. record {
         after = kept;
@@ -54,9 +55,9 @@ returns-then-is_empty g c =
       solved = values-found c.normal_has_terms_words.ensures old s c.args.decided places old.store before
           c.requires.terms c.requires.sound c.assertions-assertions.ensures.named
           (c.in_ok-places.ensures s c.requires.knows c.requires.asked)
-          (λ is. subst (IsAsked old s) is c.requires.asked) c.new.result.items c.new-then-is_empty.result.items
-          (none-valued s places old.store before c.new.result.items c.new-then-is_empty.result.items
-          c.new.ensures.items c.new-then-is_empty.ensures.items none);
+          (λ is. subst (IsAsked old s) is c.requires.asked) c.new.result.items c.new-then-are_none.result.items
+          (none-valued s places old.store before c.new.result.items c.new-then-are_none.result.items
+          c.new.ensures.items c.new-then-are_none.ensures.items none alone);
       sound = λ proves. c.requires.sound;
       limit = refl;
       knows = c.requires.knows;
@@ -94,13 +95,12 @@ returns g c =
     let e = c.in_ok-solved.ensures in
     record {
       puts = e.puts;
-      solved = found-by c.normal_has_terms_words.ensures new s c.args.decided c.deref.result.now old.store before
+      solved = found-by c.normal_has_terms_words.ensures new s c.args.decided c.deref-2.result.now old.store before
           c.requires.terms c.requires.sound c.assertions-assertions.ensures.named
-          (subst (AreAsked old.others.items s c.args.decided) (sym c.deref.ensures.value)
+          (subst (AreAsked old.others.items s c.args.decided) (sym c.deref-2.ensures.value)
           (c.in_ok-places.ensures s c.requires.knows c.requires.asked))
           (λ is. c.ready_grown.ensures old x.store s e.store (subst (IsAsked old s) is c.requires.asked))
-          x.evidence x.budget c.in_ok-solved.solved c.refuted-empty.result e.answer c.refuted-empty.ensures.known
-          c.refuted-empty.ensures.kept;
+          x.evidence x.budget c.in_ok-solved.solved e.answer;
       sound = λ proves. e.sound proves c.requires.terms c.requires.sound;
       limit = e.limit;
       knows = c.knows_grown.ensures old x.store s e.store c.requires.knows;

@@ -1,6 +1,6 @@
-use Rattle.sb_refute.proofs.Words.{arith, refl, subst, on_ok_weaker, Names, atom_in, CountsTapeFault}
+use Rattle.sb_refute.proofs.Words.{ℕ, arith, refl, subst, on_ok_weaker, Names, atom_in, CountsTapeFault}
 use Rattle.sb_proof.specs.Lines.{atom_in as line_atom}
-use Rattle.sb_proof.specs.declared.line.Atom.{Atom}
+use Rattle.sb_proof.specs.declared.atom.Atom.{Atom}
 use Rattle.sb_refute.proofs.DefinedAtoms.{defines-one}
 use Rattle.sb_refute.proofs.Exits.{called-on}
 use Rattle.sb_refute.proofs.defining.define_atom.Goals as goal
@@ -8,13 +8,16 @@ use Rattle.sb_refute.proofs.defining.define_atom.Goals as goal
 pub describe-requires : goal.describe-requires
 describe-requires g c = omega (arith, c.of-id.ensures, c.requires.inside)
 
-pub line_of-requires : goal.line_of-requires
-line_of-requires g c = c.requires.regexes c.of-id.result _ c.describe.ensures
+pub line_of-requires-clause-brought : goal.line_of-requires-clause-brought
+line_of-requires-clause-brought g c = c.describe.ensures.brought
+
+pub line_of-requires-clause-regex : goal.line_of-requires-clause-regex
+line_of-requires-clause-regex g c = c.requires.regexes c.of-id.result _ c.describe.ensures.names
 
 pub returns : goal.returns
 returns g c =
     let names = subst (λ n. Names c.args.atoms.now n (atom_in c.describe.result.now)) c.of-id.ensures
-    c.describe.ensures in
+    c.describe.ensures.names in
     record {
       ok = on_ok_weaker c.put_line.result
           (λ told asked memo e due.
@@ -32,5 +35,5 @@ returns g c =
 pub returns-in_err-line : goal.returns-in_err-line
 returns-in_err-line g c =
     let x = c.from_residual in
-    called-on Atom _ x.result _ _ _ _ x.ensures.0 x.ensures.1 refl c.in_err-line.ensures.counts
+    called-on (Atom ℕ) _ x.result _ _ _ _ x.ensures.0 x.ensures.1 refl c.in_err-line.ensures.counts
     c.in_err-line.ensures.rest

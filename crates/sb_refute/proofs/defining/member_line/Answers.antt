@@ -1,6 +1,6 @@
 use Rattle.sb_refute.proofs.Words.{arith, refl, ℕ, OnlyNumbers}
 use Rattle.sb_refute.proofs.DefinedAtoms.{member-line}
-use Rattle.sb_refute.proofs.Exits.{called-none, called-on}
+use Rattle.sb_refute.proofs.Exits.{called-on}
 use Rattle.sb_refute.proofs.defining.member_line.Goals as goal
 
 pub returns : goal.returns
@@ -10,7 +10,7 @@ returns g c =
       ok = λ asked memo before tracks.
           member-line asked before c.args.arena.now memo c.number.new.self c.args.serial.0 c.args.regex
           c.in_ok-number.number _ (g.L.Tape.told c.args.tape.now) (g.L.Tape.told c.number.new.tape)
-          c.in_ok-pieces.ensures (omega arith) (omega arith) c.in_ok-number.ensures.number
+          c.constant.ensures (omega arith) (omega arith) c.in_ok-number.ensures.number
           (c.in_ok-number.ensures.puts asked memo before tracks);
       rest = record { stays = n.stays; expanded = n.expanded_stay; dead = n.dead_stay };
       counts = c.in_ok-number.ensures.counts;
@@ -23,11 +23,3 @@ returns-in_err-number g c =
     let rest : OnlyNumbers c.args.trace.now c.number.new.self =
     record { stays = n.stays; expanded = n.expanded_stay; dead = n.dead_stay } in
     called-on ℕ _ x.result _ _ _ _ x.ensures.0 x.ensures.1 refl c.in_err-number.ensures.counts rest
-
-pub returns-in_err-pieces : goal.returns-in_err-pieces
-returns-in_err-pieces g c =
-    let x = c.from_residual-in_err-pieces in
-    let n = c.number.ensures in
-    let rest : OnlyNumbers c.args.trace.now c.number.new.self =
-    record { stays = n.stays; expanded = n.expanded_stay; dead = n.dead_stay } in
-    called-none _ x.result _ _ x.ensures.0 x.ensures.1 c.in_ok-number.ensures.counts rest

@@ -1,4 +1,4 @@
-use Rattle.sb_solve.proofs.Words.{[], refl, sym, subst, IsFound, Found, all_known, IfOk-from_err, err_from_is_err_and, counts_none, counts_on, CountsTapeFault, false≢true, ℕ, ◌≡◌, true, List, AtomOver, are_declared, state_of}
+use Rattle.sb_solve.proofs.Words.{refl, sym, subst, IsFound, Found, all_known, IfOk-from_err, err_from_is_err_and, counts_none, counts_on, CountsTapeFault, ℕ, ◌≡◌, true, List, AtomOver, are_declared, state_of, all_among, is_atom}
 use Rattle.sb_solve.proofs.Ended.{atoms_stay, runs_to}
 use Rattle.sb_solve.proofs.searching.run.Goals as goal
 
@@ -7,7 +7,8 @@ search-requires-clause-passes g c =
     let b = c.args.tables.now in
     record {
       clauses = all_known b.strings.atoms b.engine.kept c.requires.known;
-      assumed = λ l h. absurd (false≢true h);
+      assumed = λ l h.
+          all_among (λ m. is_atom b.strings.atoms m.atom) c.args.assumed.now l c.requires.assumed h;
     }
 
 pub values_of-requires : goal.values_of-requires
@@ -29,10 +30,10 @@ returns-in-Unsat g c =
     let h = c.in_ok-found.ensures in
     let y = c.search.new.theory in
     record {
-      runs = runs_to c.args.stack.now c.args.tables.now _ y c.search.new.engine c.search.new.choices y.words
-          _ _ _ _ _ refl c.search.ensures.wanted c.requires.known h.stands h.kept h.follows_by_level h.puts h.limit
-          h.spends
-          (subst (IsFound y.wanted [] c.search.new.engine c.search.new.budget) c.in-Unsat.is h.found);
+      runs = runs_to c.args.stack.now c.args.assumed.now c.args.tables.now _ y c.search.new.engine
+          c.search.new.choices y.words _ _ _ _ _ refl c.search.ensures.wanted c.requires.known h.stands h.kept
+          h.follows_by_level h.puts h.limit h.spends
+          (subst (IsFound y.wanted c.args.assumed.now c.search.new.engine c.search.new.budget) c.in-Unsat.is h.found);
       counts = h.counts;
     }
 
@@ -41,10 +42,10 @@ returns-in-Spent g c =
     let h = c.in_ok-found.ensures in
     let y = c.search.new.theory in
     record {
-      runs = runs_to c.args.stack.now c.args.tables.now _ y c.search.new.engine c.search.new.choices y.words
-          _ _ _ _ _ refl c.search.ensures.wanted c.requires.known h.stands h.kept h.follows_by_level h.puts h.limit
-          h.spends
-          (subst (IsFound y.wanted [] c.search.new.engine c.search.new.budget) c.in-Spent.is h.found);
+      runs = runs_to c.args.stack.now c.args.assumed.now c.args.tables.now _ y c.search.new.engine
+          c.search.new.choices y.words _ _ _ _ _ refl c.search.ensures.wanted c.requires.known h.stands h.kept
+          h.follows_by_level h.puts h.limit h.spends
+          (subst (IsFound y.wanted c.args.assumed.now c.search.new.engine c.search.new.budget) c.in-Spent.is h.found);
       counts = h.counts;
     }
 
@@ -54,14 +55,15 @@ returns-in_ok-values-in-Sat g c =
     let y = c.search.new.theory in
     let v = c.in_ok-values-in-Sat.ensures in
     record {
-      runs = runs_to c.args.stack.now c.args.tables.now c.values_of.new.tables y c.search.new.engine
-          c.search.new.choices _ _ _ _ _ _ v.rest c.search.ensures.wanted c.requires.known h.stands h.kept
-          h.follows_by_level h.puts h.limit h.spends
+      runs = runs_to c.args.stack.now c.args.assumed.now c.args.tables.now c.values_of.new.tables y
+          c.search.new.engine c.search.new.choices _ _ _ _ _ _ v.rest c.search.ensures.wanted c.requires.known h.stands
+          h.kept h.follows_by_level h.puts h.limit h.spends
           (record {
             search = c.search.new.engine;
             theory = y.words.items;
             keeps = refl;
-            full = subst (IsFound y.wanted [] c.search.new.engine c.search.new.budget) c.in-Sat.is h.found;
+            full = subst (IsFound y.wanted c.args.assumed.now c.search.new.engine c.search.new.budget) c.in-Sat.is
+                h.found;
             agrees = h.agrees c.in-Sat.is;
             model = v.model;
           });

@@ -1,5 +1,5 @@
-use Rattle.sb_solve.proofs.Words.{◌≡◌, List, ℕ, length, true, sym, ap, subst, IfOk-from_err, err_from_is_err_and, Kept, has_room_for, AtomOver, AreDistinct, Backing, IsLowestEmpty, counts_none, AreAmong, HasCore, AreWanted, are_declared, state_of}
-use Rattle.sb_solve.proofs.Ended.{core_of, done, room_left, stand_left}
+use Rattle.sb_solve.proofs.Words.{◌≡◌, List, ℕ, length, true, sym, subst, IfOk-from_err, err_from_is_err_and, has_room_for, AtomOver, AreDistinct, Backing, counts_none, AreAmong, AreWanted, are_declared, state_of, are_atoms}
+use Rattle.sb_solve.proofs.Ended.{done, room_left, stand_left}
 use Rattle.sb_solve.proofs.searching.search_for.Goals as goal
 
 pub run-requires : goal.run-requires
@@ -11,35 +11,27 @@ run-requires g c =
       known = subst (λ (e : Backing). has_room_for (length e.atoms) e.kept ≡ true) (sym t.backing) t.stand.known;
       declared = subst (λ (e : Backing). are_declared (state_of c.args.stack.now).sorts e.atoms ≡ true) (sym t.backing)
           c.requires.declared;
+      assumed = subst (λ (e : Backing). are_atoms e.atoms c.args.assumed.now ≡ true) (sym t.backing)
+          c.requires.assumed;
     }
 
 pub put_back-requires : goal.put_back-requires
 put_back-requires g c = record {
-  known = room_left _ _ _ _ _ _ _ _ _ _ _ _ c.taken-tables.ensures c.in-Ok.ensures.runs;
-  stands = stand_left _ _ _ _ _ _ _ _ _ _ _ _ c.taken-tables.ensures c.in-Ok.ensures.runs;
+  known = room_left _ _ _ _ _ _ _ _ _ _ _ _ _ c.taken-tables.ensures c.in-Ok.ensures.runs;
+  stands = stand_left _ _ _ _ _ _ _ _ _ _ _ _ _ c.taken-tables.ensures c.in-Ok.ensures.runs;
 }
-
-pub numbered-requires : goal.numbered-requires
-numbered-requires g c =
-    let kept = ap (λ (e : Backing). e.kept) c.put_back.ensures.evidence in
-    record {
-      core = subst (λ (k : Kept). HasCore k c.in-Ok.solved) (sym kept)
-          (core_of _ _ _ _ _ _ _ c.in-Ok.ensures.runs.answers);
-      lowest = subst (λ (k : Kept). IsLowestEmpty k c.put_back.new.evidence.refuted) (sym kept)
-          c.put_back.ensures.lowest;
-    }
 
 pub returns-in-Ok : goal.returns-in-Ok
 returns-in-Ok g c =
     let w = c.in_ok-wanted.ensures in
     record {
       done = rw c.put_back.ensures.store
-          (done _ _ _ _ _ _ _ _ _ _ _ _ c.taken-tables.ensures c.in-Ok.ensures.runs c.args.literals.now _ _
+          (done _ _ _ _ _ _ _ _ _ _ _ _ _ c.taken-tables.ensures c.in-Ok.ensures.runs c.args.literals.now _
           (subst AreDistinct c.atoms.ensures c.wanted_of.ensures.distinct)
           (subst (λ (ts : List (AtomOver ℕ)). AreWanted ts c.args.literals.now c.in_ok-wanted.wanted) c.atoms.ensures
           w.wanted)
           (subst (λ (ts : List (AtomOver ℕ)). AreAmong ts c.args.literals.now c.in_ok-wanted.wanted) c.atoms.ensures
-          w.among) c.put_back.ensures.evidence c.numbered.ensures);
+          w.among) c.put_back.ensures.evidence);
       counts = c.in-Ok.ensures.counts;
     }
 

@@ -7,8 +7,8 @@ returns c =
     record {
       model = record {
         characters = v.characters;
-        given = λ places literals kept answered.
-            v.given c.args.tables.now.strings.store.arena places literals kept
+        given = λ places literals assumed kept answered.
+            v.given c.args.tables.now.strings.store.arena places literals assumed kept
             (rw (c.replace-words.ensures.value, c.atoms.ensures, c.trail.ensures) answered);
       };
       rest = refl;

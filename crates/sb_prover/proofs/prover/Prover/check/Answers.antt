@@ -1,4 +1,4 @@
-use Rattle.sb_prover.proofs.Words.{[], length, refl, sym, ap, subst, ◌∙◌, Backs, CountsTapeFault, Decided, HasSpent, HaveLevels, HaveRegexesBelow, IfOk-from_err, IsDecided, IsProved, IsTrue, IsVerdict, Knows, Proving, Said, Solution, asked_in, counts_on, err_from_is_err_and, false≢true, found, line, live_constants, question_in, state_of, text_of, verdict_in, verdict_line, verdict_of, with_bytes, more_same, ◌≡◌, true, are_declared}
+use Rattle.sb_prover.proofs.Words.{length, refl, sym, ap, subst, ◌∙◌, Backs, CountsTapeFault, Decided, HasSpent, HaveLevels, HaveRegexesBelow, IfOk-from_err, IsDecided, IsProved, IsTrue, IsVerdict, Knows, Proving, Said, Solution, asked_in, counts_on, err_from_is_err_and, false≢true, found, line, live_constants, state_of, text_of, verdict_in, verdict_line, verdict_of, with_bytes, more_same, ◌≡◌, true, are_declared, List, Assumption, is_unsat, question_of}
 use Rattle.sb_stack.specs.declared.verdict.Verdict.{Verdict}
 use Rattle.sb_prover.proofs.Proved.{solved-proved}
 use Rattle.sb_prover.proofs.Solutions.{said-same, solved-verdict}
@@ -28,7 +28,9 @@ returns g c =
     let knows = c.requires.knows in
     record {
       proves = λ proves. absurd (false≢true (sym c.if-not-proves.true ∙ proves));
-      verdict = (subst (λ (d : Decided). IsDecided c.args.decider.now s d) c.in-Dead.is c.requires.decided).1;
+      verdict = subst (λ (xs : List Assumption). IsVerdict (state_of s) s.assumptions (is_unsat xs))
+          (sym c.no_assumptions.ensures)
+          ((subst (λ (d : Decided). IsDecided c.args.decider.now s d) c.in-Dead.is c.requires.decided).1 s.assumptions);
       spent = tt;
       regexes = c.requires.regexes;
       declared = c.requires.declared;
@@ -112,24 +114,23 @@ returns-2 g c =
     let last = g.L.Tape.told c.say_solution.new.tape in
     record {
       proves = λ proves before h.
-          subst (λ (v : Verdict). IsProved (question_in (state_of s) []) (verdict_in (live_constants s) v) before
+          subst (λ (v : Verdict). IsProved (question_of s) (verdict_in (live_constants s) v) before
           new.store c.solution.new.self told last)
           (sym c.verdict_of.ensures)
-          (subst (λ b. IsProved (question_in (state_of s) []) (verdict_in (live_constants s) (verdict_of r)) before
+          (subst (λ b. IsProved (question_of s) (verdict_in (live_constants s) (verdict_of r)) before
           new.store (record { evidence = c.solution.new.self.evidence; begun = b }) told last)
           (sym (e.begun ∙ ap (λ p. p.begun) first))
-          (solved-proved c.text_is_read.ensures c.text_is_one_line.ensures c.texts_are_lines.ensures s r before
-          old.store new.store c.args.self.now c.solution.new.self.evidence told (g.L.Tape.told c.begin.new.tape)
+          (solved-proved s r before old.store new.store c.args.self.now c.solution.new.self.evidence told (g.L.Tape.told c.begin.new.tape)
           middle last (said.numbered proves) e.means h c.in_ok-begin.ensures.told
           (e.solved proves before.kept
           (subst (λ p. Backs old.store.arena old.store.graph.memo p.evidence before.kept) (sym first) h.backs)
           h.counted) e.regexes
           (said.told proves ∙ ap (λ (x : Said). with_bytes (line (text_of (verdict_line x))) middle)
           (said-same r c.solution.new.stack s e.rest))));
-      verdict = subst (λ (v : Verdict). IsVerdict (state_of s) [] (verdict_in (live_constants s) v))
+      verdict = subst (λ (v : Verdict). IsVerdict (state_of s) s.assumptions (verdict_in (live_constants s) v))
           (sym c.verdict_of.ensures)
-          (solved-verdict c.empty_clause_refutes.ensures s c.requires.fit new.store c.solution.new.self.evidence r
-          e.sound e.means);
+          (solved-verdict c.clause_refutes.ensures s c.requires.fit c.assumptions-given.ensures.assumed.sorted new.store
+          c.solution.new.self.evidence r e.sound e.means);
       spent = subst (HasSpent c.solution.new.budget) (sym c.verdict_of.ensures) e.spent;
       regexes = e.regexes;
       declared = e.declared;

@@ -1,6 +1,6 @@
-use Rattle.sb_prover.proofs.Words.{length, ap, refl, sym, subst, ◌∙◌, Backs, CountsTapeFault, Decided, HaveLevels, HaveRegexesBelow, IfOk-from_err, IsDecided, IsSolution, IsTrue, Proving, Solved, Spending, Store, asked_in, counts_none, counts_on, err_from_is_err_and, state_of, KnowsMore, more_same, ◌≡◌, true, are_declared}
+use Rattle.sb_prover.proofs.Words.{length, ap, refl, sym, subst, ◌∙◌, Backs, CountsTapeFault, Decided, HaveLevels, HaveRegexesBelow, IfOk-from_err, IsDecided, IsSolution, IsTrue, Proving, Solved, Spending, Store, asked_in, counts_none, counts_on, err_from_is_err_and, state_of, KnowsMore, more_same, ◌≡◌, true, are_declared, []}
 use Rattle.sb_prover.specs.declared.checking.Solution.TheVariants as solution
-use Rattle.sb_prover.proofs.Solutions.{inside-of, asked-of, empty-known, counts-none, ready-then, solved-again, solved-now, solved-true, says-true, spent-all}
+use Rattle.sb_prover.proofs.Solutions.{inside-of, asked-of, empty-says, counts-none, ready-then, solved-again, solved-now, solved-true, says-true, spent-all}
 use Rattle.sb_prover.proofs.prover.Prover.solution.Goals as goal
 
 pub searched-requires : goal.searched-requires
@@ -38,7 +38,7 @@ returns-in-Outside g c =
     let old = c.args.decider.now in
     let knows = c.requires.knows in
     record {
-      means = subst (λ (d : Decided). IsDecided old s d) c.in-Outside.is c.requires.decided;
+      means = subst (λ (d : Decided). IsDecided old s d) c.in-Outside.is c.requires.decided [];
       solved = λ proves before backs counted.
           solved-again s before old.store c.args.self.now.evidence solution.Outside (g.L.Tape.told c.args.tape.now)
           backs tt;
@@ -60,14 +60,13 @@ returns-in-Some g c =
     let old = c.args.decider.now in
     let knows = c.requires.knows in
     record {
-      means = (
-        inside-of c.fragment_is_of_each.ensures old s c.args.decided c.requires.decided c.in_default.not-Outside,
-        empty-known c.self.inside.evidence c.args.self.now _ c.in-Some.empty
-            (ap (λ (p : Proving). p.evidence) c.self.view_is) c.in-Some.is c.refuted.ensures.kept,
-      );
+      means = empty-says s
+          (inside-of c.fragment_is_of_each.ensures old s c.args.decided c.requires.decided c.in_default.not-Outside)
+          c.self.inside.evidence c.args.self.now _ c.in-Some.empty c.no_assumptions.result c.no_assumptions.ensures
+          (ap (λ (p : Proving). p.evidence) c.self.view_is) c.in-Some.is c.refuted.ensures.kept;
       solved = λ proves before backs counted.
           solved-again s before old.store c.args.self.now.evidence
-          (solution.Unsat c.in-Some.empty.clause) (g.L.Tape.told c.args.tape.now) backs tt;
+          (solution.Unsat c.in-Some.empty.clause c.no_assumptions.result) (g.L.Tape.told c.args.tape.now) backs tt;
       spent = tt;
       knows = record { inside = knows.inside; taken = knows.taken; words = knows.words; declared = knows.declared };
       store = more_same old.store;
@@ -139,8 +138,8 @@ returns g c =
     record {
       means = says-true mid s
           (inside-of c.fragment_is_of_each.ensures old s c.args.decided c.requires.decided c.in_default.not-Outside)
-          c.requires.terms old.store e f budget c.in_ok-solved.solved c.in_ok-solution.solution t found.solved
-          done.completed;
+          c.requires.terms c.assumptions-given.ensures.assumed.live old.store e f budget c.in_ok-solved.solved
+          c.in_ok-solution.solution t found.solved done.completed;
       solved = λ proves before backs counted.
           let kept = subst (λ (p : Proving). Backs old.store.arena old.store.graph.memo p.evidence before) same backs in
           subst (λ (x : Store). IsSolution s before x f c.in_ok-solution.solution told telling) stays

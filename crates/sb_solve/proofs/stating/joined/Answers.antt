@@ -1,0 +1,5 @@
+use Rattle.sb_solve.proofs.Words.{IfOk-from_err}
+use Rattle.sb_solve.proofs.stating.joined.Goals as goal
+
+pub returns-in_err-extend_from_slice : goal.returns-in_err-extend_from_slice
+returns-in_err-extend_from_slice c = IfOk-from_err c.from_residual.result _ c.from_residual.ensures.0
