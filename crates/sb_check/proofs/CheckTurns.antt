@@ -6,11 +6,12 @@ use Rattle.sb_rulebook.specs.Lines as lines
 use Rattle.sb_rulebook.specs.Refusals.{missing_line}
 use Rattle.sb_rulebook.specs.LineLaws.{is_one_line}
 use Rattle.sb_rulebook.specs.Reading.{LineText, texts_of}
-use Rattle.sb_rulebook.specs.Judging.{Event, asks, Phase, at_rest, at_check, Progress, takes_lines, takes, is_at_check, through, along, along_all, refused, outcome_of, closed}
+use Rattle.sb_rulebook.specs.Judging.{Event, asks, Phase, at_rest, at_check, Progress, is_at_check, refused, outcome_of, closed}
+use Rattle.sb_rulebook.specs.JudgingTexts.{takes_lines, takes, through, along, along_all}
 use Rattle.sb_rulebook.specs.JudgingLaws.{RefusalIsFinal}
 use Rattle.sb_script.specs.Steps.{Leaving}
-use Rattle.sb_rulebook.specs.Accepted.{question_in, event_of_leaving}
-use Rattle.sb_stack.specs.Stacked.{state_of}
+use Rattle.sb_rulebook.specs.Accepted.{event_of_leaving}
+use Rattle.sb_stack.specs.Stacked.{question_of}
 use Rattle.sb_proof.specs.Lines.{said_in}
 use Rattle.sb_proof.specs.declared.line.Said.{Said}
 use Rattle.sb_input.specs.declared.lines.Found.{Found}
@@ -51,7 +52,7 @@ took_said (Some one) j before p h = h.1
 
 taken_true : (said : Option Said) (j new : Judge) (text : List ℕ) (s t : LinesState) (o q : Outside)
     → Advances (Line true) s t o q → text ≡ t.line
-    → ((p : Progress) → IsAt (waiting_in (state_of j.stack)) j p → Took said new p.said (takes (text, true) p))
+    → ((p : Progress) → IsAt (waiting_in j.stack) j p → Took said new p.said (takes (text, true) p))
     → GoesThrough said j new s t o q
 taken_true said j new text s t o q a line took =
     let one : is_one_line text ≡ true = ap is_one_line line ∙ a.leaves.1.0 in
@@ -68,20 +69,20 @@ taken_true said j new text s t o q a line took =
         at = took_at said new p.said (takes (text, true) p) (took p at);
         said_is = took_said said new p.said (takes (text, true) p) (took p at);
         goes = λ more. ap (through p) (line_in_front text more one)
-            ∙ line_due (question_in (state_of j.stack) []) p (text, true) (texts_of more) at.is;
+            ∙ line_due (question_of j.stack) p (text, true) (texts_of more) at.is;
       };
     }
 
 -- no verdict and no other line is taken that no line feed ends
 never_took : (said : Option Said) (j new : Judge) (text : List ℕ) (p : Progress)
-    → IsAt (waiting_in (state_of j.stack)) j p → Took said new p.said (takes (text, false) p) → ⊥
+    → IsAt (waiting_in j.stack) j p → Took said new p.said (takes (text, false) p) → ⊥
 never_took None j new text p at took =
-    never_unended (waiting_in (state_of new.stack)) text p (ap takes_lines at.is) refl took.0.is
+    never_unended (waiting_in new.stack) text p (ap takes_lines at.is) refl took.0.is
 never_took (Some one) j new text p at took = never_unended at_rest text p (ap takes_lines at.is) refl took.0.is
 
 pub turn_taken : (said : Option Said) (found : Found) (ended : Bool) (j new : Judge) (text : List ℕ)
     (s t : LinesState) (o q : Outside) → found ≡ Line ended → Advances found s t o q → text ≡ t.line
-    → ((p : Progress) → IsAt (waiting_in (state_of j.stack)) j p → Took said new p.said (takes (text, ended) p))
+    → ((p : Progress) → IsAt (waiting_in j.stack) j p → Took said new p.said (takes (text, ended) p))
     → GoesThrough said j new s t o q
 turn_taken said found true j new text s t o q is advances line took =
     taken_true said j new text s t o q (subst (λ (f : Found). Advances f s t o q) is advances) line took
@@ -96,7 +97,7 @@ turn_taken said found false j new text s t o q is advances line took =
 
 turn_stops : (f : JudgeFault) (ended : Bool) (j : Judge) (text : List ℕ) (s t : LinesState) (o q : Outside)
     → RefusalIsFinal → Advances (Line ended) s t o q → text ≡ t.line
-    → ((p : Progress) → IsAt (waiting_in (state_of j.stack)) j p → IsRefusal f p (takes (text, ended) p))
+    → ((p : Progress) → IsAt (waiting_in j.stack) j p → IsRefusal f p (takes (text, ended) p))
     → StopsThrough (fault_of_judge f) j s t o q
 turn_stops (judge_fault.Refused n reason) ended j text s t o q final a line refuses = (
   proof_of a.count s t o q a.reads,
@@ -105,14 +106,14 @@ turn_stops (judge_fault.Refused n reason) ended j text s t o q final a line refu
       let rest = texts_of (t.kept ++ drop a.count left) in
       ap (λ (texts : List LineText). outcome_of (closed (goes_through p texts es)))
       ((a.finds left l).1.0 ∙ ap (λ (x : List ℕ). (x, ended) ∷ rest) (sym line))
-      ∙ refused_at_check (question_in (state_of j.stack) []) (reason_in reason) p (text, ended) rest es final at.is
+      ∙ refused_at_check (question_of j.stack) (reason_in reason) p (text, ended) rest es final at.is
       why.1 ∙ ap (λ (m : ℕ). refused p.said m (reason_in reason)) (sym why.0),
 )
 turn_stops judge_fault.NoMemory ended j text s t o q final a line refuses = proof_of a.count s t o q a.reads
 
 take_stops : (f : TakeFault) (ended : Bool) (j : Judge) (text : List ℕ) (s t : LinesState) (o q : Outside)
     → RefusalIsFinal → Advances (Line ended) s t o q → text ≡ t.line
-    → ((p : Progress) → IsAt (waiting_in (state_of j.stack)) j p → IsNotTaken f p (takes (text, ended) p))
+    → ((p : Progress) → IsAt (waiting_in j.stack) j p → IsNotTaken f p (takes (text, ended) p))
     → StopsThrough (fault_of_take f) j s t o q
 take_stops (take_fault.Judged f) ended j text s t o q final a line refuses =
     turn_stops f ended j text s t o q final a line refuses
@@ -121,7 +122,7 @@ take_stops take_fault.PastNumbers ended j text s t o q final a line refuses = pr
 pub turn_refused : {T : Type 0} (r : Result T CheckerFault) (e : CheckerFault) (f : TakeFault) (found : Found)
     (ended : Bool) (j : Judge) (text : List ℕ) (s t : LinesState) (o q : Outside) → r ≡ Err e → e ≡ fault_of_take f
     → RefusalIsFinal → found ≡ Line ended → Advances found s t o q → text ≡ t.line
-    → ((p : Progress) → IsAt (waiting_in (state_of j.stack)) j p → IsNotTaken f p (takes (text, ended) p))
+    → ((p : Progress) → IsAt (waiting_in j.stack) j p → IsNotTaken f p (takes (text, ended) p))
     → IfErr r (λ fault. StopsThrough fault j s t o q)
 turn_refused r e f found ended j text s t o q err same final is advances line refuses = rw (err, same)
     (take_stops f ended j text s t o q final (subst (λ (f : Found). Advances f s t o q) is advances) line refuses)
@@ -134,14 +135,14 @@ turn_ended e found j s t o q missing is advances =
       proof_of a.count s t o q a.reads,
       λ p left at l es.
           ap (λ (bytes : List ℕ). outcome_of (closed (goes_through p (texts_of bytes) es))) (a.finds left l).1.0
-          ∙ missing_at_check (question_in (state_of j.stack) []) p es at.is
+          ∙ missing_at_check (question_of j.stack) p es at.is
           ∙ ap (λ (n : ℕ). refused p.said n missing_line) at.next,
     )
 
 pub turn_limit : (found : Found) (j : Judge) (s t : LinesState) (o q : Outside) → found ≡ Limit
     → Advances found s t o q → StopsThrough fault.Limit j s t o q
 turn_limit found j s t o q is advances =
-    limit_met WaitsThrough (waiting_in (state_of j.stack)) found j s t o q is advances
+    limit_met WaitsThrough (waiting_in j.stack) found j s t o q is advances
     (λ p at. (refl, ap is_at_check at))
 
 cut_by : (f : LinesFault) (j : Judge) (s t : LinesState) (o q : Outside) → IsCutShort s t o q
@@ -316,13 +317,13 @@ entry_left old new s o es what one comes = record {
 }
 
 pub entry_said : (said : Said) (old mid new : Judge) (s t : LinesState) (o q : Outside) (es : List Event)
-    → es ≡ asks (question_in (state_of mid.stack) []) ∷ [] → mid ≡ record old { stack = mid.stack }
+    → es ≡ asks (question_of mid.stack) ∷ [] → mid ≡ record old { stack = mid.stack }
     → GoesThrough (Some said) mid new s t o q → Goes (said_in said ∷ []) es old new s t o q
 entry_said said old mid new s t o q es one same goes = record {
   count = goes.count;
   reads = goes.reads;
   came = λ p left at l.
-      let question = question_in (state_of mid.stack) [] in
+      let question = question_of mid.stack in
       let leaves = goes.leaves left l in
       let x = goes.came (record p { phase = at_check question }) left
       (at_entered (at_check question) old mid p same at) l in
@@ -342,12 +343,12 @@ entry_said said old mid new s t o q es one same goes = record {
 }
 
 entry_fails : (f : CheckerFault) (old mid : Judge) (s t : LinesState) (o q : Outside) (es : List Event)
-    → es ≡ asks (question_in (state_of mid.stack) []) ∷ [] → mid ≡ record old { stack = mid.stack }
+    → es ≡ asks (question_of mid.stack) ∷ [] → mid ≡ record old { stack = mid.stack }
     → StopsThrough f mid s t o q → Fails f (IsRefusedAlong es) (WaitsAlong es) old s t o q
 entry_fails (fault.Refused n reason) old mid s t o q es one same h = (
   h.0,
   λ p left at l fs.
-      let question = question_in (state_of mid.stack) [] in
+      let question = question_of mid.stack in
       let texts = texts_of (s.kept ++ left) in
       ap (λ (events : List Event). outcome_of (closed (along_all p (events ++ fs) texts))) one
       ∙ ap (λ (after : Progress). outcome_of (closed after)) (check_due question p fs texts at.is)
@@ -359,7 +360,7 @@ entry_fails fault.Limit old mid s t o q es one same h = record {
   at_limit = h.at_limit;
   part = h.part;
   came = λ p left at l.
-      let question = question_in (state_of mid.stack) [] in
+      let question = question_of mid.stack in
       let y = h.came (record p { phase = at_check question }) left (at_entered (at_check question) old mid p same at) l
       in
       record {
@@ -382,7 +383,7 @@ entry_fails fault.PastNumbers old mid s t o q es one same h = h
 
 pub entry_stops : {T : Type 0} (r : Result T CheckerFault) (e f : CheckerFault) (old mid : Judge) (s t : LinesState)
     (o q : Outside) (es : List Event) → r ≡ Err e → e ≡ f
-    → es ≡ asks (question_in (state_of mid.stack) []) ∷ [] → mid ≡ record old { stack = mid.stack }
+    → es ≡ asks (question_of mid.stack) ∷ [] → mid ≡ record old { stack = mid.stack }
     → StopsThrough f mid s t o q → IfErr r (λ fault. Fails fault (IsRefusedAlong es) (WaitsAlong es) old s t o q)
 entry_stops r e f old mid s t o q es err same one kept h =
     rw (err, same) (entry_fails f old mid s t o q es one kept h)

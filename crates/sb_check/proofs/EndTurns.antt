@@ -5,7 +5,8 @@ use Rattle.sb_rulebook.specs.Lines as lines
 use Rattle.sb_rulebook.specs.Refusals.{missing_line}
 use Rattle.sb_rulebook.specs.LineLaws.{is_one_line}
 use Rattle.sb_rulebook.specs.Reading.{LineText, texts_of}
-use Rattle.sb_rulebook.specs.Judging.{Phase, at_rest, at_end, behind_end, Progress, takes_lines, takes, takes_all, accepted, refused, outcome_of, closed}
+use Rattle.sb_rulebook.specs.Judging.{Phase, at_rest, at_end, behind_end, Progress, accepted, refused, outcome_of, closed}
+use Rattle.sb_rulebook.specs.JudgingTexts.{takes_lines, takes, takes_all}
 use Rattle.sb_input.specs.declared.lines.Found.{Found}
 use Rattle.sb_input.specs.declared.lines.Found.TheVariants.{Line, End, Limit}
 use Rattle.sb_input.specs.declared.lines.LinesFault.{LinesFault}

@@ -18,8 +18,8 @@ use Rattle.sb_models.specs.Knowing.{Knows}
 use Rattle.sb_models.specs.Laws.{ModelsStay, LeavesKnown}
 use Rattle.sb_stack.specs.declared.stack.Step.{Step}
 use Rattle.sb_stack.specs.declared.stack.Step.TheVariants as code
-use Rattle.sb_stack.specs.Stacked.{Stacked, IsLonger}
-use Rattle.sb_stack.specs.Steps.{IsStep, IsMoved, leaving_in}
+use Rattle.sb_stack.specs.Stacked.{Stacked, state_of, given_in, IsLonger}
+use Rattle.sb_stack.specs.Steps.{IsStep, IsUnder, IsMoved, leaving_in}
 use Rattle.sb_check.specs.declared.entry.Entered.{Entered}
 use Rattle.sb_check.specs.declared.entry.Entered.TheVariants as entered
 use Rattle.sb_check.specs.declared.judge.Judge.{Judge}
@@ -37,30 +37,28 @@ entered_by (code.Exit text) = entered.Ends
 abbrev pub MovesBy : Step → Stacked → Stacked → Type 0
 MovesBy step old new = IsMoved {E = AllocError} (Ok step) old.assertions new.assertions
 
-pub enters : (is : meaning.Step) (step : Step) (old new : State) → IsStep is step old new
-    → Enters (entered_by step) is old new
-enters (meaning.answers bytes s) (code.Answer text) old new h = (refl, ap (λ n. Some n) (sym h.1))
-enters (meaning.answers bytes s) (code.Left text level) old new h = absurd h
-enters (meaning.answers bytes s) code.Check old new h = absurd h
-enters (meaning.answers bytes s) (code.Exit text) old new h = absurd h
-enters (meaning.leaves what bytes s) (code.Answer text) old new h = absurd h
-enters (meaning.leaves what bytes s) (code.Left text level) old new h =
+pub enters : (is : meaning.Step) (step : Step) (old : State) (new : Stacked) → IsStep is step old (state_of new)
+    → IsUnder is step (given_in new) → Enters (entered_by step) is old new
+enters (meaning.answers bytes s) (code.Answer text) old new h under = (refl, ap (λ n. Some n) (sym h.1))
+enters (meaning.answers bytes s) (code.Left text level) old new h under = absurd h
+enters (meaning.answers bytes s) code.Check old new h under = absurd h
+enters (meaning.answers bytes s) (code.Exit text) old new h under = absurd h
+enters (meaning.leaves what bytes s) (code.Answer text) old new h under = absurd h
+enters (meaning.leaves what bytes s) (code.Left text level) old new h under =
     (what, (refl, ap (λ t. Some t) (sym h.1.1)))
-enters (meaning.leaves what bytes s) code.Check old new h = absurd h
-enters (meaning.leaves what bytes s) (code.Exit text) old new h = absurd h
-enters (meaning.checks []) (code.Answer text) old new h = absurd h
-enters (meaning.checks []) (code.Left text level) old new h = absurd h
-enters (meaning.checks []) code.Check old new h =
-    (ap (λ s. asks (question_in s []) ∷ []) (sym h), ap (λ s. Some s) (sym h))
-enters (meaning.checks []) (code.Exit text) old new h = absurd h
-enters (meaning.checks (a ∷ more)) (code.Answer text) old new h = absurd h
-enters (meaning.checks (a ∷ more)) (code.Left text level) old new h = absurd h
-enters (meaning.checks (a ∷ more)) code.Check old new h = absurd h
-enters (meaning.checks (a ∷ more)) (code.Exit text) old new h = absurd h
-enters (meaning.exits bytes) (code.Answer text) old new h = absurd h
-enters (meaning.exits bytes) (code.Left text level) old new h = absurd h
-enters (meaning.exits bytes) code.Check old new h = absurd h
-enters (meaning.exits bytes) (code.Exit text) old new h = (refl, refl)
+enters (meaning.leaves what bytes s) code.Check old new h under = absurd h
+enters (meaning.leaves what bytes s) (code.Exit text) old new h under = absurd h
+enters (meaning.checks given) (code.Answer text) old new h under = absurd h
+enters (meaning.checks given) (code.Left text level) old new h under = absurd h
+enters (meaning.checks given) code.Check old new h under = (
+  ap (λ step. events_of step old) under ∙ ap (λ s. asks (question_in s (given_in new)) ∷ []) (sym h),
+  ap (λ s. Some s) (sym h),
+)
+enters (meaning.checks given) (code.Exit text) old new h under = absurd h
+enters (meaning.exits bytes) (code.Answer text) old new h under = absurd h
+enters (meaning.exits bytes) (code.Left text level) old new h under = absurd h
+enters (meaning.exits bytes) code.Check old new h under = absurd h
+enters (meaning.exits bytes) (code.Exit text) old new h under = (refl, refl)
 
 -- Levels were left.
 
@@ -77,8 +75,7 @@ left_by : (is : meaning.Step) (text : Vec ℕ Global) (level : Option ℕ) (old 
     → IsStep is (code.Left text level) old new → events_of is old ≡ event_of_leaving (leaving_in level) ∷ []
 left_by (meaning.answers bytes s) text level old new h = absurd h
 left_by (meaning.leaves what bytes s) text level old new h = ap (λ l. event_of_leaving l ∷ []) h.1.0
-left_by (meaning.checks []) text level old new h = absurd h
-left_by (meaning.checks (a ∷ more)) text level old new h = absurd h
+left_by (meaning.checks given) text level old new h = absurd h
 left_by (meaning.exits bytes) text level old new h = absurd h
 
 met_leaving : (level : Option ℕ) (p : Progress)

@@ -5,7 +5,8 @@ use Rattle.sb_world.specs.Outside.{Outside}
 use Rattle.sb_reader.specs.Entries.{Entry}
 use Rattle.sb_script.specs.State.{State, start}
 use Rattle.sb_rulebook.specs.Reading.{texts_of}
-use Rattle.sb_rulebook.specs.Judging.{Event, at_rest, Progress, beginning, along_all, outcome_of, closed, judged}
+use Rattle.sb_rulebook.specs.Judging.{Event, at_rest, Progress, beginning, outcome_of, closed}
+use Rattle.sb_rulebook.specs.JudgingTexts.{along_all, judged}
 use Rattle.sb_rulebook.specs.Accepted.{events, verdict_lines}
 use Rattle.sb_input.specs.TakingLines as lines
 use Rattle.sb_check.specs.declared.checker.CheckerFault.{CheckerFault}

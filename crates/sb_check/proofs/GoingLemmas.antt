@@ -9,7 +9,8 @@ use Rattle.sb_script.specs.State.{State, start}
 use Rattle.sb_script.specs.Replies.{step_of}
 use Rattle.sb_rulebook.specs.Lines.{Said}
 use Rattle.sb_rulebook.specs.Reading.{LineText, texts_of}
-use Rattle.sb_rulebook.specs.Judging.{Event, Progress, beginning, along, along_all}
+use Rattle.sb_rulebook.specs.Judging.{Event, Progress, beginning}
+use Rattle.sb_rulebook.specs.JudgingTexts.{along, along_all}
 use Rattle.sb_rulebook.specs.Accepted.{events_of, state_behind, events, verdict_lines}
 use Rattle.sb_stack.specs.Stacked.{state_of}
 use Rattle.sb_input.specs.TakingLines as lines

@@ -1,5 +1,6 @@
 mod Asking
 mod CheckTurns
+mod Denials
 mod EndTurns
 mod Entering
 mod EntryFacts

@@ -7,7 +7,8 @@ use Rattle.sb_reader.proofs.CallerLemmas.{beginning_stays}
 use Rattle.sb_script.specs.State.{State, start}
 use Rattle.sb_rulebook.specs.Lines.{Said}
 use Rattle.sb_rulebook.specs.Reading.{LineText, texts_of}
-use Rattle.sb_rulebook.specs.Judging.{Event, ends, Progress, beginning, meets, takes_all, through, along, along_all}
+use Rattle.sb_rulebook.specs.Judging.{Event, ends, Progress, beginning, meets}
+use Rattle.sb_rulebook.specs.JudgingTexts.{takes_all, through, along, along_all}
 use Rattle.sb_rulebook.specs.JudgingLaws.{EventsAreMetInOrder, ProofGoesAlongInOrder}
 use Rattle.sb_rulebook.specs.Accepted.{events}
 use Rattle.sb_input.specs.TakingLines.{LinesState}

@@ -12,7 +12,8 @@ use Rattle.sb_script.specs.State.{State, start}
 use Rattle.sb_rulebook.specs.Lines.{Said}
 use Rattle.sb_rulebook.specs.Reading.{LineText, texts_of}
 use Rattle.sb_rulebook.specs.Judging as judging
-use Rattle.sb_rulebook.specs.Judging.{Event, at_rest, Progress, beginning, along, along_all, outcome_of, closed}
+use Rattle.sb_rulebook.specs.Judging.{Event, at_rest, Progress, beginning, outcome_of, closed}
+use Rattle.sb_rulebook.specs.JudgingTexts.{along, along_all}
 use Rattle.sb_rulebook.specs.Accepted.{events, verdict_lines}
 use Rattle.sb_stack.specs.Stacked.{state_of}
 use Rattle.sb_input.specs.TakingLines as lines

@@ -1,11 +1,10 @@
 -- A line that is taken, as a step of the proof.
-use Rattle.std.proofs.Common.{◌≡◌, ℕ, ◌+◌, Bool, true, false, if◌then◌else◌, List, [], Option, Some, None, option_map, Result, Ok, Err, IfErr, refl, ap, sym, subst, ◌∙◌}
+use Rattle.std.proofs.Common.{◌≡◌, ℕ, ◌+◌, Bool, true, false, if◌then◌else◌, List, Option, Some, None, option_map, Result, Ok, Err, IfErr, refl, ap, sym, subst, ◌∙◌}
 use Rattle.sb_proof.specs.Lines.{line_in}
 use Rattle.sb_proof.specs.declared.line.Line.TheVariants as code
 use Rattle.sb_proof.specs.declared.line.Line as declared
 use Rattle.sb_proof.specs.declared.line.Said.{Said}
-use Rattle.sb_script.specs.State.{State}
-use Rattle.sb_stack.specs.Stacked.{state_of}
+use Rattle.sb_stack.specs.Stacked.{Stacked, state_of, question_of}
 use Rattle.sb_rulebook.specs.Kept.{AllKept, Asked}
 use Rattle.sb_rulebook.specs.Lines.{Line}
 use Rattle.sb_rulebook.specs.Refusals as rules
@@ -13,7 +12,7 @@ use Rattle.sb_rulebook.specs.Follows.{follows}
 use Rattle.sb_rulebook.specs.Lines as lines
 use Rattle.sb_rulebook.specs.Verdicts.{Question, refusal_of}
 use Rattle.sb_rulebook.specs.Judging.{Phase, at_rest, at_check, at_end, Progress, stop, takes_kept, takes_verdict, takes_first, takes_last, takes_at_check, takes_in}
-use Rattle.sb_rulebook.specs.Accepted.{asked_in, question_in}
+use Rattle.sb_rulebook.specs.Accepted.{asked_in}
 use Rattle.sb_rules.specs.declared.kept.Kept.{Kept}
 use Rattle.sb_rules.specs.Kept.{kept_in}
 use Rattle.sb_check.specs.declared.judge.Judge.{Judge}
@@ -139,30 +138,30 @@ kept_said : (r : Result AllKept rules.Refusal) (p : Progress) → (takes_kept r 
 kept_said (Ok kept) p = refl
 kept_said (Err refusal) p = refl
 
-kept_due : (s : State) (j : Judge) (l : declared.Line) (p : Progress) → is_no_verdict l → j.begun ≡ true
+kept_due : (s : Stacked) (j : Judge) (l : declared.Line) (p : Progress) → is_no_verdict l → j.begun ≡ true
     → IsAt (waiting_in s) j p
-    → takes_in p.phase (line_in l) p ≡ takes_kept (follows (asked_in s) p.kept (line_in l)) p
-kept_due s j l p none begun a = line_due (question_in s []) (line_in l) p a.is (a.begun ∙ begun)
-    ∙ kept_line l none (question_in s []) p
+    → takes_in p.phase (line_in l) p ≡ takes_kept (follows (asked_in (state_of s)) p.kept (line_in l)) p
+kept_due s j l p none begun a = line_due (question_of s) (line_in l) p a.is (a.begun ∙ begun)
+    ∙ kept_line l none (question_of s) p
 
-pub other_refused : (r : Result Bool JudgeFault) (e f : JudgeFault) (s : State) (j : Judge) (l : declared.Line) → r ≡ Err e
-    → e ≡ f → j.begun ≡ true → ((said : Said) → l ≡ code.Verdict said → ⊥)
+pub other_refused : (r : Result Bool JudgeFault) (e f : JudgeFault) (s : Stacked) (j : Judge) (l : declared.Line)
+    → r ≡ Err e → e ≡ f → j.begun ≡ true → ((said : Said) → l ≡ code.Verdict said → ⊥)
     → ((p : Progress) → IsAt (waiting_in s) j p
-    → IsRefusal f p (takes_kept (follows (asked_in s) p.kept (line_in l)) p))
+    → IsRefusal f p (takes_kept (follows (asked_in (state_of s)) p.kept (line_in l)) p))
     → IfErr r (λ fault. (p : Progress) → IsAt (waiting_in s) j p → IsRefusal fault p (takes_in p.phase (line_in l) p))
 other_refused r e f s j l is same begun none h = rw (is, same) (λ p a.
     subst (λ after. IsRefusal f p after) (sym (kept_due s j l p none begun a)) (h p a))
 
-pub other_taken : (s : State) (j new : Judge) (l : declared.Line) → new.stack ≡ j.stack → s ≡ state_of j.stack
+pub other_taken : (s : Stacked) (j new : Judge) (l : declared.Line) → new.stack ≡ j.stack → s ≡ j.stack
     → j.begun ≡ true → ((said : Said) → l ≡ code.Verdict said → ⊥)
     → ((p : Progress) → IsAt (waiting_in s) j p
-    → IsAt (waiting_in s) new (takes_kept (follows (asked_in s) p.kept (line_in l)) p))
+    → IsAt (waiting_in s) new (takes_kept (follows (asked_in (state_of s)) p.kept (line_in l)) p))
     → (p : Progress) → IsAt (waiting_in s) j p
     → Took None new p.said (takes_in p.phase (line_in l) p)
 other_taken s j new l stack is begun none h p a =
     let due = kept_due s j l p none begun a in (
-      subst (λ x. IsAt (waiting_in (state_of x)) new (takes_in p.phase (line_in l) p)) (sym stack)
+      subst (λ x. IsAt (waiting_in x) new (takes_in p.phase (line_in l) p)) (sym stack)
           (subst (λ x. IsAt (waiting_in x) new (takes_in p.phase (line_in l) p)) is
           (subst (λ after. IsAt (waiting_in s) new after) (sym due) (h p a))),
-      ap (λ (after : Progress). after.said) due ∙ kept_said (follows (asked_in s) p.kept (line_in l)) p,
+      ap (λ (after : Progress). after.said) due ∙ kept_said (follows (asked_in (state_of s)) p.kept (line_in l)) p,
     )

@@ -5,7 +5,8 @@ use Rattle.sb_rulebook.specs.Refusals.{Refusal, unended, missing_line}
 use Rattle.sb_rulebook.specs.Lines.{Line}
 use Rattle.sb_rulebook.specs.Reading.{LineText, line_of, if_ended, read}
 use Rattle.sb_rulebook.specs.Verdicts.{Question}
-use Rattle.sb_rulebook.specs.Judging.{Event, asks, ends, Phase, at_rest, at_check, at_end, behind_end, stopped, Progress, met, meets, stop, takes_lines, takes_read, takes, takes_all, is_at_check, through, along, along_all, accepted, refused, outcome_in, outcome_of, closed, closed_in}
+use Rattle.sb_rulebook.specs.Judging.{Event, asks, ends, Phase, at_rest, at_check, at_end, behind_end, stopped, Progress, met, meets, stop, is_at_check, accepted, refused, outcome_in, outcome_of, closed, closed_in}
+use Rattle.sb_rulebook.specs.JudgingTexts.{takes_lines, takes_read, takes, takes_all, through, along, along_all}
 use Rattle.sb_rulebook.specs.JudgingLaws.{RefusalIsFinal}
 use Rattle.sb_script.specs.Steps.{Leaving, above, all}
 use Rattle.sb_rulebook.specs.Accepted.{event_of_leaving}

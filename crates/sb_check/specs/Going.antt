@@ -16,7 +16,8 @@ use Rattle.sb_rulebook.specs.Refusals.{Refusal}
 use Rattle.sb_rulebook.specs.Lines as lines
 use Rattle.sb_rulebook.specs.LineLaws.{is_one_line}
 use Rattle.sb_rulebook.specs.Reading.{LineText, texts_of}
-use Rattle.sb_rulebook.specs.Judging.{Event, Phase, at_rest, Progress, is_at_check, along, along_all, accepted, refused, outcome_of, closed}
+use Rattle.sb_rulebook.specs.Judging.{Event, Phase, at_rest, Progress, is_at_check, accepted, refused, outcome_of, closed}
+use Rattle.sb_rulebook.specs.JudgingTexts.{along, along_all}
 use Rattle.sb_proof.specs.Lines.{said_in}
 use Rattle.sb_sound.specs.Certified.{AreWholeLines}
 use Rattle.sb_input.specs.TakingLines.{LinesState, ReadsOn, IsLeft}

@@ -1,3 +1,4 @@
+pub mod Denying
 pub mod Entering
 pub mod Going
 pub mod Reasons

@@ -13,7 +13,8 @@ use Rattle.sb_rulebook.specs.LineLaws.{is_one_line}
 use Rattle.sb_rulebook.specs.Reading.{LineText, texts_of}
 use Rattle.sb_rulebook.specs.Refusals.{Refusal}
 use Rattle.sb_rulebook.specs.Lines.{Said}
-use Rattle.sb_rulebook.specs.Judging.{Phase, at_rest, at_check, at_end, behind_end, stopped, Progress, beginning, is_at_check, along, along_all, Outcome, accepted, refused, goes_on, judged}
+use Rattle.sb_rulebook.specs.Judging.{Phase, at_rest, at_check, at_end, behind_end, stopped, Progress, beginning, is_at_check, Outcome, accepted, refused, goes_on}
+use Rattle.sb_rulebook.specs.JudgingTexts.{along, along_all, judged}
 use Rattle.sb_rulebook.specs.Accepted.{answer, events}
 use Rattle.sb_sound.specs.Certified.{AreWholeLines}
 use Rattle.sb_sound.specs.TruthLaws.{AreTrue}

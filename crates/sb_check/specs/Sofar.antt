@@ -7,7 +7,8 @@ use Rattle.sb_reader.specs.Feeding.{ShortensTo}
 use Rattle.sb_script.specs.State.{State, start}
 use Rattle.sb_rulebook.specs.Lines.{Said}
 use Rattle.sb_rulebook.specs.Reading.{texts_of}
-use Rattle.sb_rulebook.specs.Judging.{at_rest, Progress, beginning, along, accepted, refused}
+use Rattle.sb_rulebook.specs.Judging.{at_rest, Progress, beginning, accepted, refused}
+use Rattle.sb_rulebook.specs.JudgingTexts.{along}
 use Rattle.sb_rulebook.specs.Accepted.{events, verdict_lines}
 use Rattle.sb_stack.specs.Stacked.{state_of}
 use Rattle.sb_input.specs.TakingEntries as entries

@@ -1,7 +1,5 @@
 -- How far a proof has come along a script, as far as the judge knows.
 use Rattle.std.specs.Prelude.{◌≡◌, ◌^◌, ◌-◌, ℕ, Bool, true, false, List, [], ◌∷◌, ◌++◌, Option, Some, None}
-use Rattle.sb_lit.specs.declared.clause.Lit.{Lit}
-use Rattle.sb_script.specs.State.{State}
 use Rattle.sb_proof.specs.declared.line.Line.{Line}
 use Rattle.sb_proof.specs.declared.line.Line.TheVariants as code
 use Rattle.sb_proof.specs.declared.line.Said.{Said}
@@ -9,8 +7,7 @@ use Rattle.sb_proof.specs.Lines.{said_in}
 use Rattle.sb_rulebook.specs.Kept.{AllKept, nothing_kept}
 use Rattle.sb_rulebook.specs.Lines as lines
 use Rattle.sb_rulebook.specs.Judging.{Phase, at_rest, at_check, at_end, behind_end, Progress, stop}
-use Rattle.sb_rulebook.specs.Accepted.{question_in}
-use Rattle.sb_stack.specs.Stacked.{state_of}
+use Rattle.sb_stack.specs.Stacked.{Stacked, question_of}
 use Rattle.sb_models.specs.Knowing.{Knows}
 use Rattle.sb_rules.specs.Kept.{IsOver, kept_in}
 use Rattle.sb_check.specs.declared.judge.Judge.{Judge}
@@ -35,9 +32,9 @@ pub record IsAt (phase : Phase) (j : Judge) (p : Progress) : Type 0 where
   pub format : others.format ≡ 1
   pub kept : p.kept ≡ kept_in j.kept others
 
--- where a check of the state waits
-abbrev pub waiting_in : State → Phase
-waiting_in s = at_check (question_in s [])
+-- where a check waits, under the assumptions of the stack
+abbrev pub waiting_in : Stacked → Phase
+waiting_in stack = at_check (question_of stack)
 
 -- the verdict that the line says, where this is true
 abbrev pub said_when : Bool → Line → Option Said
@@ -47,7 +44,7 @@ said_when true _ = None
 
 -- A line was taken: the check waits on, or it has its verdict.
 abbrev pub Took : Option Said → Judge → List lines.Said → Progress → Type 0
-Took None j said p = IsAt (waiting_in (state_of j.stack)) j p × (p.said ≡ said)
+Took None j said p = IsAt (waiting_in j.stack) j p × (p.said ≡ said)
 Took (Some one) j said p = IsAt at_rest j p × (p.said ≡ said ++ said_in one ∷ [])
 
 -- the phase behind a line where the end of the proof is due
@@ -78,8 +75,3 @@ pub record IsSame (old new : Judge) : Type 0 where
   pub stack : new.stack ≡ old.stack
   pub begun : new.begun ≡ old.begun
   pub next : new.next ≡ old.next
-
--- the clause has no literals
-abbrev pub is_bare : List Lit → Bool
-is_bare [] = true
-is_bare (l ∷ ls) = false

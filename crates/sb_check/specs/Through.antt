@@ -3,8 +3,8 @@ use Rattle.std.specs.Prelude.{◌≡◌, ℕ, ◌<◌, ◌≤◌, Bool, true, Li
 use Rattle.sb_world.specs.Outside.{Outside}
 use Rattle.sb_rulebook.specs.Lines as lines
 use Rattle.sb_rulebook.specs.Reading.{LineText, texts_of}
-use Rattle.sb_rulebook.specs.Judging.{Event, Phase, at_rest, at_end, Progress, takes_all, is_at_check, through, along_all, refused, outcome_of, closed}
-use Rattle.sb_stack.specs.Stacked.{state_of}
+use Rattle.sb_rulebook.specs.Judging.{Event, Phase, at_rest, at_end, Progress, is_at_check, refused, outcome_of, closed}
+use Rattle.sb_rulebook.specs.JudgingTexts.{takes_all, through, along_all}
 use Rattle.sb_proof.specs.Lines.{said_in}
 use Rattle.sb_proof.specs.declared.line.Said.{Said}
 use Rattle.sb_sound.specs.Certified.{AreWholeLines}
@@ -23,7 +23,7 @@ goes_through p texts es = let r = through p texts in along_all r.0 es r.1
 
 -- the check waits on, or it has its verdict
 abbrev pub phase_behind : Option Said → Judge → Phase
-phase_behind None j = waiting_in (state_of j.stack)
+phase_behind None j = waiting_in j.stack
 phase_behind (Some said) j = at_rest
 
 abbrev pub verdicts_of : Option Said → List lines.Said
@@ -55,7 +55,7 @@ pub record GoesThrough (said : Option Said) (old new : Judge) (lines lines' : Li
     pub count : ℕ
     pub reads : Reads count lines lines' before after
     pub leaves : Leaves count lines lines' before after
-    pub came : (p : Progress) (left : List ℕ) → IsAt (waiting_in (state_of old.stack)) old p → IsLeft lines before left
+    pub came : (p : Progress) (left : List ℕ) → IsAt (waiting_in old.stack) old p → IsLeft lines before left
         → CameThrough count said lines lines' left p new
 
 -- all lines are taken, and the check waits for more
@@ -65,11 +65,11 @@ WaitsThrough p texts q = (through p texts ≡ (q, [])) × (is_at_check q.phase �
 -- why they were not
 abbrev pub StopsThrough : CheckerFault → Judge → LinesState → LinesState → Outside → Outside → Type 0
 StopsThrough (fault.Refused n reason) old lines lines' before after = ReadsProof lines before after
-    × ((p : Progress) (left : List ℕ) → IsAt (waiting_in (state_of old.stack)) old p → IsLeft lines before left
+    × ((p : Progress) (left : List ℕ) → IsAt (waiting_in old.stack) old p → IsLeft lines before left
     → (es : List Event) → outcome_of (closed (goes_through p (texts_of (lines.kept ++ left)) es))
     ≡ refused p.said n (reason_in reason))
 StopsThrough fault.Limit old lines lines' before after =
-    IsPast WaitsThrough (waiting_in (state_of old.stack)) old lines lines' before after
+    IsPast WaitsThrough (waiting_in old.stack) old lines lines' before after
 StopsThrough fault.Fault old lines lines' before after = ReadsProof lines before after
 StopsThrough fault.NoMemory old lines lines' before after = ReadsProof lines before after
 StopsThrough fault.PastNumbers old lines lines' before after = ReadsProof lines before after

@@ -26,7 +26,7 @@ pub enum Entered {
     Goes,
     /// Levels were left, and the next entry may come.
     Left,
-    /// A check waits for the lines of the proof.
+    /// A check waits for the lines of the proof, under the assumptions of the stack.
     Waits,
     /// The script ends with it.
     Ends,
@@ -40,7 +40,7 @@ impl Judge {
         requires entry { IsEntry entry.now }
         requires standing { IsStanding self.old }
         ensures ok { IfOk result (λ entered. Enters entered (step_of (entry_of entry.now) (state_of self.old.stack))
-            (state_of self.old.stack) (state_of self.new.stack)) }
+            (state_of self.old.stack) self.new.stack) }
         ensures kept { IfOk result (λ entered. Keeps entered
             (events_of (step_of (entry_of entry.now) (state_of self.old.stack)) (state_of self.old.stack))
             self.old self.new) }

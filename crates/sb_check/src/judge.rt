@@ -1,22 +1,23 @@
 //! Lines where a check waits.
 
-ghost use Rattle.std.specs.Prelude.{◌≡◌, ◌&&◌, ◌==◌, ◌+◌, ◌-◌, ◌^◌, ◌<◌, [], false, true, None, map, option_map, IfOk, IfErr, OnOk};
+ghost use Rattle.std.specs.Prelude.{◌≡◌, ◌&&◌, ◌==◌, ◌+◌, ◌-◌, ◌^◌, ◌<◌, false, true, None, map, option_map, IfOk, IfErr, OnOk};
 ghost use Rattle.sb_script.specs.State.{start};
 ghost use Rattle.sb_script.specs.Fragment.{in_fragment};
 ghost use Rattle.sb_rulebook.specs.Kept.{AllKept};
 ghost use Rattle.sb_rulebook.specs.Lines.{header_line, said_sat, said_unsat};
 ghost use Rattle.sb_rulebook.specs.Follows.{follows};
 ghost use Rattle.sb_rulebook.specs.Verdicts.{refusal_of, unless_wrong};
-ghost use Rattle.sb_rulebook.specs.Judging.{Phase, Progress, beginning, at_rest, at_end, behind_end, takes, takes_last, takes_in, takes_first, takes_kept, takes_verdict};
-ghost use Rattle.sb_rulebook.specs.Accepted.{asked_in, question_in};
+ghost use Rattle.sb_rulebook.specs.Judging.{Phase, Progress, beginning, at_rest, at_end, behind_end, takes_last, takes_in, takes_first, takes_kept, takes_verdict};
+ghost use Rattle.sb_rulebook.specs.JudgingTexts.{takes};
+ghost use Rattle.sb_rulebook.specs.Accepted.{asked_in};
 ghost use Rattle.sb_proof.specs.Lines.{line_in, said_in, value_in};
-ghost use Rattle.sb_stack.specs.Stacked.{state_of};
+ghost use Rattle.sb_stack.specs.Stacked.{state_of, question_of};
 ghost use Rattle.sb_rules.specs.Kept.{kept_in};
 ghost use Rattle.sb_check.specs.Reasons.{reason_in};
-ghost use Rattle.sb_check.specs.Standing.{IsStanding, IsAt, IsSame, IsAtLast, IsNotTaken, IsRefusal, Took, TookLast, said_when, is_bare, waiting_in};
+ghost use Rattle.sb_check.specs.Standing.{IsStanding, IsAt, IsSame, IsAtLast, IsNotTaken, IsRefusal, Took, TookLast, said_when, waiting_in};
 
+use crate::denial::refutes;
 use crate::reason::{JudgeFault, Reason, TakeFault, of_refusal, of_text};
-use sb_lit::Lit;
 use sb_models::Models;
 use sb_plain::right_stays;
 use sb_problem::normals_stay;
@@ -60,9 +61,9 @@ impl Judge {
     /// that of the line's kind. After an error nothing more may be judged.
     pub fn take(&mut self, text: &[u8], ended: bool) -> Result<Option<Said>, TakeFault>
         requires { IsStanding self.old }
-        ensures ok { IfOk result (λ said. (p : Progress) → IsAt (waiting_in (state_of self.old.stack)) self.old p
+        ensures ok { IfOk result (λ said. (p : Progress) → IsAt (waiting_in self.old.stack) self.old p
             → Took said self.new p.said (takes (text.now, ended) p)) }
-        ensures err { IfErr result (λ fault. (p : Progress) → IsAt (waiting_in (state_of self.old.stack)) self.old p
+        ensures err { IfErr result (λ fault. (p : Progress) → IsAt (waiting_in self.old.stack) self.old p
             → IsNotTaken fault p (takes (text.now, ended) p)) }
         ensures numbers { IfErr result (λ fault. IsAtLast fault self.old.next) }
         ensures stack { self.new.stack ≡ self.old.stack }
@@ -80,9 +81,9 @@ impl Judge {
     fn take_numbered(&mut self, text: &[u8], ended: bool) -> Result<Option<Said>, JudgeFault>
         requires standing { IsStanding self.old }
         requires room { self.old.next + 1 < 2 ^ 64 }
-        ensures ok { IfOk result (λ said. (p : Progress) → IsAt (waiting_in (state_of self.old.stack)) self.old p
+        ensures ok { IfOk result (λ said. (p : Progress) → IsAt (waiting_in self.old.stack) self.old p
             → Took said self.new p.said (takes (text.now, ended) p)) }
-        ensures err { IfErr result (λ fault. (p : Progress) → IsAt (waiting_in (state_of self.old.stack)) self.old p
+        ensures err { IfErr result (λ fault. (p : Progress) → IsAt (waiting_in self.old.stack) self.old p
             → IsRefusal fault p (takes (text.now, ended) p)) }
         ensures stack { self.new.stack ≡ self.old.stack }
         ensures next { OnOk result (self.new.next ≡ self.old.next + 1) }
@@ -195,9 +196,9 @@ impl Judge {
     fn take_line(&mut self, line: &Line) -> Result<bool, JudgeFault>
         requires standing { IsStanding self.old }
         requires room { self.old.next + 1 < 2 ^ 64 }
-        ensures ok { IfOk result (λ verdict. (p : Progress) → IsAt (waiting_in (state_of self.old.stack)) self.old p
+        ensures ok { IfOk result (λ verdict. (p : Progress) → IsAt (waiting_in self.old.stack) self.old p
             → Took (said_when verdict line.now) self.new p.said (takes_in p.phase (line_in line.now) p)) }
-        ensures err { IfErr result (λ fault. (p : Progress) → IsAt (waiting_in (state_of self.old.stack)) self.old p
+        ensures err { IfErr result (λ fault. (p : Progress) → IsAt (waiting_in self.old.stack) self.old p
             → IsRefusal fault p (takes_in p.phase (line_in line.now) p)) }
         ensures stack { self.new.stack ≡ self.old.stack }
         ensures next { OnOk result (self.new.next ≡ self.old.next + 1) }
@@ -263,10 +264,10 @@ impl Judge {
         requires standing { IsStanding self.old }
         requires begun { self.old.begun ≡ true }
         requires room { self.old.next + 1 < 2 ^ 64 }
-        ensures ok { OnOk result ((p : Progress) → IsAt (waiting_in (state_of self.old.stack)) self.old p
-            → IsAt (waiting_in (state_of self.old.stack)) self.new
+        ensures ok { OnOk result ((p : Progress) → IsAt (waiting_in self.old.stack) self.old p
+            → IsAt (waiting_in self.old.stack) self.new
             (takes_kept (follows (asked_in (state_of self.old.stack)) p.kept (line_in line.now)) p)) }
-        ensures err { IfErr result (λ fault. (p : Progress) → IsAt (waiting_in (state_of self.old.stack)) self.old p
+        ensures err { IfErr result (λ fault. (p : Progress) → IsAt (waiting_in self.old.stack) self.old p
             → IsRefusal fault p (takes_kept (follows (asked_in (state_of self.old.stack)) p.kept (line_in line.now)) p)) }
         ensures stack { self.new.stack ≡ self.old.stack }
         ensures next { OnOk result (self.new.next ≡ self.old.next + 1) }
@@ -295,12 +296,12 @@ impl Judge {
         requires standing { IsStanding self.old }
         requires begun { self.old.begun ≡ true }
         requires room { self.old.next + 1 < 2 ^ 64 }
-        ensures ok { OnOk result ((p : Progress) → IsAt (waiting_in (state_of self.old.stack)) self.old p
+        ensures ok { OnOk result ((p : Progress) → IsAt (waiting_in self.old.stack) self.old p
             → IsAt at_rest self.new (takes_verdict (said_in said.now) None p)
-            × (refusal_of (question_in (state_of self.old.stack) []) p.kept (said_in said.now) ≡ None)) }
-        ensures err { IfErr result (λ fault. (p : Progress) → IsAt (waiting_in (state_of self.old.stack)) self.old p
+            × (refusal_of (question_of self.old.stack) p.kept (said_in said.now) ≡ None)) }
+        ensures err { IfErr result (λ fault. (p : Progress) → IsAt (waiting_in self.old.stack) self.old p
             → IsRefusal fault p (takes_verdict (said_in said.now)
-            (refusal_of (question_in (state_of self.old.stack) []) p.kept (said_in said.now)) p)) }
+            (refusal_of (question_of self.old.stack) p.kept (said_in said.now)) p)) }
         ensures stack { self.new.stack ≡ self.old.stack }
         ensures next { OnOk result (self.new.next ≡ self.old.next + 1) }
         ensures standing { IsStanding self.new }
@@ -319,7 +320,7 @@ impl Judge {
     fn wrong(&mut self, said: &Said) -> Result<Option<Reason>, AllocError>
         requires { IsStanding self.old }
         ensures ok { IfOk result (λ found. (others : AllKept) → others.format ≡ 1
-            → refusal_of (question_in (state_of self.old.stack) []) (kept_in self.old.kept others) (said_in said.now)
+            → refusal_of (question_of self.old.stack) (kept_in self.old.kept others) (said_in said.now)
             ≡ option_map reason_in found) }
         ensures kept { (others : AllKept) → kept_in self.new.kept others ≡ kept_in self.old.kept others }
         ensures same { IsSame self.old self.new }
@@ -341,7 +342,7 @@ impl Judge {
     fn wrong_values(&mut self, values: &[Value]) -> Result<Option<Reason>, AllocError>
         requires { IsStanding self.old }
         ensures ok { IfOk result (λ found. (others : AllKept) → others.format ≡ 1
-            → refusal_of (question_in (state_of self.old.stack) []) (kept_in self.old.kept others)
+            → refusal_of (question_of self.old.stack) (kept_in self.old.kept others)
             (said_sat (map value_in values.now)) ≡ option_map reason_in found) }
         ensures kept { (others : AllKept) → kept_in self.new.kept others ≡ kept_in self.old.kept others }
         ensures same { IsSame self.old self.new }
@@ -363,11 +364,11 @@ impl Judge {
         Ok(unless(right))
     }
 
-    /// Why a clause does not refute the check, if it does not.
+    /// Why a clause does not refute the check under its assumptions, if it does not.
     fn wrong_clause(&mut self, id: u64) -> Result<Option<Reason>, AllocError>
         requires { IsStanding self.old }
         ensures ok { IfOk result (λ found. (others : AllKept) → others.format ≡ 1
-            → refusal_of (question_in (state_of self.old.stack) []) (kept_in self.old.kept others)
+            → refusal_of (question_of self.old.stack) (kept_in self.old.kept others)
             (said_unsat id None) ≡ option_map reason_in found) }
         ensures kept { (others : AllKept) → kept_in self.new.kept others ≡ kept_in self.old.kept others }
         ensures same { IsSame self.old self.new }
@@ -376,9 +377,14 @@ impl Judge {
         let Some(literals) = self.kept.clauses.clause(id) else {
             return Ok(Some(Reason::UnknownId));
         };
-        let bare = is_bare(literals);
+        let refuted = refutes(
+            self.alloc,
+            &self.kept.atoms,
+            self.stack.assumptions(),
+            literals,
+        )?;
         let inside = self.is_inside()?;
-        Ok(unless_both(inside, bare))
+        Ok(unless_both(inside, refuted))
     }
 
     /// Whether the check is inside the fragment.
@@ -400,16 +406,6 @@ fn said_of(line: Line) -> Option<Said>
     match line {
         Line::Verdict(said) => Some(said),
         _ => None,
-    }
-}
-
-/// Whether a clause has no literals.
-fn is_bare(literals: &[Lit]) -> bool
-    ensures { result ≡ is_bare literals.now }
-{
-    match literals {
-        [] => true,
-        _ => false,
     }
 }
 

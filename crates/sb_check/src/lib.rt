@@ -10,6 +10,7 @@
 
 mod check;
 mod checker;
+mod denial;
 mod entry;
 mod judge;
 mod reason;

@@ -3,20 +3,22 @@ use Rattle.std.proofs.Common.{◌≡◌, ℕ, ◌+◌, ◌<◌, Bool, true, fals
 use Rattle.std.specs.List.{list_all}
 use Rattle.std.proofs.lemmas.Bool.{and_parts, eq-eqb, eqb-true, false≢true}
 use Rattle.std.proofs.lemmas.List.{drop_more}
+use Rattle.std.proofs.Math.Bool.{beq}
 use Rattle.sb_meaning.specs.Terms.{Term, Terms, Sort, boolean, integer, text, reglan, constant, word, numeral, apply, parameter, no_terms, with_term}
 use Rattle.sb_meaning.specs.Sorts.{is_same_sort}
 use Rattle.sb_meaning.specs.Values.{Value, Valuation, Text, Int, Truth, value_in, is_of}
 use Rattle.sb_script.specs.Scopes.{Constant}
-use Rattle.sb_script.specs.State.{Assertion, asserted, a_mark, terms_in, fits}
+use Rattle.sb_script.specs.State.{Assertion, asserted, a_mark, Assumption, terms_in, fits}
 use Rattle.sb_atoms.specs.Given.{GivesValues, GivesEach}
 use Rattle.sb_proof.specs.declared.line.Value as code
 use Rattle.sb_proof.specs.Lines.{value_in as read}
-use Rattle.sb_rulebook.specs.Verdicts.{valued}
+use Rattle.sb_rulebook.specs.Atoms as rulebook
+use Rattle.sb_rulebook.specs.Verdicts.{valued, is_same_truth, assumption_holds}
 use Rattle.sb_stack.specs.declared.constant.LiveConstant.{LiveConstant}
 use Rattle.sb_stack.specs.Speaking.{is_one_of, speaks_of, speak_of}
 use Rattle.sb_stack.specs.Stacked.{value_at, values_at, live_in}
 use Rattle.sb_models.specs.Knowing.{GiveAll, word_at, truth_at}
-use Rattle.sb_models.specs.Tried.{is_kind, are_kinds, is_word, text_in, texts_in, truth_in, truths_in, one_given, word_given, given}
+use Rattle.sb_models.specs.Tried.{is_kind, are_kinds, is_word, text_in, texts_in, truth_in, truths_in, one_given, word_given, given, is_assumed}
 
 -- One value after the other.
 
@@ -237,3 +239,48 @@ values_given constants values ws bs assertions kinds named words truths =
     kinds one ∙ ap Text (sym (words n)))
     (λ n one. constant_given boolean (λ x. truth_in (read x)) Truth false (λ kind x. truth_kind kind (read x)) constants
     values n kinds one ∙ ap Truth (sym (truths n))) assertions named
+
+-- Assumptions.
+
+-- as `==` finds out
+pub beq_same : (a b : Bool) → beq a b ≡ is_same_truth a b
+beq_same true true = refl
+beq_same true false = refl
+beq_same false true = refl
+beq_same false false = refl
+
+-- the truth that a value is
+abbrev truth_of : Value → Bool
+truth_of x = elim x [ Text w ↦ false | Int n ↦ false | Truth b ↦ b ]
+
+truth_of-in : (x : Value) → truth_of x ≡ truth_in x
+truth_of-in (Text w) = refl
+truth_of-in (Int n) = refl
+truth_of-in (Truth b) = refl
+
+-- a serial has the truth value that its constant is given, whatever the sort
+truth_given : (constants : List LiveConstant) (values : List code.Value) (n : ℕ)
+    → rulebook.truth_at (given (map live_in constants) (map read values)) n
+    ≡ one_given constants (truths_in values) n false
+truth_given [] values n = refl
+truth_given (c ∷ constants) [] n = refl
+truth_given (c ∷ constants) (x ∷ values) n = by (c.serial.0 == n) (truth_given constants values n)
+  where
+    by : (b : Bool)
+        → truth_of (value_in (given (map live_in constants) (map read values)) n boolean)
+        ≡ one_given constants (truths_in values) n false
+        → truth_of (if b then read x else value_in (given (map live_in constants) (map read values)) n boolean)
+        ≡ (if b then truth_in (read x) else one_given constants (truths_in values) n false)
+    by true h = truth_of-in (read x)
+    by false h = h
+
+-- assumptions are true under the values where they are under the truth values that are read out of them
+pub assumed_given : (constants : List LiveConstant) (values : List code.Value) (bs : List Bool)
+    (assumptions : List Assumption) → ((n : ℕ) → truth_at bs n ≡ one_given constants (truths_in values) n false)
+    → list_all (is_assumed bs) assumptions
+    ≡ list_all (assumption_holds (given (map live_in constants) (map read values))) assumptions
+assumed_given constants values bs [] truths = refl
+assumed_given constants values bs (a ∷ assumptions) truths =
+    ap₂ (λ b c. b && c)
+    (ap (λ b. is_same_truth b a.1) (truths a.0 ∙ sym (truth_given constants values a.0)))
+    (assumed_given constants values bs assumptions truths)

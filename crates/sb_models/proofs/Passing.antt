@@ -1,9 +1,9 @@
 -- What was true under other words stays so where the words of its constants are the same.
-use Rattle.std.proofs.Common.{◌≡◌, ℕ, zero, suc, ◌<◌, Bool, true, false, List, [], ◌∷◌, take, refl, sym, ap, subst, ◌∙◌, arith, Some, None, slice_get}
+use Rattle.std.proofs.Common.{◌≡◌, ℕ, zero, suc, ◌<◌, Bool, true, false, List, [], ◌∷◌, take, sym, ap, subst, ◌∙◌, arith, Some, None, slice_get}
 use Rattle.std.specs.List.{list_all}
 use Rattle.std.proofs.lemmas.Bool.{and_parts}
-use Rattle.sb_meaning.specs.Terms.{Sort, boolean, integer, text, reglan, Term, Terms, constant, word, numeral, apply, parameter, no_terms, with_term}
-use Rattle.sb_meaning.specs.Values.{Valuation, Text, Truth, value_in}
+use Rattle.sb_meaning.specs.Terms.{boolean, integer, text, reglan, Term, Terms, constant, word, numeral, apply, parameter, no_terms, with_term}
+use Rattle.sb_meaning.specs.Values.{Valuation, Text}
 use Rattle.sb_meaning.specs.Truth.{holds}
 use Rattle.sb_script.specs.Brought.{is_regex}
 use Rattle.sb_script.specs.Sizes.{is_regular}
@@ -12,7 +12,7 @@ use Rattle.sb_script.specs.Fragment.{is_decided}
 use Rattle.sb_fragment.proofs.CallerLemmas.{asked_decided}
 use Rattle.sb_atoms.specs.Given.{GivesValues, GivesEach}
 use Rattle.sb_atoms.proofs.CallerLemmas.{asked_given, asked_value}
-use Rattle.sb_models.specs.Knowing.{is_true_under, AreTrueBy, word_at}
+use Rattle.sb_models.specs.Knowing.{AreTrueBy, word_at}
 use Rattle.sb_models.specs.Tried.{AreSame, IsOfSame, MayPass}
 
 pub all_at : (test : Assertion → Bool) (xs : List Assertion) (place : ℕ) (x : Assertion) → list_all test xs ≡ true

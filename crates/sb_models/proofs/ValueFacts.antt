@@ -1,11 +1,10 @@
 -- Values as words, one after the other.
-use Rattle.std.proofs.Common.{◌≡◌, ℕ, zero, suc, ◌+◌, ◌<◌, ◌≤◌, Bool, true, false, ◌&&◌, List, [], ◌∷◌, length, map, drop, get_or, refl, sym, ap, ◌∙◌, arith, Option, Some, None, slice_get}
+use Rattle.std.proofs.Common.{◌≡◌, ℕ, zero, suc, ◌+◌, ◌<◌, ◌≤◌, Bool, true, false, ◌&&◌, if◌then◌else◌, List, [], ◌∷◌, length, map, drop, get_or, refl, sym, ap, ◌∙◌, arith, Some, None, slice_get}
 use Rattle.std.specs.List.{list_all}
-use Rattle.std.proofs.lemmas.Bool.{and_parts, and_from, false≢true}
+use Rattle.std.proofs.lemmas.Bool.{and_from}
 use Rattle.std.proofs.lemmas.Bool.Decides.{nat_tests}
 use Rattle.std.proofs.lemmas.List.{drop_more, nil_from_length}
 use Rattle.sb_word.specs.Words.{is_character, are_characters}
-use Rattle.sb_meaning.specs.Values.{Value}
 use Rattle.sb_proof.specs.declared.line.Value as code
 use Rattle.sb_proof.specs.Lines.{value_in as read}
 use Rattle.sb_models.specs.Knowing.{word_at}
@@ -65,8 +64,8 @@ outside_fails (m ∷ numbers) (suc place) n h k =
     and_false false = refl
 
 pub no_word_in : (numbers codes : List ℕ) → codes ≡ numbers → are_characters codes ≡ false → None ≡ word_in numbers
-no_word_in numbers codes is none = let fails : are_characters numbers ≡ false = ap are_characters (sym is) ∙ none in
-    rw fails refl
+no_word_in numbers codes is none =
+    ap (λ b. if b then Some numbers else None) (sym (ap are_characters (sym is) ∙ none))
 
 -- where no word is, the empty one is
 pub empty_past : (words : List (List ℕ)) (place : ℕ) (numbers : List ℕ) → length words ≤ place

@@ -200,11 +200,6 @@ rest_next f constants values at_first old new place d x long low is put rest =
 pub none_taken : {X : Type 0} (place : ℕ) (xs : List X) → place ≡ 0 → take place xs ≡ []
 none_taken place xs is = ap (λ n. take n xs) is
 
--- at first, all is still to be put
-pub rest_first : {X : Type 0} (constants : List LiveConstant) (all left : List X) (at_first : ℕ → X) → left ≡ all
-    → AreRest constants all at_first left at_first
-rest_first constants all left at_first is serial = ap (λ xs. one_given constants xs serial (at_first serial)) is
-
 pub texts_long : (values : List code.Value) → length (texts_in values) ≡ length values
 texts_long values = length-map values (λ x. text_in (read x))
 

@@ -1,13 +1,14 @@
 -- Private: values as words and truth values, and what of the last model holds under others.
-use Rattle.std.specs.Prelude.{◌≡◌, ◌&&◌, ◌==◌, ℕ, ◌<◌, Bool, true, false, if◌then◌else◌, List, [], ◌∷◌, length, map, slice_get, Option, Some, None, option_map}
+use Rattle.std.specs.Prelude.{◌≡◌, ◌&&◌, ◌==◌, ℕ, ◌<◌, Bool, true, false, if◌then◌else◌, List, [], ◌∷◌, length, map, slice_get, Option, Some, None}
 use Rattle.std.specs.HashSet.{HashSet, contains}
 use Rattle.std.specs.List.{list_all}
 use Rattle.sb_word.specs.Words.{are_characters}
 use Rattle.sb_meaning.specs.Terms.{Sort, Term, boolean, integer, text, reglan}
-use Rattle.sb_meaning.specs.Values.{Value, Valuation, Text, Int, Truth, value_in}
+use Rattle.sb_meaning.specs.Values.{Value, Valuation, Text, Int, Truth}
 use Rattle.sb_meaning.specs.Truth.{holds}
 use Rattle.sb_script.specs.Brought.{asked}
-use Rattle.sb_script.specs.State.{Assertion, asserted}
+use Rattle.sb_script.specs.State.{Assertion, asserted, Assumption}
+use Rattle.sb_rulebook.specs.Verdicts.{is_same_truth, assumption_holds}
 use Rattle.sb_atoms.specs.Given.{GivesValues}
 use Rattle.sb_stack.specs.declared.constant.LiveConstant.{LiveConstant}
 use Rattle.sb_proof.specs.declared.line.Value as code
@@ -81,9 +82,14 @@ given [] xs = []
 given (d ∷ ds) [] = []
 given (d ∷ ds) (x ∷ xs) = (d.0, x) ∷ given ds xs
 
--- the values are words where they are texts, and make the assertions true
-abbrev pub are_tried : List (ℕ × Sort) → List Value → List Assertion → Bool
-are_tried ds xs assertions = list_all is_word xs && list_all (is_true_under (given ds xs)) assertions
+-- the values are words where they are texts, and make the assertions and the assumptions true
+abbrev pub are_tried : List (ℕ × Sort) → List Value → List Assertion → List Assumption → Bool
+are_tried ds xs assertions assumptions = list_all is_word xs
+    && (list_all (is_true_under (given ds xs)) assertions && list_all (assumption_holds (given ds xs)) assumptions)
+
+-- the assumption is true where constants have these truth values, by serial
+abbrev pub is_assumed : List Bool → Assumption → Bool
+is_assumed truths a = is_same_truth (truth_at truths a.0) a.1
 
 -- the serials that the set has
 abbrev pub marks_of : {S : Type 0} → HashSet ℕ S → ℕ → Bool

@@ -1,5 +1,5 @@
 //! Models of the live assertions of a script, as a checker of proofs asks for them: whether all of these are decided
-//! ones, and whether values make all of them true.
+//! ones, and whether values make all of them true, and the assumptions of the check.
 //!
 //! [`Models`] keeps what it knows from one check to the next: how many of the assertions are decided ones, and how many
 //! are true under the words and truth values of the last model. So a check looks at the assertions that are new, and

@@ -1,25 +1,24 @@
 //! What is known of live assertions.
 
-ghost use Rattle.std.specs.Prelude.{◌≡◌, ℕ, true, false, [], length, map, take, IfOk};
+ghost use Rattle.std.specs.Prelude.{◌≡◌, ℕ, true, false, length, map, take, IfOk};
 ghost use Rattle.std.specs.List.{list_all};
 ghost use Rattle.sb_regex.specs.Numbered.{Extends};
 ghost use Rattle.sb_problem.specs.Known.{AreNormals};
 ghost use Rattle.sb_plain.specs.Memory.{IsRight};
 ghost use Rattle.sb_script.specs.Fragment.{in_fragment, is_decided};
 ghost use Rattle.sb_script.specs.State.{terms_in};
-ghost use Rattle.sb_rulebook.specs.Accepted.{question_in};
 ghost use Rattle.sb_rulebook.specs.Verdicts.{are_model_of};
 ghost use Rattle.sb_fragment.specs.Measures.{AreMeasures};
 ghost use Rattle.sb_proof.specs.Lines.{value_in};
 ghost use Rattle.sb_stack.specs.Speaking.{speaks_of};
-ghost use Rattle.sb_stack.specs.Stacked.{Stacked, state_of, live_in};
+ghost use Rattle.sb_stack.specs.Stacked.{Stacked, state_of, question_of, live_in};
 ghost use Rattle.sb_models.specs.Knowing.{Knows, AreTrueBy, IsTruthBy, assertions_of};
 ghost use Rattle.sb_models.specs.Tried.{are_kinds, are_tried, marks_of, MayPass};
 ghost use Rattle.sb_models.specs.Laws.{LeavesKnown};
 
 use crate::changes::change;
 use crate::kinds::are_kinds;
-use crate::truths::{are_same, truths_of};
+use crate::truths::{are_assumed, are_same, truths_of};
 use crate::trying::all_hold;
 use sb_fragment::{Fragment, Measures, Standing, fragment_is_of_each};
 use sb_plain::Plain;
@@ -89,16 +88,16 @@ impl Models {
     }
 
     /// Whether the values, in the order of the live constants, are a model of the live assertions, which are decided
-    /// ones: there is a value of its sort for each constant, and the words and truth values make each assertion true.
-    /// Where they are, they are kept.
+    /// ones, and of the assumptions of the check: there is a value of its sort for each constant, and the words and
+    /// truth values make each assertion and each assumption true. Where they are, they are kept.
     ///
     /// Where each constant has the word and the truth value that it had in the last model, and each one declared since
     /// has the empty word, or false, only the assertions behind those that were true there are looked at. Else all are,
     /// and one that was true there and asks something of the word of one constant alone, which has the word that it had
     /// there, is passed over in constant time. For each other one the cost is that of [`sb_atoms::eval`]. Linear in the
-    /// values besides, and in the constants of the last model that are gone; no memory is taken for a value that is the
-    /// word of its constant in the last model. Where a Bool constant is true, linear in the constants declared before it
-    /// too.
+    /// values and assumptions besides, and in the constants of the last model that are gone; no memory is taken for a
+    /// value that is the word of its constant in the last model. Where a Bool constant is true, linear in the constants
+    /// declared before it too.
     /// After values that are none of a model, and after want of memory, the next call looks at all assertions.
     /// `AllocError` only for want of memory.
     pub fn is_model(
@@ -115,7 +114,7 @@ impl Models {
         requires normals { AreNormals stack.now.table arena.old normals.old }
         requires right { IsRight arena.old plain.old }
         ensures ok { IfOk result
-            (λ model. model ≡ are_model_of (question_in (state_of stack.now) []) (map value_in values.now)) }
+            (λ model. model ≡ are_model_of (question_of stack.now) (map value_in values.now)) }
         ensures knows { Knows self.new stack.now }
         ensures extends { Extends arena.old arena.new }
         ensures normals { AreNormals stack.now.table arena.new normals.new }
@@ -134,8 +133,8 @@ impl Models {
         self.hold_under(alloc, plain, normals, arena, stack, constants, values)
     }
 
-    /// Whether the words of the values are words, and all live assertions are true where the live constants have these
-    /// values, one each. Where they are, they are kept.
+    /// Whether the words of the values are words, and all live assertions and assumptions are true where the live
+    /// constants have these values, one each. Where they are, they are kept.
     fn hold_under(
         &mut self,
         alloc: Global,
@@ -154,7 +153,8 @@ impl Models {
         requires normals { AreNormals stack.now.table arena.old normals.old }
         requires right { IsRight arena.old plain.old }
         ensures ok { IfOk result (λ truth. truth
-            ≡ are_tried (map live_in constants.items) (map value_in values.now) (assertions_of stack.now)) }
+            ≡ are_tried (map live_in constants.items) (map value_in values.now) (assertions_of stack.now)
+            stack.now.assumptions) }
         ensures knows { Knows self.new stack.now }
         ensures extends { Extends arena.old arena.new }
         ensures normals { AreNormals stack.now.table arena.new normals.new }
@@ -168,6 +168,9 @@ impl Models {
             return Ok(false);
         };
         let truths = truths_of(alloc, &constants, values)?;
+        if !are_assumed(&truths, stack.assumptions()) {
+            return Ok(false);
+        }
         let same = are_same(&last, &truths);
         if !are_true(
             plain, normals, arena, stack, &words, &truths, &changed, same, held,

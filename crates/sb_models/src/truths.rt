@@ -1,12 +1,14 @@
 //! The truth values of the live constants, by serial. A constant of another sort than Bool has false.
 
 ghost use Rattle.std.specs.Prelude.{◌≡◌, ℕ, true, false, length, IfOk, OnOk};
+ghost use Rattle.std.specs.List.{list_all};
 ghost use Rattle.sb_proof.specs.Lines.{value_in};
 ghost use Rattle.sb_models.specs.Knowing.{truth_at};
-ghost use Rattle.sb_models.specs.Tried.{truth_in, truths_in, one_given, IsTruthPut, HasTruthAt};
+ghost use Rattle.sb_models.specs.Tried.{truth_in, truths_in, one_given, is_assumed, IsTruthPut, HasTruthAt};
 
 use sb_proof::Value;
-use sb_stack::LiveConstant;
+use sb_stack::{Assumption, LiveConstant};
+use sb_term::Serial;
 use std::alloc::{AllocError, Global};
 
 /// The truth value of a value, false where it is none.
@@ -78,4 +80,30 @@ pub(crate) fn are_same(one: &[bool], other: &[bool]) -> bool
         }
     }
     true
+}
+
+/// The truth value at a serial, false past the last one.
+fn truth_at(truths: &[bool], serial: Serial) -> bool
+    ensures { result ≡ truth_at truths.now serial.0 }
+{
+    match truths.get(serial.0 as usize) {
+        Some(truth) => *truth,
+        None => false,
+    }
+}
+
+/// Whether the assumption is true where constants have these truth values.
+fn is_assumed(truths: &[bool], assumption: Assumption) -> bool
+    ensures { result ≡ is_assumed truths.now assumption }
+{
+    truth_at(truths, assumption.serial) == assumption.positive
+}
+
+/// Whether the assumptions are true where constants have these truth values, by serial. Linear in the assumptions.
+pub(crate) fn are_assumed(truths: &[bool], assumptions: &[Assumption]) -> bool
+    ensures { result ≡ list_all (is_assumed truths.now) assumptions.now }
+{
+    assumptions
+        .iter()
+        .all(|assumption| is_assumed(truths, *assumption))
 }

@@ -1,9 +1,8 @@
-use Rattle.std.proofs.Common.{◌≡◌, ◌<◌, ◌+◌, ◌-◌, false, length, take, sym, subst, arith}
-use Rattle.std.proofs.lemmas.List.{take_all, length-map}
+use Rattle.std.proofs.Common.{◌≡◌, ◌<◌, ◌+◌, ◌-◌, false, length, take, subst, arith}
 use Rattle.sb_proof.specs.Lines.{value_in}
 use Rattle.sb_models.specs.Knowing.{truth_at}
 use Rattle.sb_models.specs.Tried.{truth_in, truths_in}
-use Rattle.sb_models.proofs.WordFacts.{AreRest, rest_first, rest_next, rest_none, none_taken}
+use Rattle.sb_models.proofs.WordFacts.{AreRest, rest_next, rest_none, none_taken}
 use Rattle.sb_models.proofs.truths.truths_of.Goals as goal
 
 pub loop-place-preserved : goal.loop-place-preserved

@@ -11,8 +11,8 @@ pub returns-in-Answer-clause-ok : goal.returns-in-Answer-clause-ok
 returns-in-Answer-clause-ok c =
     let old = state_of c.args.self.now.stack in
     let step = step_of (entry_of c.args.entry.now) old in
-    subst (λ s. Enters (entered_by s) step old (state_of c.apply.new.self)) c.in-Answer.is
-    (enters step c.in_ok-apply.field-0 old (state_of c.apply.new.self) c.in_ok-apply.ensures.ok)
+    subst (λ s. Enters (entered_by s) step old c.apply.new.self) c.in-Answer.is
+    (enters step c.in_ok-apply.field-0 old c.apply.new.self c.in_ok-apply.ensures.ok c.in_ok-apply.ensures.given)
 
 pub returns-in-Answer-clause-standing : goal.returns-in-Answer-clause-standing
 returns-in-Answer-clause-standing c =
@@ -24,9 +24,9 @@ pub returns-in-Left-clause-ok : goal.returns-in-Left-clause-ok
 returns-in-Left-clause-ok c =
     let old = state_of c.args.self.now.stack in
     let step = step_of (entry_of c.args.entry.now) old in
-    subst (λ (t : Stacked). Enters entered.Left step old (state_of t)) (sym c.leave.ensures.same.stack)
-    (subst (λ s. Enters (entered_by s) step old (state_of c.apply.new.self)) c.in-Left.is
-    (enters step c.in_ok-apply.field-0 old (state_of c.apply.new.self) c.in_ok-apply.ensures.ok))
+    subst (λ (t : Stacked). Enters entered.Left step old t) (sym c.leave.ensures.same.stack)
+    (subst (λ s. Enters (entered_by s) step old c.apply.new.self) c.in-Left.is
+    (enters step c.in_ok-apply.field-0 old c.apply.new.self c.in_ok-apply.ensures.ok c.in_ok-apply.ensures.given))
 
 pub returns-in-Left-clause-kept : goal.returns-in-Left-clause-kept
 returns-in-Left-clause-kept c =
@@ -48,8 +48,8 @@ pub returns-in-Check-clause-ok : goal.returns-in-Check-clause-ok
 returns-in-Check-clause-ok c =
     let old = state_of c.args.self.now.stack in
     let step = step_of (entry_of c.args.entry.now) old in
-    subst (λ s. Enters (entered_by s) step old (state_of c.apply.new.self)) c.in-Check.is
-    (enters step c.in_ok-apply.field-0 old (state_of c.apply.new.self) c.in_ok-apply.ensures.ok)
+    subst (λ s. Enters (entered_by s) step old c.apply.new.self) c.in-Check.is
+    (enters step c.in_ok-apply.field-0 old c.apply.new.self c.in_ok-apply.ensures.ok c.in_ok-apply.ensures.given)
 
 pub returns-in-Check-clause-standing : goal.returns-in-Check-clause-standing
 returns-in-Check-clause-standing c =
@@ -61,8 +61,8 @@ pub returns-clause-ok : goal.returns-clause-ok
 returns-clause-ok c =
     let old = state_of c.args.self.now.stack in
     let step = step_of (entry_of c.args.entry.now) old in
-    subst (λ s. Enters (entered_by s) step old (state_of c.apply.new.self)) c.in-Exit.is
-    (enters step c.in_ok-apply.field-0 old (state_of c.apply.new.self) c.in_ok-apply.ensures.ok)
+    subst (λ s. Enters (entered_by s) step old c.apply.new.self) c.in-Exit.is
+    (enters step c.in_ok-apply.field-0 old c.apply.new.self c.in_ok-apply.ensures.ok c.in_ok-apply.ensures.given)
 
 pub returns-clause-standing : goal.returns-clause-standing
 returns-clause-standing c =

@@ -14,7 +14,7 @@ use Rattle.sb_check.proofs.judge.Judge.take_kept.Goals as goal
 pub returns-in-Ok-clause-ok : goal.returns-in-Ok-clause-ok
 returns-in-Ok-clause-ok c p a =
     let stack = c.args.self.now.stack in
-    kept_taken (waiting_in (state_of stack)) c.args.self.now c.follows.new.self (asked_in (state_of stack))
+    kept_taken (waiting_in stack) c.args.self.now c.follows.new.self (asked_in (state_of stack))
     (line_in c.args.line.now) p a
     (c.in-Ok.ensures.judges (asked_in (state_of stack)) (asked_over stack c.table.result.now c.assertions.result.now
     c.sorts.result.now c.table.ensures c.assertions.ensures.value c.sorts.ensures.value
@@ -29,7 +29,7 @@ returns-in-Err-Refused-clause-err c p a =
     (c.follows.ensures.judges asked (asked_over stack c.table.result.now c.assertions.result.now
     c.sorts.result.now c.table.ensures c.assertions.ensures.value c.sorts.ensures.value
     c.assertions.ensures.levels)) in
-    kept_refused (waiting_in (state_of stack)) c.args.self.now asked (line_in c.args.line.now) p
+    kept_refused (waiting_in stack) c.args.self.now asked (line_in c.args.line.now) p
     (refusal_in c.in-Err-Refused.refusal) c.of_refusal.result a (λ others. (judged others).0) c.of_refusal.ensures
 
 pub returns-in-Ok-clause-standing : goal.returns-in-Ok-clause-standing
