@@ -7,10 +7,10 @@ use Rattle.sb_session.specs.declared.solve.SolveStatus.TheVariants as status
 abbrev pub proof_in : List Write → List ℕ
 proof_in writes = (writing_all writes).proof_out
 
-proof_in-append : (writes more : List Write) → proof_in (writes ++ more) ≡ proof_in writes ++ proof_in more
+pub proof_in-append : (writes more : List Write) → proof_in (writes ++ more) ≡ proof_in writes ++ proof_in more
 proof_in-append writes more = ap (λ (m : Moved). m.proof_out) (writing_all-append writes more)
 
-proof_of_answer : (lines reply : List ℕ) → proof_in (with_lines lines ((out_port.Answers, reply) ∷ [])) ≡ lines
+pub proof_of_answer : (lines reply : List ℕ) → proof_in (with_lines lines ((out_port.Answers, reply) ∷ [])) ≡ lines
 proof_of_answer [] reply = refl
 proof_of_answer (b ∷ bs) reply = append-nil (b ∷ bs)
 

@@ -1,5 +1,5 @@
 -- A check is answered with its proof, or without one.
-use Rattle.sb_session.proofs.Words.{◌≡◌, ◌⊎◌, ℕ, ◌<◌, Bool, true, false, if◌then◌else◌, List, [], ◌∷◌, map, length, take, drop, codes, Option, Some, None, is_some, Result, Ok, Err, IfOk, IfSome, refl, sym, ap, ◌∙◌, subst, inl, inr, AbreastStays, AnswersCheck, CutCheck, CutOf, CutProof, FindsUnproved, Grows, HasDeclared, HasLevels, HasRegexes, HasTrue, Holds, IsAbreast, IsFit, IsKnown, IsProved, IsTracked, IsVerdict, Outside, Progress, ProvesCheck, Proving, SessionState, Sort, Stacked, State, Stop, Store, Term, Verdict, WorldError, end_writes, false≢true, found, is_outside, is_proved, is_sorted_state, is_sat, is_unknown, is_unsat, last_lines, live_constants, moved_by, moved_by-nothing, plain, proof_of, question_in, session_of, settled, state_of, stop_of, verdict_in, verdict_text, without_words, write_at, writing_all, Decider, Knows, newest_format, text_of, header_line, end_line, bytes_of, with_bytes}
+use Rattle.sb_session.proofs.Words.{◌≡◌, ◌⊎◌, ℕ, ◌<◌, Bool, true, false, if◌then◌else◌, List, [], ◌∷◌, map, length, take, drop, codes, Option, Some, None, is_some, Result, Ok, Err, IfOk, IfSome, refl, sym, ap, ◌∙◌, subst, inl, inr, AbreastStays, AnswersCheck, CutCheck, CutOf, CutProof, FindsUnproved, Grows, HasDeclared, HasLevels, HasRegexes, HasTrue, Holds, IsAbreast, IsFit, IsKnown, IsProved, IsTracked, IsVerdict, Outside, Progress, ProvesCheck, Proving, SessionState, Sort, Stacked, State, Stop, Store, Term, Verdict, WorldError, end_writes, false≢true, found, is_outside, is_proved, is_sorted_state, is_sat, is_unknown, is_unsat, last_lines, live_constants, moved_by, moved_by-nothing, plain, proof_of, session_of, settled, state_of, stop_of, verdict_in, verdict_text, without_words, write_at, writing_all, Decider, Knows, newest_format, text_of, header_line, end_line, bytes_of, with_bytes, Assumption, given_in, question_of}
 use Rattle.sb_world.specs.declared.OutPort.TheVariants as out_port
 use Rattle.sb_world.specs.declared.WorldError.TheVariants as world_error
 use Rattle.sb_stack.specs.declared.verdict.Verdict as code
@@ -105,13 +105,13 @@ end_cut_short s proving p empty told bytes old new e tracked start same tells cu
 
 module _ (st : Stacked) (old new : Decider) (before after : Proving) (v : Verdict) (p : Progress)
     (empty told bytes : List ℕ) (o o' : Outside) (start : empty ≡ []) (same : bytes ≡ told)
-    (is : IsVerdict (state_of st) [] v)
+    (is : IsVerdict (state_of st) (given_in st) v)
     (proves : (q : Progress) → IsAbreast old.store before q
-    → IsProved (question_in (state_of st) []) v q new.store after (Some empty) (Some told)) where
+    → IsProved (question_of st) v q new.store after (Some empty) (Some told)) where
   pub check_proved : (proved : Bool) → proved ≡ true → o' ≡ write_at out_port.Proof bytes o
       → IsTracked (session_of st old (proof_of proved before)) p
-      → ProvesCheck (state_of st) v p (is_some (proof_of proved before)) (session_of st new (proof_of proved after)) o
-      o'
+      → ProvesCheck (state_of st) (given_in st) v p (is_some (proof_of proved before))
+      (session_of st new (proof_of proved after)) o o'
   check_proved false e written tracked = absurd (false≢true e)
   check_proved true e written tracked =
       let h = proves p tracked in
@@ -127,7 +127,7 @@ module _ (st : Stacked) (old new : Decider) (before after : Proving) (v : Verdic
   pub check_cut : (proved : Bool) → proved ≡ true
       → ((out : ℕ) × (out < length bytes) × (o' ≡ write_at out_port.Proof (take out bytes) o))
       → IsTracked (session_of st old (proof_of proved before)) p
-      → CutProof (state_of st) p (is_some (proof_of proved before)) o o'
+      → CutProof (state_of st) (given_in st) p (is_some (proof_of proved before)) o o'
   check_cut false e cut tracked = absurd (false≢true e)
   check_cut true e cut tracked =
       let h = proves p tracked in
@@ -143,8 +143,9 @@ module _ (st : Stacked) (old new : Decider) (before after : Proving) (v : Verdic
 
 -- without a proof
 pub check_unwritten : (st : Stacked) (new : Decider) (before after : Proving) (v : Verdict) (p : Progress)
-    (proved : Bool) (o : Outside) → proved ≡ false → FindsUnproved (state_of st) [] [] v
-    → ProvesCheck (state_of st) v p (is_some (proof_of proved before)) (session_of st new (proof_of proved after)) o o
+    (proved : Bool) (o : Outside) → proved ≡ false → FindsUnproved (state_of st) (given_in st) [] v
+    → ProvesCheck (state_of st) (given_in st) v p (is_some (proof_of proved before))
+    (session_of st new (proof_of proved after)) o o
 check_unwritten st new before after v p true o e h = absurd (false≢true (sym e))
 check_unwritten st new before after v p false o e h =
     record { lines = []; progress = p; finds = (h, refl); tracked = tt; outside = sym (moved_by-nothing o) }
@@ -172,7 +173,7 @@ tracked_stays stays ts session after p same grows h = by_proof session.proof sam
 module _ (p : Progress) (session proven after : SessionState) (v : Verdict) where
   -- the check is answered
   pub check_answered : (old mid new : Outside) → ((q : Progress) → IsTracked proven q → IsTracked after q)
-      → ProvesCheck (state_of session.stack) v p (is_proved session) proven old mid
+      → ProvesCheck (state_of session.stack) (given_in session.stack) v p (is_proved session) proven old mid
       → state_of after.stack ≡ settled v (state_of session.stack)
       → new ≡ write_at out_port.Answers (verdict_text v) mid → AnswersCheck p session after old new
   check_answered old mid new stays h settles written = record {
@@ -188,7 +189,7 @@ module _ (p : Progress) (session proven after : SessionState) (v : Verdict) wher
 
   -- its answer is cut
   pub answer_cut : (old mid new : Outside)
-      → ProvesCheck (state_of session.stack) v p (is_proved session) proven old mid
+      → ProvesCheck (state_of session.stack) (given_in session.stack) v p (is_proved session) proven old mid
       → ((out : ℕ) × (out < length (verdict_text v))
       × (new ≡ write_at out_port.Answers (take out (verdict_text v)) mid))
       → CutCheck p session old new
@@ -203,7 +204,7 @@ module _ (p : Progress) (session proven after : SessionState) (v : Verdict) wher
 
 -- its proof is cut
 pub proof_cut : (p : Progress) (session : SessionState) (old new : Outside)
-    → (new ≡ old) ⊎ CutProof (state_of session.stack) p (is_proved session) old new
+    → (new ≡ old) ⊎ CutProof (state_of session.stack) (given_in session.stack) p (is_proved session) old new
     → (new ≡ old) ⊎ CutCheck p session old new
 proof_cut p session old new (inl same) = inl same
 proof_cut p session old new (inr h) = inr (record {
@@ -245,7 +246,7 @@ held_found v old new kept proving rest knows regexes levels fit sorted sound dec
   where
     of : (v : code.Verdict) → record (state_of new) { mode = plain } ≡ record (state_of (found v new)) { mode = plain }
     of (verdict.Sat words truths) = refl
-    of verdict.Unsat = refl
+    of (verdict.Unsat assumptions) = refl
     of verdict.Unknown = refl
     of verdict.Outside = refl
 
@@ -254,9 +255,9 @@ held_found v old new kept proving rest knows regexes levels fit sorted sound dec
 
 -- Without a proof a verdict that is known may be given.
 
-pub known_finds : (s : State) (ns : List (ℕ × Sort)) (v : code.Verdict) → IsKnown v → IsVerdict s [] (verdict_in ns v)
-    → FindsUnproved s [] [] (verdict_in ns v)
-known_finds s ns (verdict.Sat words truths) known h = (refl, h)
-known_finds s ns verdict.Unsat known h = (refl, h)
-known_finds s ns verdict.Unknown known h = absurd known
-known_finds s ns verdict.Outside known h = (refl, h)
+pub known_finds : (s : State) (given : List Assumption) (ns : List (ℕ × Sort)) (v : code.Verdict) → IsKnown v
+    → IsVerdict s given (verdict_in ns v) → FindsUnproved s given [] (verdict_in ns v)
+known_finds s given ns (verdict.Sat words truths) known h = (refl, h)
+known_finds s given ns (verdict.Unsat assumptions) known h = (refl, h)
+known_finds s given ns verdict.Unknown known h = absurd known
+known_finds s given ns verdict.Outside known h = (refl, h)

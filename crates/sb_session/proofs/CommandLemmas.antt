@@ -1,5 +1,5 @@
 -- What the steps of the state make of an entry that is answered.
-use Rattle.sb_session.proofs.Words.{◌≡◌, ◌⊎◌, ℕ, ◌<◌, Bool, true, false, if◌then◌else◌, List, [], ◌∷◌, length, take, Option, None, Some, Result, Ok, refl, sym, ap, ◌∙◌, inl, inr, subst, Vec, Global, Answering, Answers, AnswersCheck, AnswersEntry, CutCheck, CutOrNot, CutReply, Entry, Event, Fails, Finding, Finds, FindsProved, FindsUnproved, IsMoved, IsReply, IsStep, IsTracked, Outside, Progress, SessionState, State, Stop, Verdict, Went, behind, event_of_leaving, events_of, fault_of, is_proved, leaving, leaving_in, progress_by, settled, state_of, step_of, verdict_text, went_of, with_lines, write_at, is_exits, entry_exits, Assertion, Step}
+use Rattle.sb_session.proofs.Words.{◌≡◌, ◌⊎◌, ℕ, ◌<◌, Bool, true, false, if◌then◌else◌, List, [], ◌∷◌, length, take, Option, None, Some, Result, Ok, refl, sym, ap, ◌∙◌, inl, inr, subst, Vec, Global, Answering, Answers, AnswersCheck, AnswersEntry, Assumption, CutCheck, CutOrNot, CutReply, Entry, Event, Fails, Finding, Finds, FindsProved, FindsUnproved, IsMoved, IsReply, IsStep, IsTracked, IsUnder, Outside, Progress, SessionState, State, Stop, Verdict, Went, behind, event_of_leaving, events_of, fault_of, given_in, is_proved, leaving, leaving_in, progress_by, settled, state_of, step_of, verdict_text, went_of, with_lines, write_at, is_exits, entry_exits, Assertion, Step}
 use Rattle.sb_world.specs.declared.OutPort.TheVariants as out_port
 use Rattle.sb_script.specs.Steps as meaning
 use Rattle.sb_stack.specs.declared.stack.Step.TheVariants as code
@@ -33,14 +33,12 @@ pub by_answer : (step : meaning.Step) (reply : Vec ℕ Global) (text : List ℕ)
     → IsStep step (code.Answer reply) s after → Replied step false text [] s after
 by_answer (meaning.answers bytes t) reply text s after same h =
     record { ends_run = refl; reply = (same ∙ h.0, h.1); events = refl }
-by_answer (meaning.checks []) reply text s after same h = absurd h
 by_answer _ reply text s after same h = absurd h
 
 pub by_exit : (step : meaning.Step) (reply : Vec ℕ Global) (text : List ℕ) (s after : State) → text ≡ reply.items
     → IsStep step (code.Exit reply) s after → Replied step true text [] s after
 by_exit (meaning.exits bytes) reply text s after same h =
     record { ends_run = refl; reply = (same ∙ h.0, h.1); events = refl }
-by_exit (meaning.checks []) reply text s after same h = absurd h
 by_exit _ reply text s after same h = absurd h
 
 leaving_event : (level : Option ℕ) → event_of_leaving (leaving_in level) ≡ leaving level
@@ -56,7 +54,6 @@ by_left (meaning.leaves what bytes t) reply level text s after same h = record {
   events = ap (λ (w : meaning.Leaving). event_of_leaving w ∷ []) h.1.0
       ∙ ap (λ (e : Event). e ∷ []) (leaving_event level);
 }
-by_left (meaning.checks []) reply level text s after same h = absurd h
 by_left _ reply level text s after same h = absurd h
 
 -- what a step that is answered makes of the live assertions
@@ -65,11 +62,11 @@ pub moved_by : {E : Type 0} (r : Result Step E) (step known : Step) (old new : L
 moved_by {E = E} r step known old new is now h =
     subst (λ (x : Result Step E). IsMoved x old new) (is ∙ ap Ok now) h
 
--- the step of a check, which has no assumptions
-pub by_check : (step : meaning.Step) (s same : State) → IsStep step code.Check s same
-    → (step ≡ meaning.checks []) × (same ≡ s)
-by_check (meaning.checks []) s same h = (refl, h)
-by_check _ s same h = absurd h
+-- the step of a check, which is under these assumptions
+pub by_check : (step : meaning.Step) (s same : State) (given : List Assumption) → IsStep step code.Check s same
+    → IsUnder step code.Check given → (step ≡ meaning.checks given) × (same ≡ s)
+by_check (meaning.checks others) s same given h under = (under, h)
+by_check _ s same given h under = absurd h
 
 -- An entry that is no check.
 
@@ -140,50 +137,54 @@ cut_reply entry ends text es session after old new h cut p tracked = inr (record
 
 -- A check.
 
-answering_check : (proved : Bool) (entry : Entry) (s : State) (p q : Progress) (lines : List ℕ) (v : Verdict)
-    (after : State) → step_of entry s ≡ meaning.checks [] → Finds proved p q s lines v → after ≡ settled v s
+answering_check : (proved : Bool) (entry : Entry) (s : State) (given : List Assumption) (p q : Progress)
+    (lines : List ℕ) (v : Verdict) (after : State) → step_of entry s ≡ meaning.checks given
+    → Finds proved p q s given lines v → after ≡ settled v s
     → Answering proved (s, p) entry lines (verdict_text v) (Some v) (after, q)
-answering_check true entry s p q lines v after step finds state = record {
+answering_check true entry s given p q lines v after step finds state = record {
   replies = subst (λ (t : meaning.Step). IsReply (FindsProved p q) t s lines (Some v) (verdict_text v) after) (sym step)
       (v, finds, refl, refl, state);
   keeps = tt;
 }
-answering_check false entry s p q lines v after step finds state = (
+answering_check false entry s given p q lines v after step finds state = (
   subst (λ (t : meaning.Step). IsReply FindsUnproved t s lines (Some v) (verdict_text v) after) (sym step)
       (v, finds.0, refl, refl, state),
   finds.1,
 )
 
-check_exits : (entry : Entry) (s : State) → step_of entry s ≡ meaning.checks [] → Go ≡ went_of entry
-check_exits entry s step = ap went_by (sym (ap is_exits step) ∙ entry_exits entry s)
+check_exits : (entry : Entry) (s : State) (given : List Assumption) → step_of entry s ≡ meaning.checks given
+    → Go ≡ went_of entry
+check_exits entry s given step = ap went_by (sym (ap is_exits step) ∙ entry_exits entry s)
 
 -- the state that is checked is the one before
 answers_check : (entry : Entry) (session before : SessionState) (after : State) (p q : Progress) (lines : List ℕ)
-    (v : Verdict) → (step_of entry (state_of session.stack) ≡ meaning.checks [])
+    (v : Verdict) → (step_of entry (state_of session.stack) ≡ meaning.checks (given_in before.stack))
     × (state_of before.stack ≡ state_of session.stack) → is_proved before ≡ is_proved session
-    → Finds (is_proved before) p q (state_of before.stack) lines v → after ≡ settled v (state_of before.stack)
+    → Finds (is_proved before) p q (state_of before.stack) (given_in before.stack) lines v
+    → after ≡ settled v (state_of before.stack)
     → Answers (is_proved session) (state_of session.stack, p) entry
     (with_lines lines ((out_port.Answers, verdict_text v) ∷ [])) (after, q)
 answers_check entry session before after p q lines v step kind finds state = record {
   lines = lines;
   reply = verdict_text v;
   found = Some v;
-  answered = answering_check (is_proved session) entry (state_of session.stack) p q lines v after step.0
-      (subst (λ (b : Bool). Finds b p q (state_of session.stack) lines v) kind
-      (subst (λ (s : State). Finds (is_proved before) p q s lines v) step.1 finds))
+  answered = answering_check (is_proved session) entry (state_of session.stack) (given_in before.stack) p q lines v
+      after step.0 (subst (λ (b : Bool). Finds b p q (state_of session.stack) (given_in before.stack) lines v) kind
+      (subst (λ (s : State). Finds (is_proved before) p q s (given_in before.stack) lines v) step.1 finds))
       (state ∙ ap (settled v) step.1);
   written = refl;
 }
 
 pub check_replies : (entry : Entry) (session before after : SessionState) (old new : Outside)
     → IsStep (step_of entry (state_of session.stack)) code.Check (state_of session.stack) (state_of before.stack)
+    → IsUnder (step_of entry (state_of session.stack)) code.Check (given_in before.stack)
     → is_proved before ≡ is_proved session → ((p : Progress) → IsTracked session p → IsTracked before p)
     → ((p : Progress) → IsTracked before p → AnswersCheck p before after old new)
     → (Go ≡ went_of entry) × AnswersEntry entry session after old new
-check_replies entry session before after old new is kind stays answers =
-    let step = by_check (step_of entry (state_of session.stack)) (state_of session.stack) (state_of before.stack) is
-    in (
-      check_exits entry (state_of session.stack) step.0,
+check_replies entry session before after old new is under kind stays answers =
+    let step = by_check (step_of entry (state_of session.stack)) (state_of session.stack) (state_of before.stack)
+    (given_in before.stack) is under in (
+      check_exits entry (state_of session.stack) (given_in before.stack) step.0,
       λ p tracked.
           let h = answers p (stays p tracked) in
           record {
@@ -199,9 +200,10 @@ check_replies entry session before after old new is kind stays answers =
 -- a check whose proof or answer is cut
 pub cut_check_reply : (entry : Entry) (session before : SessionState) (old new : Outside)
     → IsStep (step_of entry (state_of session.stack)) code.Check (state_of session.stack) (state_of before.stack)
+    → IsUnder (step_of entry (state_of session.stack)) code.Check (given_in before.stack)
     → is_proved before ≡ is_proved session → ((p : Progress) → IsTracked session p → IsTracked before p)
     → ((p : Progress) → IsTracked before p → (new ≡ old) ⊎ CutCheck p before old new) → CutOrNot entry session old new
-cut_check_reply entry session before old new is kind stays cuts p tracked = by_cut (cuts p (stays p tracked))
+cut_check_reply entry session before old new is under kind stays cuts p tracked = by_cut (cuts p (stays p tracked))
   where
     by_cut : (new ≡ old) ⊎ CutCheck p before old new → (new ≡ old) ⊎ CutReply p entry session old new
     by_cut (inl same) = inl same
@@ -209,8 +211,8 @@ cut_check_reply entry session before old new is kind stays cuts p tracked = by_c
       writes = with_lines h.lines ((out_port.Answers, verdict_text h.v) ∷ []);
       after = (settled h.v (state_of before.stack), h.progress);
       answers = answers_check entry session before (settled h.v (state_of before.stack)) p h.progress h.lines h.v
-          (by_check (step_of entry (state_of session.stack)) (state_of session.stack) (state_of before.stack) is) kind
-          h.finds refl;
+          (by_check (step_of entry (state_of session.stack)) (state_of session.stack) (state_of before.stack)
+          (given_in before.stack) is under) kind h.finds refl;
       cut = h.cut;
     })
 

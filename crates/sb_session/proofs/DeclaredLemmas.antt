@@ -8,10 +8,10 @@ use Rattle.sb_facts.proofs.CallerLemmas.{all_weaker, equal_itself, same_number}
 use Rattle.sb_meaning.specs.Terms.{boolean, integer, text, reglan}
 use Rattle.sb_meaning.specs.Sorts.{is_same_sort}
 use Rattle.sb_meaning.specs.Values.{Int, Text, Truth, Valuation, Value, default_of, is_of, value_in}
-use Rattle.sb_script.specs.Pieces.{constant_piece, word_piece}
 use Rattle.sb_script.specs.Steps as meaning
-use Rattle.sb_rulebook.specs.Atoms.{bool_atom, in_atom, le_atom, sum_atom, and_atom, iff_atom}
+use Rattle.sb_rulebook.specs.Atoms.{constants_in}
 use Rattle.sb_rulebook.specs.AtomRules.{is_declared}
+use Rattle.sb_solve.specs.SortedAtoms.{is_declared_constant}
 use Rattle.sb_sound.specs.ScriptLaws.{EntriesLeadOn, LeadsOn, has_default}
 use Rattle.sb_sound.specs.SoundLaws.{KeepsSorts}
 use Rattle.sb_sound.specs.TermLaws.{HasSorts}
@@ -100,16 +100,9 @@ module _ (before now : List Sort) (defaults : list_all has_default now ≡ true)
 atom_still : (before now : List Sort) → list_all has_default now ≡ true
     → ((v : Valuation) → HasSorts v now → HasSorts v before) → (a : AtomOver ℕ) → is_sorted before a ≡ true
     → is_sorted now a ≡ true
-atom_still before now defaults keeps (bool_atom serial) h = declared_still before now defaults keeps serial boolean h
-atom_still before now defaults keeps (in_atom (constant_piece serial ∷ []) r) h =
-    declared_still before now defaults keeps serial text h
-atom_still before now defaults keeps (in_atom [] r) h = refl
-atom_still before now defaults keeps (in_atom (word_piece w ∷ ps) r) h = refl
-atom_still before now defaults keeps (in_atom (constant_piece serial ∷ p ∷ ps) r) h = refl
-atom_still before now defaults keeps (le_atom x k) h = refl
-atom_still before now defaults keeps (sum_atom k ss) h = refl
-atom_still before now defaults keeps (and_atom ls) h = refl
-atom_still before now defaults keeps (iff_atom l m) h = refl
+atom_still before now defaults keeps a h =
+    all_weaker (is_declared_constant before) (is_declared_constant now)
+    (λ c there. declared_still before now defaults keeps c.0 c.1 there) (constants_in a) h
 
 -- An entry of a script.
 
@@ -121,7 +114,7 @@ keeps_by (meaning.leaves meaning.all reply s) old new (code.Left bytes count) h 
     subst (λ (t : State). KeepsSorts (asked_in old) (asked_in t) × IsFit t) (sym h.1.1) leads
 keeps_by (meaning.answers reply s) old new (code.Answer bytes) h fit leads =
     subst (λ (t : State). KeepsSorts (asked_in old) (asked_in t) × IsFit t) (sym h.1) (leads.0.sorts, leads.1)
-keeps_by (meaning.checks []) old new code.Check h fit leads =
+keeps_by (meaning.checks given) old new code.Check h fit leads =
     subst (λ (t : State). KeepsSorts (asked_in old) (asked_in t) × IsFit t) (sym h) (λ v has. has, fit)
 keeps_by (meaning.exits reply) old new (code.Exit bytes) h fit leads =
     subst (λ (t : State). KeepsSorts (asked_in old) (asked_in t) × IsFit t) (sym h.1) (λ v has. has, fit)

@@ -13,7 +13,7 @@ by_step (meaning.leaves what text s) old new (code.Left bytes level) h behind so
     ap (λ (t : State). is_sorted_state t) h.1.1 ∙ behind
 by_step (meaning.answers text s) old new (code.Answer bytes) h behind sorted =
     ap (λ (t : State). is_sorted_state t) h.1 ∙ behind
-by_step (meaning.checks []) old new code.Check h behind sorted = ap (λ (t : State). is_sorted_state t) h ∙ sorted
+by_step (meaning.checks given) old new code.Check h behind sorted = ap (λ (t : State). is_sorted_state t) h ∙ sorted
 by_step (meaning.exits text) old new (code.Exit bytes) h behind sorted =
     ap (λ (t : State). is_sorted_state t) h.1 ∙ sorted
 by_step _ old new _ h behind sorted = absurd h

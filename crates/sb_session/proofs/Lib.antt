@@ -7,6 +7,7 @@ pub mod ReadingLemmas
 pub mod TurnLemmas
 pub mod PieceLemmas
 mod DeclaredLemmas
+pub mod UndecidedLemmas
 pub mod EndLemmas
 pub mod ScriptLemmas
 pub mod SolveLemmas

@@ -23,9 +23,9 @@ pub use Rattle.sb_meaning.specs.Terms.{Sort, Term}
 pub use Rattle.sb_script.specs.Replies.{is_exit, step_of}
 pub use Rattle.sb_script.specs.Scripts.{Along, unfinished_line}
 pub use Rattle.sb_script.specs.SortedStates.{EntriesKeepSorts, is_sorted_behind, is_sorted_state}
-pub use Rattle.sb_script.specs.State.{State, live, plain}
+pub use Rattle.sb_script.specs.State.{Assumption, State, live, plain}
 pub use Rattle.sb_script.specs.Verdicts.{Finding, FindsUnproved, IsReply, IsVerdict, Verdict, is_outside, is_sat, is_unknown, is_unsat, settled, verdict_text}
-pub use Rattle.sb_rulebook.specs.Accepted.{asked_in, event_of_leaving, events_of, question_in}
+pub use Rattle.sb_rulebook.specs.Accepted.{asked_in, event_of_leaving, events_of}
 pub use Rattle.sb_rulebook.specs.Brought.{newest_format}
 pub use Rattle.sb_rulebook.specs.Judging.{Event, Phase, Progress, at_check, at_end, at_rest, beginning, behind_end, met, stopped}
 pub use Rattle.sb_rulebook.specs.LineLaws.{bytes_of}
@@ -33,6 +33,7 @@ pub use Rattle.sb_rulebook.specs.Lines.{end_line, header_line, text_of}
 pub use Rattle.sb_sound.proofs.CallerLemmas.{entry_exits, is_exits}
 pub use Rattle.sb_sound.specs.Certified.{CertifiesOn, FindsProved, behind, last_lines}
 pub use Rattle.sb_sound.specs.CertifiedLaws.{CertifiedIsAccepted, CertifiedToExitIsAccepted}
+pub use Rattle.sb_sound.specs.CountLaws.{LinesAreCounted}
 pub use Rattle.sb_sound.specs.ScriptLaws.{IsFit}
 pub use Rattle.sb_sound.specs.SoundLaws.{Continues}
 pub use Rattle.sb_proof.specs.Tapes.{with_bytes}
@@ -41,8 +42,8 @@ pub use Rattle.sb_rulebook.specs.Atoms.{AtomOver}
 pub use Rattle.sb_solve.specs.SortedAtoms.{is_sorted}
 pub use Rattle.sb_atoms.specs.Numbered.{HaveRegexesBelow}
 pub use Rattle.sb_stack.proofs.CallerLemmas.{live_laid}
-pub use Rattle.sb_stack.specs.Stacked.{IsLonger, Stacked, assertion_in, live_constants, state_of, without_words}
-pub use Rattle.sb_stack.specs.Steps.{IsEntry, IsMoved, IsStep, entry_of, found, leaving_in, verdict_in}
+pub use Rattle.sb_stack.specs.Stacked.{IsLonger, Stacked, assertion_in, given_in, live_constants, question_of, state_of, without_words}
+pub use Rattle.sb_stack.specs.Steps.{IsEntry, IsMoved, IsStep, IsUnder, entry_of, found, leaving_in, verdict_in}
 pub use Rattle.sb_stack.specs.declared.stack.Step.{Step}
 pub use Rattle.sb_store.specs.Stores.{Grows}
 pub use Rattle.sb_store.specs.declared.store.Store.{Store}
@@ -56,7 +57,7 @@ pub use Rattle.sb_session.specs.Commanding.{Answering, Answers, AnswersEntry, Co
 pub use Rattle.sb_session.specs.Pausing.{NoneLeft, Pauses, is_clean}
 pub use Rattle.sb_session.specs.Progress.{Sofar, status_by}
 pub use Rattle.sb_session.specs.Reading.{AllAnswered, Answered, Cut, CutBetween, GoesOn, IsAll, IsFront, UpToExit, beginnings, end_writes, unfinished_writes, work}
-pub use Rattle.sb_session.specs.Replying.{AnswersBy, AnswersUpTo, Asked, EndsBy, IsAnswered, IsAnsweredOn, IsCut, IsReadOf, IsTouched, MayFind, Reached, asked_by, asked_for, asks_proof}
+pub use Rattle.sb_session.specs.Replying.{AnswersBy, AnswersUpTo, Asked, EndsBy, IsAnswered, IsAnsweredOn, IsCut, IsReadOf, IsTouched, MayBeUndecided, MayFind, Reached, asked_by, asked_for, asks_proof, steps_allowed}
 pub use Rattle.sb_session.specs.Solve.{AnsweredToTheEnd, AnsweredToTheExit, AnsweredUnfinished, CountsFaults, CutInScript, CutShort, IsBounded, PastLimit, Run, created, opened}
 pub use Rattle.sb_session.specs.Underway.{AllRead, IsRead, StaysOpen, Underway}
 pub use Rattle.sb_session.specs.declared.command.Stop.{Stop}

@@ -3,7 +3,7 @@ use Rattle.std.specs.Prelude.{◌≡◌, ℕ, Bool, true, List, [], ◌∷◌, �
 use Rattle.sb_world.specs.Outside.{Outside}
 use Rattle.sb_reader.specs.Entries.{Entry, HoldsNoEntry, Begins}
 use Rattle.sb_script.specs.Replies.{is_exit}
-use Rattle.sb_rulebook.specs.Accepted.{Accepted}
+use Rattle.sb_rulebook.specs.Printed.{IsPrintedProof}
 use Rattle.sb_session.specs.Reading.{IsFront, IsAll}
 use Rattle.sb_session.specs.Replying.{Asked}
 use Rattle.sb_session.specs.Solve.{opened}
@@ -16,10 +16,10 @@ AreAllEntries o entries =
     × IsFront bytes o × (ended ≡ true → IsAll bytes o) × Begins ended bytes entries left
     × (entries ≡ before ++ exit ∷ []) × (is_exit exit ≡ true))
 
--- What is written to the proof's port is an accepted proof of the script.
+-- What is written to the proof's port is an accepted proof of the script, line by line.
 pub record IsCertified (asked : Asked) (old new : Outside) : Type 0 where
   pub entries : List Entry
   pub proof : List ℕ
   pub script : AreAllEntries (opened asked old) entries
   pub written : new.proof_out.written ≡ option_map (λ bytes. bytes ++ proof) (opened asked old).proof_out.written
-  pub accepted : Accepted entries proof
+  pub accepted : IsPrintedProof entries proof

@@ -4,7 +4,7 @@ use Rattle.sb_world.specs.Outside.{Outside}
 use Rattle.sb_world.specs.Moved.{moved_by, writing_all}
 use Rattle.sb_world.specs.declared.OutPort.TheVariants as out_port
 use Rattle.sb_script.specs.SortedStates.{is_sorted_state}
-use Rattle.sb_script.specs.State.{State}
+use Rattle.sb_script.specs.State.{State, Assumption}
 use Rattle.sb_script.specs.Verdicts.{Verdict, FindsUnproved, verdict_text, settled}
 use Rattle.sb_meaning.specs.Terms.{Term}
 use Rattle.sb_rulebook.specs.Accepted.{asked_in}
@@ -12,7 +12,7 @@ use Rattle.sb_rulebook.specs.Kept.{Asked}
 use Rattle.sb_rulebook.specs.Judging.{Event, Progress, met}
 use Rattle.sb_sound.specs.Certified.{behind, FindsProved}
 use Rattle.sb_prover.specs.Proving.{Proving, IsAbreast, HaveLevels, AreLow, leaving, GoesDown}
-use Rattle.sb_stack.specs.Stacked.{Stacked, state_of}
+use Rattle.sb_stack.specs.Stacked.{Stacked, state_of, given_in}
 use Rattle.sb_stack.specs.declared.verdict.Verdict as code
 use Rattle.sb_stack.specs.declared.verdict.Verdict.TheVariants as verdict
 use Rattle.sb_sound.specs.ScriptLaws.{IsFit}
@@ -77,35 +77,36 @@ abbrev pub IsKnown : code.Verdict → Type 0
 IsKnown verdict.Unknown = ⊥
 IsKnown _ = Unit {0}
 
--- a check finds a verdict, with the lines of its proof or without
-abbrev pub Finds : Bool → Progress → Progress → State → List ℕ → Verdict → Type 0
-Finds true before after s lines v = FindsProved before after s [] lines v
-Finds false before after s lines v = FindsUnproved s [] lines v × (after ≡ before)
+-- a check under these assumptions finds a verdict, with the lines of its proof or without
+abbrev pub Finds : Bool → Progress → Progress → State → List Assumption → List ℕ → Verdict → Type 0
+Finds true before after s given lines v = FindsProved before after s given lines v
+Finds false before after s given lines v = FindsUnproved s given lines v × (after ≡ before)
 
 -- The lines of the proof of a verdict are written, where a proof is.
-pub record ProvesCheck (s : State) (v : Verdict) (p : Progress) (proved : Bool) (after : SessionState)
-    (old new : Outside) : Type 0
+pub record ProvesCheck (s : State) (given : List Assumption) (v : Verdict) (p : Progress) (proved : Bool)
+    (after : SessionState) (old new : Outside) : Type 0
   where
     pub lines : List ℕ
     pub progress : Progress
-    pub finds : Finds proved p progress s lines v
+    pub finds : Finds proved p progress s given lines v
     pub tracked : IsTracked after progress
     pub outside : new ≡ moved_by (writing_all (with_lines lines [])) old
 
 -- Less than all of the lines is written, or nothing.
-pub record CutProof (s : State) (p : Progress) (proved : Bool) (old new : Outside) : Type 0 where
-  pub v : Verdict
-  pub lines : List ℕ
-  pub progress : Progress
-  pub finds : Finds proved p progress s lines v
-  pub cut : CutOf (with_lines lines []) old new
+pub record CutProof (s : State) (given : List Assumption) (p : Progress) (proved : Bool) (old new : Outside) : Type 0
+  where
+    pub v : Verdict
+    pub lines : List ℕ
+    pub progress : Progress
+    pub finds : Finds proved p progress s given lines v
+    pub cut : CutOf (with_lines lines []) old new
 
 -- A check is answered, with the lines of its proof in front.
 pub record AnswersCheck (p : Progress) (session after : SessionState) (old new : Outside) : Type 0 where
   pub v : Verdict
   pub lines : List ℕ
   pub progress : Progress
-  pub finds : Finds (is_proved session) p progress (state_of session.stack) lines v
+  pub finds : Finds (is_proved session) p progress (state_of session.stack) (given_in session.stack) lines v
   pub state : state_of after.stack ≡ settled v (state_of session.stack)
   pub tracked : IsTracked after progress
   pub outside : new ≡ moved_by (writing_all (with_lines lines ((out_port.Answers, verdict_text v) ∷ []))) old
@@ -115,5 +116,5 @@ pub record CutCheck (p : Progress) (session : SessionState) (old new : Outside) 
   pub v : Verdict
   pub lines : List ℕ
   pub progress : Progress
-  pub finds : Finds (is_proved session) p progress (state_of session.stack) lines v
+  pub finds : Finds (is_proved session) p progress (state_of session.stack) (given_in session.stack) lines v
   pub cut : CutOf (with_lines lines ((out_port.Answers, verdict_text v) ∷ [])) old new

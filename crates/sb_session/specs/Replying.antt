@@ -1,6 +1,6 @@
 -- What a run reads and answers, by its status. Nothing is said here of a proof, nor in what this file names: who relies
 -- on the answers alone may stop here.
-use Rattle.std.specs.Prelude.{◌≡◌, ℕ, ◌<◌, ◌≤◌, Bool, true, false, List, [], ◌∷◌, ◌++◌, ◌⊎◌, length, Option, is_some, IfSome}
+use Rattle.std.specs.Prelude.{◌≡◌, ℕ, ◌-◌, ◌^◌, ◌<◌, ◌≤◌, Bool, true, false, ◌==◌, if◌then◌else◌, List, [], ◌∷◌, ◌++◌, ◌⊎◌, length, Option, is_some, IfSome}
 use Rattle.sb_world.specs.Outside.{Outside, open_at, read_at, write_at, source_of}
 use Rattle.sb_world.specs.declared.InPort.TheVariants as in_port
 use Rattle.sb_world.specs.declared.OutPort.TheVariants as out_port
@@ -9,7 +9,8 @@ use Rattle.sb_reader.specs.Entries.{Entry, HoldsNoEntry, Begins}
 use Rattle.sb_script.specs.State.{State, start}
 use Rattle.sb_script.specs.Replies.{is_exit}
 use Rattle.sb_script.specs.Scripts.{Along, unfinished_line}
-use Rattle.sb_script.specs.Verdicts.{Verdict, IsVerdict, Finding, FindsUnproved, Replies}
+use Rattle.sb_script.specs.Fragment.{in_fragment}
+use Rattle.sb_script.specs.Verdicts.{Verdict, is_unknown, IsVerdict, Finding, Replies}
 use Rattle.sb_words.specs.SolverWords.{script_of, proof_of}
 use Rattle.sb_session.specs.declared.solve.SolveStatus.{SolveStatus}
 use Rattle.sb_session.specs.declared.solve.SolveStatus.TheVariants.{Done, Unfinished, Usage, Fault, NoMemory, InputLimit}
@@ -40,22 +41,34 @@ abbrev pub IsReadOf : Option (List ℕ) → List ℕ → Bool → Type 0
 IsReadOf source bytes ended =
     IfSome source (λ all. (rest : List ℕ) × (all ≡ bytes ++ rest) × (ended ≡ true → rest ≡ []))
 
--- What a check may find, whether a proof is written or not. Without one it finds a decision.
-abbrev pub MayFind : Bool → Finding
-MayFind true s given lines v = IsVerdict s given v
-MayFind false s given lines v = FindsUnproved s given [] v
+-- how many steps a check may have: 0 stands for 2^64 - 1
+abbrev pub steps_allowed : State → ℕ
+steps_allowed s = if s.options.resource_limit == 0 then 2 ^ 64 - 1 else s.options.resource_limit
+
+-- A check may be left undecided only where a proof is written, and has as many bytes as the check may have steps: each
+-- step has a line of it.
+abbrev pub MayBeUndecided : Bool → Option (List ℕ) → State → Type 0
+MayBeUndecided proved written s =
+    (proved ≡ true) × IfSome written (λ bytes. steps_allowed s ≤ length bytes)
+
+-- What a check may find, where a proof is written, of which this is written in the end, or none is.
+abbrev pub MayFind : Bool → Option (List ℕ) → Finding
+MayFind proved written s given lines is_unknown = (in_fragment s ≡ true) × MayBeUndecided proved written s
+MayFind proved written s given lines v = IsVerdict s given v
 
 -- a reply that the entry may have in this state, and the state after it
-abbrev pub IsAnswered : Bool → State → Entry → List ℕ → State → Type 0
-IsAnswered proved s entry reply after =
-    (found : Option Verdict) × Replies (MayFind proved) s entry [] found reply after
+abbrev pub IsAnswered : Bool → Option (List ℕ) → State → Entry → List ℕ → State → Type 0
+IsAnswered proved written s entry reply after =
+    (found : Option Verdict) × Replies (MayFind proved written) s entry [] found reply after
 
 -- such a reply to an entry behind which the run goes on
-abbrev pub IsAnsweredOn : Bool → State → Entry → List ℕ → State → Type 0
-IsAnsweredOn proved s entry reply after = (is_exit entry ≡ false) × IsAnswered proved s entry reply after
+abbrev pub IsAnsweredOn : Bool → Option (List ℕ) → State → Entry → List ℕ → State → Type 0
+IsAnsweredOn proved written s entry reply after =
+    (is_exit entry ≡ false) × IsAnswered proved written s entry reply after
 
--- How far a run has come in its script: these bytes were read, and the entries in front of them have these answers.
-pub record Reached (proved : Bool) (source : Option (List ℕ)) : Type 0 where
+-- How far a run has come in its script: these bytes were read, and the entries in front of them have these answers. Of
+-- a proof this is written in the end.
+pub record Reached (proved : Bool) (written source : Option (List ℕ)) : Type 0 where
   pub bytes : List ℕ
   pub ended : Bool
   pub entries : List Entry
@@ -64,33 +77,37 @@ pub record Reached (proved : Bool) (source : Option (List ℕ)) : Type 0 where
   pub state : State
   pub read : IsReadOf source bytes ended
   pub begins : Begins ended bytes entries left
-  pub along : Along (IsAnsweredOn proved) start entries answers state
+  pub along : Along (IsAnsweredOn proved written) start entries answers state
 
 -- The next entry is whole in what was read, and may have this reply.
-pub record IsNext {proved : Bool} {source : Option (List ℕ)} (r : Reached proved source) (reply : List ℕ) : Type 0
+pub record IsNext {proved : Bool} {written source : Option (List ℕ)} (r : Reached proved written source)
+    (reply : List ℕ) : Type 0
   where
     pub entry : Entry
     pub behind : List ℕ
     pub after : State
     pub begins : Begins r.ended r.bytes (r.entries ++ entry ∷ []) behind
-    pub answered : IsAnswered proved r.state entry reply after
+    pub answered : IsAnswered proved written r.state entry reply after
 
 -- The script has ended, and each of its entries is answered; it ends outside a form, or within one.
-abbrev pub IsAtEnd : {proved : Bool} {source : Option (List ℕ)} → Reached proved source → Bool → Type 0
+abbrev pub IsAtEnd : {proved : Bool} {written source : Option (List ℕ)} → Reached proved written source → Bool
+    → Type 0
 IsAtEnd r clean = (r.ended ≡ true) × HoldsNoEntry true r.left × (is_open_gap r.left ≡ clean)
 
 -- what may be written next: a reply to the next entry, or the line for a script that ends within a form
-abbrev pub ComesNext : {proved : Bool} {source : Option (List ℕ)} → Reached proved source → List ℕ → Type 0
+abbrev pub ComesNext : {proved : Bool} {written source : Option (List ℕ)} → Reached proved written source → List ℕ
+    → Type 0
 ComesNext r whole = IsNext r whole ⊎ (IsAtEnd r false × (whole ≡ unfinished_line))
 
 -- nothing more is written, or a front of what may come next
-abbrev pub IsCut : {proved : Bool} {source : Option (List ℕ)} → Reached proved source → List ℕ → Type 0
+abbrev pub IsCut : {proved : Bool} {written source : Option (List ℕ)} → Reached proved written source → List ℕ
+    → Type 0
 IsCut r last =
     (last ≡ []) ⊎ ((whole : List ℕ) × (rest : List ℕ) × ComesNext r whole × (whole ≡ last ++ rest))
 
 -- Where a run ends, by its status, and what it writes there last.
-abbrev pub EndsBy : {proved : Bool} {source : Option (List ℕ)} → SolveStatus → ℕ → Reached proved source → List ℕ
-    → Type 0
+abbrev pub EndsBy : {proved : Bool} {written source : Option (List ℕ)} → SolveStatus → ℕ
+    → Reached proved written source → List ℕ → Type 0
 EndsBy Done limit r last =
     (IsAtEnd r true × (length r.bytes < limit) × (last ≡ []))
     ⊎ ((exit : IsNext r last) × (is_exit exit.entry ≡ true) × (length r.bytes ≤ limit))
@@ -111,7 +128,7 @@ IsTouched asked count bytes old new =
 
 -- The run comes so far, and writes the answers so far, and this last.
 pub record AnswersUpTo (asked : Asked) (status : SolveStatus) (old new : Outside) : Type 0 where
-  pub reached : Reached (asks_proof asked) (source_of asked.script old)
+  pub reached : Reached (asks_proof asked) new.proof_out.written (source_of asked.script old)
   pub last : List ℕ
   pub ends : EndsBy status asked.limit reached last
   pub touched : IsTouched asked (length reached.bytes) (reached.answers ++ last) old new

@@ -6,7 +6,7 @@ ghost use Rattle.sb_world.specs.Moved.{moved_by, writing_all};
 ghost use Rattle.sb_script.specs.State.{start};
 ghost use Rattle.sb_script.specs.Verdicts.{FindsUnproved};
 ghost use Rattle.sb_rulebook.specs.Judging.{Progress, beginning};
-ghost use Rattle.sb_stack.specs.Stacked.{state_of, live_constants, without_words};
+ghost use Rattle.sb_stack.specs.Stacked.{state_of, given_in, live_constants, without_words};
 ghost use Rattle.sb_stack.specs.Steps.{IsEntry, entry_of, verdict_in, found};
 ghost use Rattle.sb_store.specs.Stores.{KnowsMore};
 ghost use Rattle.sb_decide.specs.Ready.{IsDecided};
@@ -372,8 +372,8 @@ fn answer_check<W: World>(
     Ok(())
 }
 
-/// The verdict of a check of which this is known. Writes the lines that prove it, where a proof is written; without one
-/// it is `Spent` where it would take more steps than a check may have.
+/// The verdict of a check of which this is known, under the assumptions of the stack. Writes the lines that prove it,
+/// where a proof is written; without one it is `Spent` where it would take more steps than a check may have.
 fn find_verdict<W: World>(
     alloc: Global,
     stack: &mut Stack,
@@ -390,14 +390,14 @@ fn find_verdict<W: World>(
     ensures rest { without_words stack.new ≡ without_words stack.old }
     ensures ok { IfOk result
         (λ v. (p : Progress) → IsTracked (session_of stack.old decider.old (proof_of proved prover.old)) p
-        → ProvesCheck (state_of stack.old) (verdict_in (live_constants stack.old) v) p
+        → ProvesCheck (state_of stack.old) (given_in stack.old) (verdict_in (live_constants stack.old) v) p
         (is_some (proof_of proved prover.old)) (session_of stack.old decider.new (proof_of proved prover.new))
         (W.outside world.old) (W.outside world.new)) }
     ensures err { OnErr result
         ((p : Progress) → IsTracked (session_of stack.old decider.old (proof_of proved prover.old)) p
         → (W.outside world.new ≡ W.outside world.old)
-        ⊎ CutProof (state_of stack.old) p (is_some (proof_of proved prover.old)) (W.outside world.old)
-        (W.outside world.new)) }
+        ⊎ CutProof (state_of stack.old) (given_in stack.old) p (is_some (proof_of proved prover.old))
+        (W.outside world.old) (W.outside world.new)) }
     ensures spent { IfErr result (λ stop. stop ≡ Stop.Spent → proved ≡ false) }
     ensures faults { CountsStop result (W.faults world.old) (W.faults world.new) }
 {
@@ -429,7 +429,7 @@ fn find_unproved(
     requires decided { IsDecided decider.old stack.old decided }
     ensures finds { IfOk result
         (λ answer. IfSome answer
-        (λ v. FindsUnproved (state_of stack.old) [] [] (verdict_in (live_constants stack.old) v))) }
+        (λ v. FindsUnproved (state_of stack.old) (given_in stack.old) [] (verdict_in (live_constants stack.old) v))) }
     ensures held { IfOk result
         (λ answer. IfSome answer (λ v. Holds (found v stack.new) decider.new prover.new)) }
     ensures spent { IfOk result (λ answer. answer ≡ None → budget.new.spent ≡ 2 ^ 64 - 1) }
@@ -450,7 +450,7 @@ fn if_known(verdict: Verdict) -> Option<Verdict>
 {
     match verdict {
         Verdict::Sat { words, truths } => Some(Verdict::Sat { words, truths }),
-        Verdict::Unsat => Some(Verdict::Unsat),
+        Verdict::Unsat(assumptions) => Some(Verdict::Unsat(assumptions)),
         Verdict::Unknown => None,
         Verdict::Outside => Some(Verdict::Outside),
     }

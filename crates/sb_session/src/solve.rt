@@ -22,6 +22,7 @@ ghost use Rattle.sb_session.specs.Solve.{created, opened, Run, WrongWords, Count
 use crate::command::{Session, Stop, Went};
 use sb_reader::{Ending, Feed, Next};
 use sb_sound::certified::{certified_is_accepted, certified_to_exit_is_accepted};
+use sb_sound::counts::lines_are_counted;
 use sb_words::NoRun;
 use sb_words::solver::read_words;
 use sb_world::{InPort, OutPort, World, WorldError, write_all};
@@ -118,6 +119,7 @@ pub fn solve_within<W: World>(
 {
     certified_is_accepted();
     certified_to_exit_is_accepted();
+    lines_are_counted();
     match read_words(alloc, words) {
         Ok(asked) => status_of(answer_files(alloc, asked.script, asked.proof, limit, world)),
         Err(NoRun::Told(text)) => status_of(refuse_words(text.as_bytes(), world)),

@@ -123,7 +123,8 @@ returns-in_err-answer_check-in-Check-clause-err g c =
     rw p.1
     (cut_check_reply (entry_of c.args.entry.now) (session_of c.args.stack.now c.args.decider.now proof)
     (session_of c.apply.new.self c.args.decider.now proof) (g.W.World.outside c.args.world.now)
-    (g.W.World.outside c.answer_check.new.world) (rw c.in-Check.is at c.in_ok-text.ensures.ok) refl (λ p h. h)
+    (g.W.World.outside c.answer_check.new.world) (rw c.in-Check.is at c.in_ok-text.ensures.ok)
+    (rw c.in-Check.is at c.in_ok-text.ensures.given) refl (λ p h. h)
     c.in_err-answer_check-in-Check.ensures.err)
 
 pub returns-in_ok-answer_check-in-Check-clause-ok : goal.returns-in_ok-answer_check-in-Check-clause-ok
@@ -133,7 +134,8 @@ returns-in_ok-answer_check-in-Check-clause-ok g c =
     (session_of c.apply.new.self c.args.decider.now proof)
     (session_of c.answer_check.new.stack c.answer_check.new.decider (proof_of c.args.proved c.answer_check.new.prover))
     (g.W.World.outside c.args.world.now) (g.W.World.outside c.answer_check.new.world)
-    (rw c.in-Check.is at c.in_ok-text.ensures.ok) refl (λ p h. h) c.in_ok-answer_check-in-Check.ensures.ok
+    (rw c.in-Check.is at c.in_ok-text.ensures.ok) (rw c.in-Check.is at c.in_ok-text.ensures.given) refl (λ p h. h)
+    c.in_ok-answer_check-in-Check.ensures.ok
 
 -- Where levels are left.
 

@@ -1,4 +1,4 @@
-use Rattle.sb_session.proofs.Words.{[], sym, subst, HasSpent, Holds, IsVerdict, found, live_constants, state_of, verdict_in}
+use Rattle.sb_session.proofs.Words.{sym, subst, HasSpent, Holds, IsVerdict, found, given_in, live_constants, state_of, verdict_in}
 use Rattle.sb_stack.specs.declared.verdict.Verdict.{Verdict}
 use Rattle.sb_session.proofs.CheckLemmas.{known_finds, held_found, some_weaker}
 use Rattle.sb_session.proofs.command.find_unproved.Goals as goal
@@ -20,9 +20,9 @@ pub returns-clause-finds : goal.returns-clause-finds
 returns-clause-finds c =
     some_weaker c.if_known.result _ _
     (λ v known.
-    known_finds (state_of c.args.stack.now) (live_constants c.args.stack.now) v known.1
-    (subst (λ (w : Verdict). IsVerdict (state_of c.args.stack.now) [] (verdict_in (live_constants c.args.stack.now) w))
-    (sym known.0) c.in-Ok.ensures.verdict))
+    known_finds (state_of c.args.stack.now) (given_in c.args.stack.now) (live_constants c.args.stack.now) v known.1
+    (subst (λ (w : Verdict). IsVerdict (state_of c.args.stack.now) (given_in c.args.stack.now)
+    (verdict_in (live_constants c.args.stack.now) w)) (sym known.0) c.in-Ok.ensures.verdict))
     c.if_known.ensures.some
 
 pub returns-clause-held : goal.returns-clause-held

@@ -26,7 +26,7 @@ returns-in-Ok-clause-answers g c taken =
     let old = g.W.World.outside c.args.world.now in
     let new = g.W.World.outside c.answer_files.new.world in
     subst (λ (s : SolveStatus). AnswersBy (asked_by words c.args.limit) s old new) (sym c.status_of.ensures)
-    (answers_of (asked_by words c.args.limit) (status_by c.answer_files.result) old new
+    (answers_of c.lines_are_counted.ensures (asked_by words c.args.limit) (status_by c.answer_files.result) old new
     (run_asked words (option_copied asked.script) (option_copied asked.proof) c.args.limit c.answer_files.result old new
     (g.W.World.faults c.args.world.now) (g.W.World.faults c.answer_files.new.world) c.in-Ok.ensures.script
     c.in-Ok.ensures.proof e.ok e.err))
