@@ -10,6 +10,7 @@ use Rattle.sb_session.specs.Replying.{Asked, asked_by, asks_proof}
 use Rattle.sb_session.specs.Solve.{opened, IsBounded}
 use Rattle.sb_session.specs.Certifying.{AreAllEntries, IsCertified}
 use Rattle.sb_rulebook.specs.Accepted.{Accepted}
+use Rattle.sb_rulebook.specs.PrintedLaws.{PrintedProofIsAccepted}
 use Rattle.sb_sound.specs.Outcomes.{AreEntriesOf}
 use Rattle.sb_sound.specs.OutcomeLaws.{SolvedEntries, WholeEntries}
 use Rattle.sb_both.specs.Runs.{Proves, script_name, solver_words, of_solver}
@@ -66,13 +67,13 @@ written_is o before written proof old new =
     ap (λ (w : Option (List ℕ)). unwrap_or w [])
     (new ∙ ap (λ (w : Option (List ℕ)). option_map behind (option_map emptied w)) old)
 
-pub proved : SolvedEntries → WholeEntries → (s : SolveStatus) (words : List (List ℕ)) (old new : Outside)
+pub proved : SolvedEntries → WholeEntries → PrintedProofIsAccepted → (s : SolveStatus) (words : List (List ℕ)) (old new : Outside)
     (script before : List ℕ) → words ≡ solver_words → old.file script_name ≡ Some script
     → old.proof_out.written ≡ Some before
     → (are_taken words ≡ true → asks_proof (asked_by words (2 ^ 32)) ≡ true → IsAnswered s
     → IsCertified (asked_by words (2 ^ 32)) old new)
     → IsAnswered s → (proof : List ℕ) → new.proof_out.written ≡ Some proof → Proves script proof
-proved to_exit whole s words old new script before words_are held was certified answered proof written =
+proved to_exit whole accepts s words old new script before words_are held was certified answered proof written =
     let asked = ap (λ (ws : List (List ℕ)). asked_by ws (2 ^ 32)) words_are ∙ solver_asks in
     let made : IsCertified of_solver old new =
     subst (λ (asked : Asked). IsCertified asked old new) asked
@@ -81,5 +82,6 @@ proved to_exit whole s words old new script before words_are held was certified 
       entries = made.entries;
       all = entries_of to_exit whole script (opened of_solver old) made.entries held made.script;
       accepted = subst (λ (bytes : List ℕ). Accepted made.entries bytes)
-          (sym (written_is old before proof made.proof was (sym written ∙ made.written))) made.accepted;
+          (sym (written_is old before proof made.proof was (sym written ∙ made.written)))
+          (accepts made.entries made.proof made.accepted);
     }

@@ -4,7 +4,8 @@ use Rattle.sb_reader.specs.Entries.{Entry}
 use Rattle.sb_script.specs.State as state
 use Rattle.sb_rulebook.specs.Lines.{Said}
 use Rattle.sb_rulebook.specs.Reading.{texts_of}
-use Rattle.sb_rulebook.specs.Judging.{beginning, accepted, judged}
+use Rattle.sb_rulebook.specs.Judging.{beginning, accepted}
+use Rattle.sb_rulebook.specs.JudgingTexts.{judged}
 use Rattle.sb_rulebook.specs.Accepted.{events}
 use Rattle.sb_sound.specs.TruthLaws.{AreTrue}
 use Rattle.sb_sound.specs.Outcomes.{AreEntriesOf}

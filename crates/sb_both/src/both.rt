@@ -7,6 +7,7 @@ ghost use Rattle.sb_both.specs.Both.{IsConfirmed};
 ghost use Rattle.sb_both.specs.Runs.{Proves};
 
 use sb_check::{CheckStatus, check_top};
+use sb_rulebook::laws::printed_proof_is_accepted;
 use sb_session::{SolveStatus, solve_top};
 use sb_sound::outcome::solved_entries;
 use sb_world::{CalmWorld, OutPort};
@@ -52,6 +53,7 @@ fn solve(alloc: Global, script: &[u8], world: &mut CalmWorld) -> Result<SolveSta
         → Proves script.now proof) }
 {
     solved_entries();
+    printed_proof_is_accepted();
     let words = words_of(alloc, &["strsolve", "--proof", PROOF, SCRIPT])?;
     world.add_file(SCRIPT, script)?;
     Ok(solve_top(alloc, &words, world))

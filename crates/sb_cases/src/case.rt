@@ -18,7 +18,7 @@ pub enum Kind {
     Both,
     /// The solver, over a world where nothing fails.
     Calm,
-    /// The solver, and the checker behind it, by one call over worlds of its own.
+    /// The solver, and the checker behind it over the proof that came, each over a world where nothing fails.
     Confirmed,
     /// A session, entry by entry, without the solver's loop over the bytes of a world.
     Session,

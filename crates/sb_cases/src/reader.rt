@@ -2,19 +2,20 @@
 //!
 //! A line that begins with `== ` or `-- ` is a head. `== KIND NAME` begins a case, whose name says what it shows and is
 //! the only one of its kind and name in the file. The kinds are `solve`, `check`, `both`, `calm` (the solver, over a
-//! world where nothing fails), `confirmed` (the solver, and the checker behind it, by one call over worlds of its own;
-//! the status is the solver's, the checker is to accept, and the answers are not looked at) and `session` (the entries
-//! of the script, handed to a session one by one, also those behind an exit; its status is `done`, `exited` or `ended`,
-//! as the last entry was answered, was an exit, or came behind one). Behind a head `-- ..` comes its block: the lines up to the next head, each with its line feed, without
-//! the blank lines at the block's end. A head that has no block may have blank lines and comments, which begin with `#`.
-//! What is set holds for the later runs of the case too, unless it is said here to be for one run.
+//! world where nothing fails), `confirmed` (the solver, and the checker behind it over the proof that came, each over a
+//! world where nothing fails; the status is the solver's, the checker is to accept, and the answers are not looked at)
+//! and `session` (the entries of the script, handed to a session one by one, also those behind an exit; its status is
+//! `done`, `exited` or `ended`, as the last entry was answered, was an exit, or came behind one). Behind a head `-- ..`
+//! comes its block: the lines up to the next head, each with its line feed, without the blank lines at the block's end.
+//! A head that has no block may have blank lines and comments, which begin with `#`. What is set holds for the later
+//! runs of the case too, unless it is said here to be for one run.
 //!
 //! Words of options stand last in the head of a block. `cut` drops the last line feed. With `escaped`, `\xhh` is the
 //! byte of this number, `\\` a backslash, a backslash at a line's end drops the line feed, and `\*N{TEXT}` is the text
 //! N times, which has no braces and no backslash. A line of a block that begins with `-- ` or `== ` is written escaped.
 //!
-//! - `-- script`: the script. `solve` has it on standard input, `check` and `both` in the file `s`. Without it the input
-//!   is empty, and there is no such file.
+//! - `-- script`: the script. `solve` and `calm` have it on standard input, `check`, `both` and `confirmed` in the file
+//!   `s`. Without it the input is empty, and there is no such file.
 //! - `-- proof`: in `check` the proof that is checked, the file `p`; else the one that is to be written.
 //! - `-- change N M`: for one run lines N to M of the proof, from 1, are replaced by the block; `-- change N` is of one
 //!   line. An empty block leaves them out.

@@ -1,23 +1,23 @@
 //! Searches over the theory of memberships, where the steps end, and where no lines are put: what no script shows.
 
-ghost use Rattle.std.specs.Prelude.{◌≡◌, [], length};
+ghost use Rattle.std.specs.Prelude.{◌≡◌, [], true, length};
+ghost use Rattle.sb_rulebook.specs.Brought.{is_brought_atom};
 ghost use Rattle.sb_atoms.specs.Numbered.{HasRegexBelow, HaveRegexesBelow, atom_in};
 ghost use Rattle.sb_theory.specs.Strings.{Stands};
 
 use crate::regexes::regex;
 use indexmap::IndexSet;
-use sb_atoms::{Atom, AtomId, Atoms, gate_clauses};
+use sb_atoms::{AtomId, Atoms, gate_clauses};
 use sb_clauses::Engine;
 use sb_fragment::Measures;
 use sb_graph::Graph;
 use sb_lit::{Budget, Clause, Lit};
 use sb_plain::Plain;
 use sb_problem::Normals;
-use sb_proof::{MemTape, TapeFault};
+use sb_proof::{Atom, MemTape, Piece, TapeFault};
 use sb_regex::{Arena, RegexId};
 use sb_search::{Choices, Found, search};
 use sb_store::Store;
-use sb_term::Serial;
 use sb_theory::{Strings, WantedAtoms};
 use sb_trace::Trace;
 use smallvec::SmallVec;
@@ -294,8 +294,9 @@ fn put_regexes(
 }
 
 /// Adds an atom.
-fn add(arena: &Arena, atoms: &mut Atoms, atom: Atom) -> Result<(), AllocError>
+fn add(arena: &Arena, atoms: &mut Atoms, atom: Atom<RegexId>) -> Result<(), AllocError>
     requires atom { HasRegexBelow (length arena.now) (atom_in atom) }
+    requires brought { is_brought_atom (atom_in atom) ≡ true }
     requires atoms { HaveRegexesBelow (length arena.now) atoms.old }
     ensures { HaveRegexesBelow (length arena.now) atoms.new }
 {
@@ -317,7 +318,8 @@ fn add_said(
     match says {
         Says::In(serial, _) => {
             if id.number() < arena.len() {
-                return add(arena, atoms, Atom::In(Serial(*serial), id));
+                let pieces = SmallVec::from_buf(alloc, [Piece::Constant(*serial)]);
+                return add(arena, atoms, Atom::In(pieces, id));
             }
             Err(AllocError)
         }

@@ -12,7 +12,7 @@ returns-clause-answered c =
 
 pub returns-clause-proved : goal.returns-clause-proved
 returns-clause-proved c =
-    proved c.solved_entries.ensures.to_exit c.solved_entries.ensures.whole c.solve_top.result
-    (map string_bytes c.deref.result.now) (calm_outside c.add_file.new.self) (calm_outside c.solve_top.new.world)
+    proved c.solved_entries.ensures.to_exit c.solved_entries.ensures.whole c.printed_proof_is_accepted.ensures
+    c.solve_top.result (map string_bytes c.deref.result.now) (calm_outside c.add_file.new.self) (calm_outside c.solve_top.new.world)
     c.args.script.now _ (ap (map string_bytes) c.deref.ensures.value ∙ c.in_ok-words.ensures)
     c.in_ok-add_file.ensures.ok.added refl c.solve_top.ensures.certified

@@ -1,5 +1,6 @@
 //! Files of cases, gone through.
 
+use crate::programs::Programs;
 use crate::turns::Tally;
 use sb_cases::case::Case;
 use sb_cases::directive::Directive;
@@ -11,10 +12,10 @@ use std::{env, fs};
 
 /// Runs the cases of the files that the program's words name, and prints what differs. The exit status is 1 where a run
 /// differs, or where a file can't be read or understood.
-pub fn run(rt: HostRuntime) -> ExitCode {
+pub fn run<P: Programs>(rt: HostRuntime) -> ExitCode {
     let mut tally = Tally::new(rt);
     match words(rt) {
-        Ok(words) => run_files(rt, &words, &mut tally),
+        Ok(words) => run_files::<P>(rt, &words, &mut tally),
         Err(_) => tally.whole = false,
     }
     print_end(rt, &mut tally);
@@ -53,36 +54,41 @@ fn refuse(rt: HostRuntime, file: &str, line: usize, fault: Fault, tally: &mut Ta
 }
 
 /// Runs the cases of the files that are named behind the program.
-fn run_files(rt: HostRuntime, words: &[String], tally: &mut Tally) {
+fn run_files<P: Programs>(rt: HostRuntime, words: &[String], tally: &mut Tally) {
     if let [_, files @ ..] = words {
         for file in files {
-            run_file(rt, file.as_str(), tally);
+            run_file::<P>(rt, file.as_str(), tally);
         }
     }
 }
 
 /// Runs the cases of a file.
-fn run_file(rt: HostRuntime, file: &str, tally: &mut Tally) {
+fn run_file<P: Programs>(rt: HostRuntime, file: &str, tally: &mut Tally) {
     match fs::read_to_string(&rt, file) {
-        Ok(text) => run_text(rt, file, text.as_str(), tally),
+        Ok(text) => run_text::<P>(rt, file, text.as_str(), tally),
         Err(_) => refuse(rt, file, 0, Fault::Unread, tally),
     }
 }
 
 /// Runs the cases of the text of a file.
-fn run_text(rt: HostRuntime, file: &str, text: &str, tally: &mut Tally) {
+fn run_text<P: Programs>(rt: HostRuntime, file: &str, text: &str, tally: &mut Tally) {
     match lines_of(rt.alloc(), text) {
-        Ok(lines) => run_lines(rt, &lines, &mut Case::none(rt.alloc(), file), tally),
+        Ok(lines) => run_lines::<P>(rt, &lines, &mut Case::none(rt.alloc(), file), tally),
         Err(_) => refuse(rt, file, 0, Fault::NoMemory, tally),
     }
 }
 
 /// Runs the cases of the lines of a file, up to the first fault.
-fn run_lines<'a>(rt: HostRuntime, lines: &[&'a str], case: &mut Case<'a>, tally: &mut Tally) {
+fn run_lines<'a, P: Programs>(
+    rt: HostRuntime,
+    lines: &[&'a str],
+    case: &mut Case<'a>,
+    tally: &mut Tally,
+) {
     let mut number = 0usize;
     for line in lines {
         number = number.saturating_add(1);
-        if let Err(fault) = run_line(lines, number, line, case, tally) {
+        if let Err(fault) = run_line::<P>(lines, number, line, case, tally) {
             return refuse(rt, case.file, number, fault, tally);
         }
     }
@@ -92,7 +98,7 @@ fn run_lines<'a>(rt: HostRuntime, lines: &[&'a str], case: &mut Case<'a>, tally:
 }
 
 /// Takes in the line of this number, if it is a head, or stands in front of all heads.
-fn run_line<'a>(
+fn run_line<'a, P: Programs>(
     lines: &[&'a str],
     number: usize,
     line: &'a str,
@@ -100,7 +106,7 @@ fn run_line<'a>(
     tally: &mut Tally,
 ) -> Result<(), Fault> {
     if is_head(line) {
-        return run_head(line.trim_end(), lines, number, case, tally);
+        return run_head::<P>(line.trim_end(), lines, number, case, tally);
     }
     if number == 1 {
         return no_block(body_from(lines, 0));
@@ -109,7 +115,7 @@ fn run_line<'a>(
 }
 
 /// Takes in the head of this number with the lines behind it, and runs the case where it holds the answers.
-fn run_head<'a>(
+fn run_head<'a, P: Programs>(
     head: &'a str,
     lines: &[&'a str],
     number: usize,
@@ -125,12 +131,12 @@ fn run_head<'a>(
             case.ended()?;
             case.begin(names)
         }
-        None => take_directive(head, body, case, tally),
+        None => take_directive::<P>(head, body, case, tally),
     }
 }
 
 /// Takes in the head of a directive with the lines behind it, and runs the case where it holds the answers.
-fn take_directive<'a>(
+fn take_directive<'a, P: Programs>(
     head: &'a str,
     body: &[&str],
     case: &mut Case<'a>,
@@ -138,7 +144,7 @@ fn take_directive<'a>(
 ) -> Result<(), Fault> {
     let words = head.strip_prefix("-- ").unwrap_or("");
     match case.take(words, body)? {
-        Directive::Answers => tally.run(case),
+        Directive::Answers => tally.run::<P>(case),
         _ => Ok(()),
     }
 }

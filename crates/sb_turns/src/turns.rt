@@ -1,6 +1,8 @@
 //! The runs of a case, once or in turns.
 
-use crate::programs::{Stage, Turn, run};
+use crate::programs::Programs;
+use crate::runs::run;
+use crate::stage::{Stage, Turn};
 use sb_cases::case::{Case, Kind};
 use sb_cases::directive::Directive;
 use sb_cases::fault::Fault;
@@ -39,10 +41,10 @@ impl Tally {
     }
 
     /// Runs a case, once or in turns, and compares what comes with the answers and with what else is wanted.
-    pub fn run(&mut self, case: &mut Case) -> Result<(), Fault> {
+    pub fn run<P: Programs>(&mut self, case: &mut Case) -> Result<(), Fault> {
         may_fail(case)?;
         self.set_proof(case)?;
-        self.run_lengths(case)?;
+        self.run_lengths::<P>(case)?;
         case.pass();
         if case.is_whole() && self.stage.is_whole() {
             return Ok(());
@@ -60,27 +62,27 @@ impl Tally {
     }
 
     /// Runs a case for each number of bytes that a read gives at most.
-    fn run_lengths(&mut self, case: &Case) -> Result<(), Fault> {
+    fn run_lengths<P: Programs>(&mut self, case: &Case) -> Result<(), Fault> {
         if case.last(Directive::Pieces) > 0 {
-            self.run_up_to(case);
+            self.run_up_to::<P>(case);
             return Ok(());
         }
         if !case.has(Directive::Pieces) {
-            self.run_calls(usize::MAX, case);
+            self.run_calls::<P>(usize::MAX, case);
             return Ok(());
         }
-        if self.run_numbers(case.words(Directive::Pieces), case) {
+        if self.run_numbers::<P>(case.words(Directive::Pieces), case) {
             return Ok(());
         }
         Err(Fault::Pieces)
     }
 
     /// Runs a case for each of these numbers of bytes, and says whether they are numbers from 1 on.
-    fn run_numbers(&mut self, numbers: &str, case: &Case) -> bool {
+    fn run_numbers<P: Programs>(&mut self, numbers: &str, case: &Case) -> bool {
         let mut right = !numbers.is_empty();
         for word in numbers.split_whitespace() {
             match number(word) {
-                Some(length) if length > 0 => self.run_calls(length as usize, case),
+                Some(length) if length > 0 => self.run_calls::<P>(length as usize, case),
                 _ => right = false,
             }
         }
@@ -88,23 +90,23 @@ impl Tally {
     }
 
     /// Runs a case for each number of bytes from 1 up to the length of the script or of the proof.
-    fn run_up_to(&mut self, case: &Case) {
+    fn run_up_to<P: Programs>(&mut self, case: &Case) {
         let script = case.block(Directive::Script).len();
         let most = self.stage.proof.bytes().len().max(script);
         for length in 1..=most {
-            self.run_calls(length, case);
+            self.run_calls::<P>(length, case);
         }
     }
 
     /// Runs a case for each call that is to fail.
-    fn run_calls(&mut self, length: usize, case: &Case) {
+    fn run_calls<P: Programs>(&mut self, length: usize, case: &Case) {
         for fails in case.first(Directive::Fail)..=case.last(Directive::Fail) {
-            self.run_fronts(length, fails, case);
+            self.run_fronts::<P>(length, fails, case);
         }
     }
 
     /// Runs a case with the whole script and proof, or for each front of the script, or of the proof.
-    fn run_fronts(&mut self, length: usize, fails: u64, case: &Case) {
+    fn run_fronts<P: Programs>(&mut self, length: usize, fails: u64, case: &Case) {
         let script = case.block(Directive::Script).len();
         let proof = self.stage.proof.bytes().len();
         let turn = Turn {
@@ -114,29 +116,29 @@ impl Tally {
             end: proof,
         };
         if case.last(Directive::Cuts) > 0 {
-            return self.run_cuts(turn, case);
+            return self.run_cuts::<P>(turn, case);
         }
         if case.last(Directive::Fronts) == 0 {
-            return self.run_once(turn, case);
+            return self.run_once::<P>(turn, case);
         }
         for end in 0..proof {
-            self.run_once(Turn { end, ..turn }, case);
+            self.run_once::<P>(Turn { end, ..turn }, case);
         }
     }
 
     /// Runs a case for each front of the script.
-    fn run_cuts(&mut self, turn: Turn, case: &Case) {
+    fn run_cuts<P: Programs>(&mut self, turn: Turn, case: &Case) {
         for script in 0..turn.script {
-            self.run_once(Turn { script, ..turn }, case);
+            self.run_once::<P>(Turn { script, ..turn }, case);
         }
     }
 
     /// Runs a case once.
-    fn run_once(&mut self, turn: Turn, case: &Case) {
+    fn run_once<P: Programs>(&mut self, turn: Turn, case: &Case) {
         self.runs = self.runs.saturating_add(1);
         self.stage.turn = turn;
         self.stage.run.begin(case);
-        run(case, &mut self.stage);
+        run::<P>(case, &mut self.stage);
         self.end();
     }
 

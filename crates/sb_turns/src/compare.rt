@@ -1,7 +1,7 @@
 //! What is wanted of a run, compared with what came.
 
-use crate::programs::Turn;
 use crate::report::{Front, Run};
+use crate::stage::Turn;
 use sb_cases::case::{Case, Kind};
 use sb_cases::directive::Directive;
 use sb_world::{InPort, MemWorld, Opened, OutPort};
