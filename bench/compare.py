@@ -51,6 +51,9 @@ SIZES = {
     "levels": [25, 50, 100, 200],
     "denied-levels": [1250, 2500, 5000],
     "pairs": [250000, 500000, 1000000],
+    "assumed": [250, 500, 1000, 2000],
+    "assumed-rounds": [50, 100, 200, 400, 800],
+    "assumed-shrunk": [125, 250, 500],
 }
 here = os.path.dirname(os.path.abspath(__file__))
 program = os.path.join(here, "..", "crates", "strsolve", "out", "strsolve")
@@ -71,7 +74,7 @@ def run(command, path):
         _, status, used = os.wait4(started.pid, 0)
     answers = [line for line in text if line in ("sat", "unsat")]
     with open(path) as script:
-        checks = sum(line.count("(check-sat)") for line in script)
+        checks = sum(line.count("(check-sat)") + line.count("(check-sat-assuming ") for line in script)
     seconds = used.ru_utime + used.ru_stime
     return (seconds if len(answers) == checks else None), used.ru_maxrss / 1000, answers
 

@@ -50,6 +50,13 @@ And scripts of levels:
 each.
 `denied-levels`: so many levels, each with one more word that one of five constants is not, and a check.
 `pairs`: so many levels that are opened and left at once.
+
+And of checks under assumptions:
+`assumed`: so many assumptions, each of one more word that one constant is not, but for two that clash.
+`assumed-rounds`: 100 constants in rules that are assumed, and so many rounds of a check with one more assumption, of 100
+others that stand in front of one more rule each.
+`assumed-shrunk`: so many assumptions, of which two clash, and what a client asks that leaves out one after the other, as
+long as the others clash: so many checks.
 """
 import itertools
 import random
@@ -143,9 +150,13 @@ def checked_addresses(size):
 LETTERS = '(re.+ (re.union (re.range "a" "z") (re.range "0" "9") (str.to_re "-")))'
 
 
-def rule(name, number):
+def ruled(name, number):
     end = word("abcdefghijklmnopqrstuvwxyz", number, 3)
-    return f'(assert (str.in_re {name} (re.++ {LETTERS} (str.to_re "{end}") (re.* (re.range "a" "z")))))\n'
+    return f'(str.in_re {name} (re.++ {LETTERS} (str.to_re "{end}") (re.* (re.range "a" "z"))))'
+
+
+def rule(name, number):
+    return f"(assert {ruled(name, number)})\n"
 
 
 def rounds(size):
@@ -170,6 +181,52 @@ def denied_levels(size):
 
 def pairs(size):
     return "(push 1)\n(pop 1)\n" * size
+
+
+def switches(names):
+    return "".join(f"(declare-const {name} Bool)\n" for name in names)
+
+
+def assuming(names):
+    return f"(check-sat-assuming ({' '.join(names)}))\n"
+
+
+def two_that_clash(size):
+    """The switches of so many rules on one constant, of which those at the third of the size and at twice it clash."""
+    names = [f"p{number}" for number in range(size)]
+    letters = {size // 3: "a", 2 * size // 3: "b"}
+    text = switches(names)
+    for number, name in enumerate(names):
+        front = f"(re.++ {to_re(letters.get(number, ''))} re.all)"
+        rule = in_text("x", front) if number in letters else f'(not (= x "{letters_of(number)}"))'
+        text += f"(assert (=> {name} {rule}))\n"
+    return names, text
+
+
+def assumed(size):
+    names, text = two_that_clash(size)
+    return text + assuming(names)
+
+
+def assumed_rounds(size):
+    text = "".join(f"(declare-const y{number} String)\n" for number in range(100))
+    rules, more = [f"p{number}" for number in range(100)], [f"q{number}" for number in range(100)]
+    text += switches(rules + more)
+    for number in range(100):
+        text += f"(assert (=> {rules[number]} {ruled(f'y{number}', number)}))\n"
+        text += f"(assert (=> {more[number]} {ruled(f'y{number}', 7 * number)}))\n"
+    return text + "".join(assuming(rules + [more[number % 100]]) for number in range(size))
+
+
+def assumed_shrunk(size):
+    names, text = two_that_clash(size)
+    left, needed = list(names), {names[size // 3], names[2 * size // 3]}
+    for name in names:
+        fewer = [it for it in left if it != name]
+        text += assuming(fewer)
+        if name not in needed:
+            left = fewer
+    return text
 
 
 def fronts_and_ends(text):
@@ -479,6 +536,9 @@ FAMILIES = {
     "levels": levels,
     "denied-levels": denied_levels,
     "pairs": pairs,
+    "assumed": assumed,
+    "assumed-rounds": assumed_rounds,
+    "assumed-shrunk": assumed_shrunk,
 }
 
 if __name__ == "__main__":
