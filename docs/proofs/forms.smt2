@@ -1,5 +1,6 @@
 (declare-const p Bool)
-(check-sat-assuming (p))
+(check-sat-assuming p)
+(check-sat-assuming (true))
 (check-sat 1)
 (|check-sat|)
 (check-sat)

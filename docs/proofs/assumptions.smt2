@@ -1,0 +1,7 @@
+(declare-const p Bool)
+(declare-const q Bool)
+(assert (or (not p) (not q)))
+(check-sat-assuming (q p))
+(check-sat-assuming (p))
+(check-sat-assuming (p (not p)))
+(check-sat)

@@ -1,0 +1,6 @@
+(declare-const p Bool)
+(push)
+(assert (not p))
+(check-sat-assuming (p))
+(pop)
+(check-sat-assuming (p))

@@ -1,0 +1,5 @@
+(declare-const p Bool)
+(declare-const q Bool)
+(assert (or (not p) (not q)))
+(check-sat-assuming (p q))
+(check-sat-assuming (p (not q)))
