@@ -7,7 +7,7 @@ use Rattle.std.proofs.lemmas.Option.{same_Some}
 use Rattle.sb_facts.proofs.CallerLemmas.{all_weaker, equal_itself, same_number}
 use Rattle.sb_meaning.specs.Terms.{boolean, integer, text, reglan}
 use Rattle.sb_meaning.specs.Sorts.{is_same_sort}
-use Rattle.sb_meaning.specs.Values.{Int, Text, Truth, Valuation, Value, default_of, is_of, value_in}
+use Rattle.sb_meaning.specs.Values.{Text, Truth, Valuation, Value, default_of, is_of}
 use Rattle.sb_script.specs.Steps as meaning
 use Rattle.sb_rulebook.specs.Atoms.{constants_in}
 use Rattle.sb_rulebook.specs.AtomRules.{is_declared}

@@ -1,23 +1,23 @@
 -- A check that is left undecided has as many bytes of proof as it may have steps: each step is a line.
-use Rattle.std.proofs.Common.{◌≡◌, ◌⊎◌, ℕ, ◌+◌, ◌≤◌, ◌==◌, ◌&&◌, nat_le, nat_lt, Bool, true, false, if◌then◌else◌, List, [], ◌∷◌, ◌++◌, length, length-append, map, Option, Some, None, Result, Ok, Err, refl, sym, ap, ◌∙◌, subst, arith}
-use Rattle.std.proofs.lemmas.Bool.{and_parts, eqb-true, false≢true}
+use Rattle.std.proofs.Common.{◌≡◌, ℕ, ◌+◌, ◌≤◌, ◌==◌, ◌&&◌, nat_le, Bool, true, false, if◌then◌else◌, List, [], ◌∷◌, ◌++◌, length, length-append, map, Option, Some, None, Result, Ok, Err, refl, sym, ap, ◌∙◌, subst, arith}
+use Rattle.std.proofs.lemmas.Bool.{and_parts, eqb-true}
 use Rattle.std.proofs.lemmas.List.{same_from_push}
 use Rattle.sb_reader.specs.Entries.{Entry}
 use Rattle.sb_script.specs.State.{State, Assumption}
 use Rattle.sb_script.specs.Steps.{Step, answers, leaves, checks, exits, Leaving, above, all, line}
 use Rattle.sb_script.specs.Replies.{step_of}
-use Rattle.sb_script.specs.Verdicts.{Verdict, is_sat, is_unsat, is_unknown, is_outside, IsReply}
-use Rattle.sb_rulebook.specs.Refusals.{Refusal, misplaced, wrong_verdict, unknown_id, rule_broken}
+use Rattle.sb_script.specs.Verdicts.{Verdict, is_unknown, IsReply}
+use Rattle.sb_rulebook.specs.Refusals.{Refusal, misplaced, unknown_id}
 use Rattle.sb_rulebook.specs.Brought.{is_brought, newest_format}
 use Rattle.sb_rulebook.specs.Lines.{Line, header_line, verdict_line, Said, said_sat, said_unsat, said_unknown, said_unsupported, text_of}
 use Rattle.sb_rulebook.specs.LineLaws.{bytes_of}
-use Rattle.sb_rulebook.specs.Kept.{AllKept, Asked, most_counted, nothing_kept, count_again}
+use Rattle.sb_rulebook.specs.Kept.{AllKept, Asked, most_counted, nothing_kept}
 use Rattle.sb_rulebook.specs.Follows.{by_rule, follows, not_brought}
 use Rattle.sb_rulebook.specs.Verdicts.{Question, refusal_of, unless_wrong}
 use Rattle.sb_rulebook.specs.Judging.{Event, asks, Phase, at_rest, at_check, at_end, behind_end, stopped, Progress, met, meets, stop, takes_first, takes_verdict, takes_kept, takes_at_check, takes_in, take_line, is_at_check, goes_through}
 use Rattle.sb_rulebook.specs.Accepted.{asked_in, question_in, event_of_leaving, events_of}
 use Rattle.sb_sound.specs.CountLaws.{is_counted_line, LinesAreCounted}
-use Rattle.sb_sound.specs.Certified.{SaysVerdict, Proves, FindsProved, behind, KeepsStep, Certifies}
+use Rattle.sb_sound.specs.Certified.{SaysVerdict, FindsProved, behind, KeepsStep, Certifies}
 
 -- No check waits, and no more lines were counted than so many.
 pub record IsWithin (n : ℕ) (p : Progress) : Type 0 where
