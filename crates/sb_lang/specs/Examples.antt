@@ -142,6 +142,10 @@ star_before_path : regex_cmp (star none) (path none none) ≡ Less
 unfolding order
 star_before_path = refl
 
+first_part_of_path_first : regex_cmp (path a c) (path b a) ≡ Less
+unfolding order
+first_part_of_path_first = refl
+
 shorter_set_first : regex_cmp a (set ((0x61, 0x61) ∷ (0x70, 0x71) ∷ [])) ≡ Less
 unfolding order
 shorter_set_first = refl
@@ -237,6 +241,18 @@ path_from_anything_to_none : mkpath (neg none) none ≡ none
 unfolding constructors
 path_from_anything_to_none = refl
 
+path_from_none_to_anything : mkpath none (neg none) ≡ none
+unfolding constructors
+path_from_none_to_anything = refl
+
+path_from_anything_to_anything : mkpath (neg none) (neg none) ≡ neg none
+unfolding constructors
+path_from_anything_to_anything = refl
+
+path_to_none_stays : mkpath (star a) none ≡ path (star a) none
+unfolding constructors
+path_to_none_stays = refl
+
 -- The derivative.
 
 abbrev up_to_three : Regex
@@ -283,6 +299,32 @@ derivative_of_path : nd (path (star a) (star a)) 0x61 ≡ path (star a) (star a)
 unfolding derivative
 derivative_of_path = refl
 
+-- only the first part goes on: to the second, to none by another character, and to none where that is the second
+derivative_of_path_onto : nd (path (cat a b) b) 0x61 ≡ path b b
+unfolding derivative
+derivative_of_path_onto = refl
+
+derivative_of_path_elsewhere : nd (path (cat a b) b) 0x62 ≡ none
+unfolding derivative
+derivative_of_path_elsewhere = refl
+
+derivative_of_path_to_none : nd (path (star a) none) 0x62 ≡ neg none
+unfolding derivative
+derivative_of_path_to_none = refl
+
+-- A path goes by regexes and not by their languages: one without a word is not none.
+path_from_nothing_left : mkpath nothing_left none ≡ path nothing_left none
+unfolding derivative
+path_from_nothing_left = refl
+
+path_to_another_is_not_nullable : nullable (path nothing_left none) ≡ false
+unfolding derivative
+path_to_another_is_not_nullable = refl
+
+path_to_itself_is_nullable : nullable (path nothing_left nothing_left) ≡ true
+unfolding derivative
+path_to_itself_is_nullable = refl
+
 -- The language.
 
 language_of_concatenation : language (cat a (star b)) (0x61 ∷ 0x62 ∷ 0x62 ∷ []) ≡ true
@@ -304,6 +346,18 @@ language_of_path = refl
 language_of_path_elsewhere : language (path (star a) none) (0x61 ∷ []) ≡ false
 unfolding regex_language
 language_of_path_elsewhere = refl
+
+one_word_of_path : language (path (cat a b) b) (0x61 ∷ []) ≡ true
+unfolding regex_language
+one_word_of_path = refl
+
+no_longer_word_of_path : language (path (cat a b) b) (0x61 ∷ 0x62 ∷ []) ≡ false
+unfolding regex_language
+no_longer_word_of_path = refl
+
+no_empty_word_of_path : language (path nothing_left none) [] ≡ false
+unfolding regex_language
+no_empty_word_of_path = refl
 
 -- The normal regex.
 
@@ -361,3 +415,19 @@ touching_ranges_are_not_normal = refl
 bounds_out_of_order_are_not_normal : is_normal (rep a 3 2) ≡ false
 unfolding normal_form
 bounds_out_of_order_are_not_normal = refl
+
+path_is_normal : is_normal (path (cat a b) none) ≡ true
+unfolding normal_form
+path_is_normal = refl
+
+path_from_none_is_not_normal : is_normal (path none a) ≡ false
+unfolding normal_form
+path_from_none_is_not_normal = refl
+
+path_from_anything_is_not_normal : is_normal (path (neg none) (neg none)) ≡ false
+unfolding normal_form
+path_from_anything_is_not_normal = refl
+
+path_to_a_part_that_is_not_normal : is_normal (path (cat a b) (cat (cat a b) c)) ≡ false
+unfolding normal_form
+path_to_a_part_that_is_not_normal = refl

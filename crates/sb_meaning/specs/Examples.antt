@@ -101,6 +101,27 @@ difference_leans_left = refl
 not_all_distinct : holds (three symbol.core_distinct x y x) values ≡ false
 not_all_distinct = refl
 
+-- (= (str.++ x "b" y) "aabbbb"), (= (str.++ y x) (str.++ x y))
+joined_in_order : holds (two symbol.core_equal (three symbol.str_concat x (word (codes "b")) y) (word (codes "aabbbb")))
+    values ≡ true
+joined_in_order = refl
+
+not_the_other_way : holds (two symbol.core_equal (two symbol.str_concat y x) (two symbol.str_concat x y)) values ≡ false
+not_the_other_way = refl
+
+-- (str.in_re (str.++ "a" (str.++ x "")) (re.* (str.to_re "a"))), and a word that is joined in a regular expression
+joined_within : holds
+    (two symbol.str_in_re (two symbol.str_concat (word (codes "a")) (two symbol.str_concat x (word [])))
+    (one symbol.re_star (one symbol.str_to_re (word (codes "a"))))) values ≡ true
+unfolding in_re cut power some_up_to iterate
+joined_within = refl
+
+in_a_joined_word : holds
+    (two symbol.str_in_re x (one symbol.str_to_re (two symbol.str_concat (word (codes "a")) (word (codes "a"))))) values
+    ≡ true
+unfolding in_re cut power some_up_to iterate
+in_a_joined_word = refl
+
 -- (str.contains "abc" "bc"), (str.prefixof "bc" "abc"), (str.suffixof "bc" "abc")
 contains_a_part : holds (two symbol.str_contains (word (codes "abc")) (word (codes "bc"))) values ≡ true
 contains_a_part = refl

@@ -4,7 +4,6 @@ use Rattle.std.specs.Prelude.{ℕ, Bool, true, false, not, ◌&&◌, List, [], �
 use Rattle.sb_meaning.specs.Terms.{Sort, Symbol, Term, Terms, boolean, integer, text, reglan, constant, word, apply, no_terms, with_term, terms_in}
 use Rattle.sb_meaning.specs.Terms as symbol
 use Rattle.sb_meaning.specs.Sorts.{sort_of}
-use Rattle.sb_meaning.specs.Truth.{is_chain, are_pairs}
 use Rattle.sb_script.specs.Names.{Name, is_among}
 
 pub data Feature : Type 0 where
@@ -18,6 +17,8 @@ pub data Feature : Type 0 where
   -- the declaration of a function without arguments
   functions : Feature
   definitions : Feature
+  -- the literal of this live assertion, in a proof
+  a_statement_of : Term → Feature
   -- a check under this live assertion
   a_check_of : Term → Feature
   -- the proof of a check, so that the limits on sizes count, past which there is none
@@ -35,7 +36,6 @@ is_brought_symbol symbol.greater = false
 is_brought_symbol symbol.plus = false
 is_brought_symbol symbol.times = false
 is_brought_symbol symbol.minus = false
-is_brought_symbol symbol.str_concat = false
 is_brought_symbol symbol.str_len = false
 is_brought_symbol symbol.str_prefixof = false
 is_brought_symbol symbol.str_suffixof = false
@@ -47,12 +47,23 @@ is_brought_sort integer = false
 is_brought_sort reglan = false
 is_brought_sort _ = true
 
--- The term is a regular expression over literals: a word, a range, no word, every word, every character, or made of such
+-- The term is a word: a literal, or a concatenation of such.
+abbrev mutual
+  pub is_text : Term → Bool
+  is_text (word w) = true
+  is_text (apply symbol.str_concat terms) = are_texts terms
+  is_text _ = false
+
+  pub are_texts : Terms → Bool
+  are_texts no_terms = true
+  are_texts (with_term t ts) = is_text t && are_texts ts
+
+-- The term is a regular expression over words: a word, a range, no word, every word, every character, or made of such
 -- by concatenation, union, intersection, difference, complement, option, repetition, powers and loops.
 abbrev mutual
   pub is_regex : Term → Bool
-  is_regex (apply symbol.str_to_re (with_term (word s) no_terms)) = true
-  is_regex (apply symbol.re_range (with_term (word s) (with_term (word t) no_terms))) = true
+  is_regex (apply symbol.str_to_re (with_term t no_terms)) = is_text t
+  is_regex (apply symbol.re_range (with_term s (with_term t no_terms))) = is_text s && is_text t
   is_regex (apply symbol.re_none no_terms) = true
   is_regex (apply symbol.re_all no_terms) = true
   is_regex (apply symbol.re_allchar no_terms) = true
@@ -90,25 +101,23 @@ asked _ = None
 abbrev pub is_membership : Term → Bool
 is_membership t = elim (asked t) [ Some p ↦ is_regex p.1 | None ↦ false ]
 
--- Boolean structure over such terms, and over Bool constants: what is to be decided of it, whatever the sizes are. Of
--- String terms that are compared each two that count are a constant and the word of a literal.
-abbrev pub is_pair : Term → Term → Bool
-is_pair t u = is_membership (apply symbol.core_equal (with_term t (with_term u no_terms)))
+-- Boolean structure over memberships of String terms in such regular expressions, over String terms that are compared,
+-- and over Bool constants, whatever stands in the String terms, and whatever the sizes are: that is for the rules of the
+-- fragment.
 
-abbrev pub are_several : List Term → Bool
-are_several (t ∷ u ∷ ts) = true
-are_several _ = false
-
--- terms that are compared, by the sort of the first; each_is says that each of them is Boolean structure. No String is
--- compared alone.
-abbrev pub is_comparison : ((Term → Term → Bool) → List Term → Bool) → List Term → Bool → Bool
-is_comparison each_two [] each_is = each_is
-is_comparison each_two (t ∷ ts) each_is = elim (sort_of t) [
+-- terms that are compared, by the sort of the first; each_is says that each of them is Boolean structure
+abbrev pub is_comparison : List Term → Bool → Bool
+is_comparison [] each_is = each_is
+is_comparison (t ∷ ts) each_is = elim (sort_of t) [
   | boolean ↦ each_is
   | integer ↦ false
-  | text ↦ are_several (t ∷ ts) && each_two is_pair (t ∷ ts)
+  | text ↦ true
   | reglan ↦ false
 ]
+
+abbrev pub is_in_regex : List Term → Bool
+is_in_regex (t ∷ R ∷ []) = is_regex R
+is_in_regex _ = false
 
 abbrev pub is_structure_by : Symbol → List Term → Bool → Bool
 is_structure_by symbol.core_true ts each_is = each_is
@@ -119,20 +128,31 @@ is_structure_by symbol.core_or ts each_is = each_is
 is_structure_by symbol.core_implies ts each_is = each_is
 is_structure_by symbol.core_xor ts each_is = each_is
 is_structure_by symbol.core_ite ts each_is = each_is
-is_structure_by symbol.core_equal ts each_is = is_comparison is_chain ts each_is
-is_structure_by symbol.core_distinct ts each_is = is_comparison are_pairs ts each_is
+is_structure_by symbol.core_equal ts each_is = is_comparison ts each_is
+is_structure_by symbol.core_distinct ts each_is = is_comparison ts each_is
+is_structure_by symbol.str_in_re ts each_is = is_in_regex ts
 is_structure_by _ ts each_is = false
 
 abbrev mutual
   pub is_structure : Term → Bool
   is_structure (constant serial boolean) = true
-  is_structure (apply symbol.str_in_re terms) = is_membership (apply symbol.str_in_re terms)
   is_structure (apply s terms) = is_structure_by s (terms_in terms) (are_structure terms)
   is_structure _ = false
 
   pub are_structure : Terms → Bool
   are_structure no_terms = true
   are_structure (with_term term terms) = is_structure term && are_structure terms
+
+-- No constants are joined in the term: each concatenation in it is of words.
+abbrev mutual
+  pub is_unjoined : Term → Bool
+  is_unjoined (apply symbol.str_concat terms) = are_texts terms
+  is_unjoined (apply s terms) = are_unjoined terms
+  is_unjoined _ = true
+
+  pub are_unjoined : Terms → Bool
+  are_unjoined no_terms = true
+  are_unjoined (with_term term terms) = is_unjoined term && are_unjoined terms
 
 abbrev pub is_brought : Feature → Bool
 is_brought (a_symbol s) = is_brought_symbol s
@@ -142,5 +162,6 @@ is_brought numerals = false
 is_brought lets = true
 is_brought functions = true
 is_brought definitions = true
-is_brought (a_check_of t) = is_structure t
+is_brought (a_statement_of t) = is_structure t
+is_brought (a_check_of t) = is_structure t && is_unjoined t
 is_brought proofs = true

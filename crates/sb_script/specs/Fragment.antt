@@ -50,8 +50,8 @@ are_comparable each_two ts each_fits = elim (sort_of_first ts) [
 
 -- a Bool term that is a symbol with arguments, of which each fits or one does not
 abbrev pub fits_applied : Symbol → List Term → Bool → Bool
-fits_applied symbol.core_true ts each_fits = true
-fits_applied symbol.core_false ts each_fits = true
+fits_applied symbol.core_true ts each_fits = each_fits
+fits_applied symbol.core_false ts each_fits = each_fits
 fits_applied symbol.core_not ts each_fits = each_fits
 fits_applied symbol.core_and ts each_fits = each_fits
 fits_applied symbol.core_or ts each_fits = each_fits

@@ -5,8 +5,9 @@ use Rattle.sb_meaning.specs.Terms.{Term, boolean, integer, text, constant, word,
 use Rattle.sb_meaning.specs.Terms as symbol
 use Rattle.sb_meaning.specs.Values.{Int, Truth}
 use Rattle.sb_meaning.specs.Examples.{one, two, x, as_and_more}
-use Rattle.sb_script.specs.Brought.{is_regex, asked, is_membership, is_structure}
-use Rattle.sb_script.specs.Fragment.{fits, are_in_fragment}
+use Rattle.sb_script.specs.Brought.{is_text, is_regex, asked, is_membership, is_structure, is_unjoined, a_statement_of, a_check_of, is_brought}
+use Rattle.sb_script.specs.Fragment.{fits, are_in_fragment, is_decided}
+use Rattle.sb_script.specs.Rules.{repeats_variable, lacks_ground}
 use Rattle.sb_script.specs.State.{Assertion, asserted, a_mark, assumed}
 use Rattle.sb_script.specs.Models.{is_plain_term, are_defaults, about}
 use Rattle.sb_script.specs.Sizes.{size_of}
@@ -24,7 +25,7 @@ no_constant_within = refl
 no_word_in_front : is_membership (two symbol.str_in_re (word (codes "a")) as_and_more) ≡ false
 no_word_in_front = refl
 
--- an equality with a literal, on either side
+-- an equality with a literal, on either side; with a concatenation of words it is other structure
 equal_to_a_literal : is_membership (two symbol.core_equal x (word (codes "a"))) ≡ true
 equal_to_a_literal = refl
 
@@ -40,6 +41,10 @@ of_two_literals = refl
 
 of_three : is_membership (apply symbol.core_equal (terms_of (x ∷ word [] ∷ word [] ∷ []))) ≡ false
 of_three = refl
+
+of_a_joined_word : is_membership (two symbol.core_equal x (two symbol.str_concat (word (codes "a")) (word [])))
+    ≡ false
+of_a_joined_word = refl
 
 what_is_asked : asked (two symbol.core_equal (word (codes "a")) x)
     ≡ Some (0, one symbol.str_to_re (word (codes "a")))
@@ -75,25 +80,38 @@ of_a = one symbol.str_to_re a
 abbrev of_y : Term
 of_y = one symbol.str_to_re y
 
-abbrev over_literals : List Term
-over_literals =
-    apply symbol.re_none no_terms ∷ all_words ∷ apply symbol.re_allchar no_terms ∷ two symbol.re_range a a
+-- words: literals, and concatenations of them, however they are nested
+abbrev aa : Term
+aa = two symbol.str_concat a a
+
+are_words : list_all is_text (a ∷ word [] ∷ aa ∷ two symbol.str_concat aa (two symbol.str_concat a aa) ∷ []) ≡ true
+are_words = refl
+
+are_no_words : list_any is_text (x ∷ joined ∷ two symbol.str_concat a (two symbol.str_concat a x) ∷ p ∷ all_words ∷ [])
+    ≡ false
+are_no_words = refl
+
+abbrev over_words : List Term
+over_words =
+    one symbol.str_to_re aa ∷ two symbol.re_range aa a ∷ one symbol.re_star (one symbol.str_to_re aa)
+    ∷ apply symbol.re_none no_terms ∷ all_words ∷ apply symbol.re_allchar no_terms ∷ two symbol.re_range a a
     ∷ two symbol.re_concat of_a of_a ∷ three symbol.re_union of_a of_a of_a ∷ three symbol.re_inter of_a of_a of_a
     ∷ three symbol.re_diff of_a of_a of_a ∷ one symbol.re_star of_a ∷ one symbol.re_plus of_a ∷ one symbol.re_opt of_a
     ∷ one symbol.re_comp of_a ∷ one (symbol.re_power 2) of_a ∷ one (symbol.re_loop 3 2) of_a ∷ []
 
-each_is_over_literals : list_all is_regex over_literals ≡ true
-each_is_over_literals = refl
+each_is_over_words : list_all is_regex over_words ≡ true
+each_is_over_words = refl
 
-abbrev not_over_literals : List Term
-not_over_literals =
-    one symbol.re_comp of_y ∷ one symbol.re_opt of_y ∷ two symbol.re_inter of_a of_y ∷ two symbol.re_diff of_a of_y
+abbrev not_over_words : List Term
+not_over_words =
+    one symbol.str_to_re joined ∷ two symbol.re_range a y ∷ two symbol.re_range joined a
+    ∷ one symbol.re_comp of_y ∷ one symbol.re_opt of_y ∷ two symbol.re_inter of_a of_y ∷ two symbol.re_diff of_a of_y
     ∷ one symbol.re_none of_a ∷ one symbol.re_all of_a ∷ one symbol.re_allchar of_a ∷ two symbol.re_opt of_a of_a
     ∷ two symbol.re_comp of_a of_a ∷ one (symbol.re_power 2) of_y ∷ two (symbol.re_loop 0 1) of_a of_a
     ∷ apply symbol.re_inter no_terms ∷ apply symbol.re_diff no_terms ∷ []
 
-none_is_over_literals : list_any is_regex not_over_literals ≡ false
-none_is_over_literals = refl
+none_is_over_words : list_any is_regex not_over_words ≡ false
+none_is_over_words = refl
 
 -- Membership: each constant once at most, no constant in the regular expression, ground terms too.
 of_a_concatenation : fits (two symbol.str_in_re joined all_words) ≡ true
@@ -108,7 +126,8 @@ a_constant_in_the_expression = refl
 of_a_word : fits (two symbol.str_in_re (two symbol.str_concat a a) all_words) ≡ true
 of_a_word = refl
 
--- Boolean structure over memberships of one constant and its equalities with literals, and over Bool constants.
+-- Boolean structure over memberships, over String terms that are compared, and over Bool constants, whatever stands in
+-- the String terms.
 abbrev of_x : Term
 of_x = two symbol.str_in_re x all_words
 
@@ -118,22 +137,54 @@ structures =
     ∷ one symbol.core_not of_x ∷ two symbol.core_and p of_x ∷ one symbol.core_or (one symbol.core_not p)
     ∷ three symbol.core_implies p of_x p ∷ two symbol.core_xor p (two symbol.core_equal x a)
     ∷ three symbol.core_ite p of_x (one symbol.core_not of_x) ∷ three symbol.core_equal p of_x p
-    ∷ three symbol.core_distinct p of_x p ∷ three symbol.core_equal x a x ∷ two symbol.core_distinct a y ∷ []
+    ∷ three symbol.core_distinct p of_x p ∷ three symbol.core_equal x a x ∷ two symbol.core_distinct a y
+    ∷ two symbol.str_in_re joined all_words ∷ two symbol.str_in_re a all_words ∷ two symbol.core_equal x y
+    ∷ three symbol.core_equal x a a ∷ three symbol.core_distinct x a y ∷ two symbol.core_distinct a a
+    ∷ one symbol.core_not (two symbol.core_equal joined aa) ∷ []
 
 each_is_structure : list_all is_structure structures ≡ true
 each_is_structure = refl
 
--- of a concatenation, and of a word; of two constants, and of two words, one after the other and of all pairs; under a
+-- of a regular expression with a constant, and of regular expressions that are compared; of numbers, and under a
 -- symbol; of what is no Bool term
 abbrev no_structures : List Term
 no_structures =
-    two symbol.str_in_re joined all_words ∷ two symbol.str_in_re a all_words ∷ two symbol.core_equal x y
-    ∷ three symbol.core_equal x a a ∷ three symbol.core_distinct x a y ∷ two symbol.core_distinct a a
-    ∷ one symbol.core_not (two symbol.core_equal x y) ∷ two symbol.core_and p (two symbol.core_equal n n)
-    ∷ two symbol.at_most n n ∷ x ∷ a ∷ all_words ∷ one symbol.core_not x ∷ []
+    two symbol.str_in_re x of_y ∷ two symbol.core_equal all_words all_words ∷ two symbol.core_equal n n
+    ∷ three symbol.core_distinct n n n ∷ two symbol.core_and p (two symbol.core_equal n n)
+    ∷ two symbol.at_most n n ∷ x ∷ a ∷ joined ∷ all_words ∷ one symbol.core_not x ∷ []
 
 none_is_structure : list_any is_structure no_structures ≡ false
 none_is_structure = refl
+
+-- Joined constants are of what may stand in a proof, and no check over them is decided.
+joins_no_constants : list_all is_unjoined
+    (p ∷ of_x ∷ two symbol.core_equal aa x ∷ two symbol.str_in_re aa all_words ∷ three symbol.core_distinct x a y
+    ∷ two symbol.str_in_re x (one symbol.str_to_re aa) ∷ []) ≡ true
+joins_no_constants = refl
+
+joins_constants : list_any is_unjoined
+    (two symbol.str_in_re joined all_words ∷ one symbol.core_not (two symbol.core_equal aa joined)
+    ∷ two symbol.core_and p (two symbol.core_equal (two symbol.str_concat x (word [])) a) ∷ []) ≡ false
+joins_constants = refl
+
+abbrev joined_is_a : Term
+joined_is_a = two symbol.core_or p (two symbol.core_equal joined a)
+
+may_be_stated : is_brought (a_statement_of joined_is_a) ≡ true
+may_be_stated = refl
+
+is_not_checked : is_brought (a_check_of joined_is_a) ≡ false
+is_not_checked = refl
+
+words_are_decided : list_all is_decided
+    (asserted (two symbol.core_equal aa a) ∷ asserted (two symbol.str_in_re aa (one symbol.str_to_re aa))
+    ∷ asserted (three symbol.core_distinct x aa a) ∷ asserted (three symbol.core_equal x aa y) ∷ []) ≡ true
+words_are_decided = refl
+
+others_are_not : list_any is_decided
+    (asserted joined_is_a ∷ asserted (two symbol.core_equal x y) ∷ asserted (two symbol.str_in_re x of_y) ∷ a_mark ∷ [])
+    ≡ false
+others_are_not = refl
 
 -- Sizes: a node of sort RegLan counts one, and a character of a word one; String terms are words and no nodes.
 sizes : map size_of
@@ -165,6 +216,44 @@ of_neighbours = refl
 
 of_each_two : fits (three symbol.core_distinct x a y) ≡ false
 of_each_two = refl
+
+-- words that are joined are a ground side, and two sides with a constant each have none
+joined_words_are_ground : fits (two symbol.core_equal joined (three symbol.str_concat a (word []) a)) ≡ true
+joined_words_are_ground = refl
+
+no_side_is_ground : fits (two symbol.core_equal joined (two symbol.str_concat a y)) ≡ false
+no_side_is_ground = refl
+
+-- The two rules by themselves.
+
+-- in a membership, in a pair on either side, in another pair of a chain, and under symbols; not in two memberships, and
+-- not on two sides
+abbrev xx : Term
+xx = three symbol.str_concat x a x
+
+repeated : list_all repeats_variable
+    (two symbol.str_in_re xx all_words ∷ two symbol.core_equal xx a ∷ two symbol.core_distinct a xx
+    ∷ three symbol.core_equal x a xx ∷ one symbol.core_not (two symbol.core_or p (two symbol.core_equal xx y))
+    ∷ two symbol.str_in_re (two symbol.str_concat joined (two symbol.str_concat a y)) all_words ∷ []) ≡ true
+repeated = refl
+
+not_repeated : list_any repeats_variable
+    (p ∷ two symbol.str_in_re joined all_words ∷ two symbol.core_equal x x
+    ∷ two symbol.core_and (two symbol.str_in_re joined all_words) (two symbol.str_in_re joined all_words)
+    ∷ two symbol.at_most (one symbol.str_len xx) n ∷ two symbol.core_equal n n ∷ []) ≡ false
+not_repeated = refl
+
+not_ground : list_all lacks_ground
+    (two symbol.core_equal x y ∷ two symbol.core_equal xx y ∷ three symbol.core_distinct x a y
+    ∷ three symbol.core_equal a x y ∷ two symbol.str_in_re a of_y ∷ one symbol.core_not (two symbol.core_equal x joined)
+    ∷ []) ≡ true
+not_ground = refl
+
+ground : list_any lacks_ground
+    (p ∷ two symbol.core_equal xx aa ∷ three symbol.core_equal x a y ∷ three symbol.core_distinct x a aa
+    ∷ two symbol.str_in_re joined all_words ∷ two symbol.core_equal n n ∷ two symbol.core_equal p (two symbol.core_equal
+    aa y) ∷ []) ≡ false
+ground = refl
 
 -- Boolean structure.
 structure : fits (two symbol.core_and (one symbol.core_not p) (two symbol.core_equal p (two symbol.core_equal x a)))

@@ -18,6 +18,7 @@ pub mod Sums
 pub mod Bounds
 pub mod LiteralBounds
 pub mod Fragment
+pub mod Rules
 pub mod FragmentExamples
 pub mod Models
 pub mod Errors

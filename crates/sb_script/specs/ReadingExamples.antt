@@ -104,6 +104,35 @@ an_equality_of_truth_values : read names (equals (equals (x ∷ a ∷ []) ∷ eq
     ≡ Ok (apply symbol.core_equal (with_term (x_is 97) (with_term (x_is 98) no_terms)))
 an_equality_of_truth_values = refl
 
+-- (str.++ x "a" (str.++ x "b")) has its arguments as they stand, and (str.++ x) is x; of another sort, of a marked name,
+-- and of nothing
+abbrev concat : List Form → Form
+concat fs = group (Symbol (codes "str.++") ∷ fs)
+
+a_concatenation : read names (concat (x ∷ a ∷ concat (x ∷ b ∷ []) ∷ []))
+    ≡ Ok (apply symbol.str_concat
+    (with_term (constant 0 text)
+    (with_term (word (97 ∷ []))
+    (with_term (apply symbol.str_concat (with_term (constant 0 text) (with_term (word (98 ∷ [])) no_terms)))
+    no_terms))))
+a_concatenation = refl
+
+a_concatenation_of_one : read names (concat (concat (x ∷ []) ∷ [])) ≡ Ok (constant 0 text)
+a_concatenation_of_one = refl
+
+a_concatenation_of_expressions : read names (concat (x ∷ range a b ∷ [])) ≡ Err wrong_sort
+a_concatenation_of_expressions = refl
+
+a_concatenation_with_a_mark : read names (concat (x ∷ Symbol (codes "m") ∷ y ∷ [])) ≡ Err unsupported
+a_concatenation_with_a_mark = refl
+
+a_concatenation_of_nothing : read names (concat []) ≡ Err malformed
+a_concatenation_of_nothing = refl
+
+-- (re.range (str.++ "a") "b"): anywhere a String stands
+a_concatenation_within : read names (range (concat (a ∷ [])) b) ≡ Ok a_range
+a_concatenation_within = refl
+
 -- Boolean structure, with a Bool constant p beside x.
 abbrev names_with_p : List Naming
 names_with_p = (codes "p", a_constant 1 boolean) ∷ names
