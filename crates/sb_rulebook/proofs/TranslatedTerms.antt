@@ -9,7 +9,7 @@ use Rattle.sb_lang.specs.Regex.{Regex}
 use Rattle.sb_lang.specs.Normal.{word_regex}
 use Rattle.sb_meaning.specs.Terms.{Sort, boolean, integer, text, reglan, Symbol, Term, Terms, constant, word, numeral, apply, parameter, no_terms, with_term, terms_in}
 use Rattle.sb_meaning.specs.Terms as symbol
-use Rattle.sb_meaning.specs.Sorts.{sort_of, is_same_sort, arity_of}
+use Rattle.sb_meaning.specs.Sorts.{of_each, sort_of, is_same_sort, arity_of, takes_sorts}
 use Rattle.sb_meaning.specs.Truth.{meaning_of, is_chain, are_pairs}
 use Rattle.sb_rulebook.specs.Atoms.{Atom, in_atom}
 use Rattle.sb_rulebook.specs.Parts.{together, regex_meant, regex_of}
@@ -345,11 +345,16 @@ module _ (both : SmallBothWays) (atoms : List Atom) where
 
   -- Symbols.
 
+  -- of no arguments each has a literal
+  none_taken : (ts : List Term) → takes_sorts (of_each []) (map sort_of ts) ≡ true → Each HasLiteral ts
+  none_taken [] takes = tt
+  none_taken (t ∷ ts) takes = absurd (false≢true takes)
+
   applied_fits : (s : Symbol) (ts : List Term) (b : Bool) → IsTaken (arity_of s) (map sort_of ts)
       → (Each HasLiteral ts → b ≡ true) → is_some (applied atoms s (map (argument atoms) ts)) ≡ true
       → fits_applied s ts b ≡ true
-  applied_fits symbol.core_true ts b are each h = refl
-  applied_fits symbol.core_false ts b are each h = refl
+  applied_fits symbol.core_true ts b are each h = each (none_taken ts are.takes)
+  applied_fits symbol.core_false ts b are each h = each (none_taken ts are.takes)
   applied_fits symbol.core_not ts b are each h =
       each (of_literals_there only_one ts (mapped_there _ (of_literals only_one (map (argument atoms) ts)) h))
   applied_fits symbol.core_and ts b are each h = each (of_literals_there (conjunction atoms) ts h)

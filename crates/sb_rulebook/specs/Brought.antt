@@ -1,9 +1,9 @@
--- What of proofs is brought so far, by what is to come. A line of a kind, atom or rule that is to come, or of such a
--- form of one, is refused by rule. Which is which stands here alone.
-use Rattle.std.specs.Prelude.{ℕ, Bool, true, false, nat_le, is_some, List}
+-- What of proofs is brought so far, by what is to come. A line of an atom or rule that is to come, or of such a form of
+-- one, is refused by rule. Which is which stands here alone.
+use Rattle.std.specs.Prelude.{ℕ, Bool, true, false, nat_le, List}
 use Rattle.sb_lit.specs.declared.clause.Lit.{Lit}
-use Rattle.sb_rulebook.specs.Atoms.{AtomOver, in_atom, le_atom, sum_atom, constant_of}
-use Rattle.sb_rulebook.specs.Lines.{Line, regex_line, atom_line, rule_line, Node, path_node, Rule, order, linear, step}
+use Rattle.sb_rulebook.specs.Atoms.{AtomOver, le_atom, sum_atom}
+use Rattle.sb_rulebook.specs.Lines.{Line, atom_line, rule_line, Rule, order, linear}
 
 -- formats are numbered from 1
 abbrev pub newest_format : ℕ
@@ -13,13 +13,7 @@ newest_format = 1
 abbrev pub has_rests : ℕ → Bool
 has_rests format = nat_le 3 format
 
-abbrev pub is_brought_node : Node → Bool
-is_brought_node (path_node a b) = false
-is_brought_node _ = true
-
--- Memberships are those of one constant.
 abbrev pub is_brought_atom : {R : Type 0} → AtomOver R → Bool
-is_brought_atom (in_atom ps r) = is_some (constant_of ps)
 is_brought_atom (le_atom x k) = false
 is_brought_atom (sum_atom k ss) = false
 is_brought_atom _ = true
@@ -27,11 +21,9 @@ is_brought_atom _ = true
 abbrev pub is_brought_rule : Rule → List Lit → Bool
 is_brought_rule order clause = false
 is_brought_rule linear clause = false
-is_brought_rule step clause = false
 is_brought_rule _ clause = true
 
 abbrev pub is_brought : Line → Bool
-is_brought (regex_line node) = is_brought_node node
 is_brought (atom_line atom) = is_brought_atom atom
 is_brought (rule_line rule clause) = is_brought_rule rule clause
 is_brought _ = true

@@ -3,8 +3,7 @@ use Rattle.std.specs.Prelude.{ℕ, Bool, true, false, not, ◌&&◌, if◌then�
 use Rattle.sb_lit.specs.declared.clause.Lit.{Lit}
 use Rattle.sb_lit.specs.Clauses.{is_same_literal, are_ascending}
 use Rattle.sb_meaning.specs.Terms.{Term}
-use Rattle.sb_script.specs.Fragment.{is_decided}
-use Rattle.sb_script.specs.State as state
+use Rattle.sb_script.specs.Brought.{a_statement_of, is_brought}
 pub use Rattle.sb_rulebook.specs.Refusals.{Refusal, unknown_id, repeated, hint_idle, rule_broken}
 use Rattle.sb_rulebook.specs.Atoms.{Atom}
 use Rattle.sb_rulebook.specs.Translation.{translation}
@@ -50,11 +49,11 @@ abbrev pub is_this : Lit → Option Lit → Bool
 is_this l None = false
 is_this l (Some m) = is_same_literal l m
 
--- The literal of a live assertion is a clause of the assertion's level, and rests on it. An assertion that is not decided
--- has none.
+-- The literal of a live assertion is a clause of the assertion's level, and rests on it. An assertion that breaks a rule
+-- of the fragment by itself, as one past the limits on sizes, has none, whatever atoms there are.
 abbrev pub is_translation : List Atom → Option Term → Lit → Bool
 is_translation atoms None l = false
-is_translation atoms (Some t) l = is_decided (state.asserted t) && is_this l (translation atoms t)
+is_translation atoms (Some t) l = is_brought (a_statement_of t) && is_this l (translation atoms t)
 
 abbrev pub asserted : AllKept → ℕ → Option Term × ℕ → Lit → Result AllKept Refusal
 asserted kept place assertion l =

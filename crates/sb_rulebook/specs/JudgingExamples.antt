@@ -1,10 +1,10 @@
 -- Computed examples of proofs and scripts so far, of levels that are left between checks, and of lines of which the
--- kind, atom, rule or form is not brought.
+-- atom, rule or form is not brought.
 use Rattle.std.specs.Prelude.{◌≡◌, ℕ, true, List, [], ◌∷◌, ◌++◌, codes, take, drop, None, refl}
 use Rattle.std.specs.List.{repeat}
 use Rattle.sb_script.specs.State as state
 use Rattle.sb_script.specs.Steps.{leaves, above, all}
-use Rattle.sb_rulebook.specs.Refusals.{bad_word, misplaced, unknown_id, repeated, not_normal, hint_idle, rule_broken, wrong_verdict}
+use Rattle.sb_rulebook.specs.Refusals.{bad_word, misplaced, unknown_id, repeated, not_normal, wrong_target, holds_empty_word, hint_idle, rule_broken, wrong_verdict}
 use Rattle.sb_rulebook.specs.Lines.{said_unsat, said_unknown}
 use Rattle.sb_rulebook.specs.Verdicts.{Question}
 use Rattle.sb_rulebook.specs.Reading.{LineText, texts_of}
@@ -245,15 +245,133 @@ a_positive_literal_of_no_atom : judged_lines (changed 16 (codes "c empty +2 -1")
 unfolding computing
 a_positive_literal_of_no_atom = refl
 
+-- Paths, and memberships of several pieces and of none, are regexes and atoms like others.
+
+a_path : judged_lines (with_regexes (codes "r path 0 6" ∷ [])) ≡ accepted (said_unsat 3 None ∷ [])
+unfolding computing
+a_path = refl
+
+a_path_twice : judged_lines (with_regexes (codes "r path 1 1" ∷ codes "r path 1 1" ∷ [])) ≡ refused [] 10 repeated
+unfolding computing
+a_path_twice = refl
+
+a_path_from_none : judged_lines (with_regexes (codes "r path 6 0" ∷ [])) ≡ refused [] 9 not_normal
+unfolding computing
+a_path_from_none = refl
+
+a_path_from_anything : judged_lines (with_regexes (codes "r not 6" ∷ codes "r path 7 7" ∷ []))
+    ≡ refused [] 10 not_normal
+unfolding computing
+a_path_from_anything = refl
+
+a_path_to_no_regex : judged_lines (changed 3 (codes "r path 0 1")) ≡ refused [] 3 unknown_id
+unfolding computing
+a_path_to_no_regex = refl
+
+-- the path from a* to a* expands to itself and to none, and that from a* to none to itself and to every word
+an_expansion_of_a_path : judged_lines
+    (with_regexes (codes "r path 1 1" ∷ codes "x 7 0-60,62-2ffff>6 61-61>7" ∷ [])) ≡ accepted (said_unsat 3 None ∷ [])
+unfolding computing
+an_expansion_of_a_path = refl
+
+not_to_its_first_part : judged_lines
+    (with_regexes (codes "r path 1 1" ∷ codes "x 7 0-60,62-2ffff>6 61-61>1" ∷ [])) ≡ refused [] 10 wrong_target
+unfolding computing
+not_to_its_first_part = refl
+
+onto_its_second_part : judged_lines
+    (with_regexes (codes "r path 1 6" ∷ codes "r not 6" ∷ codes "x 7 0-60,62-2ffff>8 61-61>7" ∷ []))
+    ≡ accepted (said_unsat 3 None ∷ [])
+unfolding computing
+onto_its_second_part = refl
+
+-- a path to itself is nullable, and so it is not dead
+a_path_is_alive : judged_lines
+    (with_regexes (codes "r path 1 1" ∷ codes "x 7 0-60,62-2ffff>6 61-61>7" ∷ codes "d 7" ∷ []))
+    ≡ refused [] 11 holds_empty_word
+unfolding computing
+a_path_is_alive = refl
+
+several_pieces : judged_lines
+    (with_lines (codes "a in v0 w61 v0 : 1" ∷ codes "a in : 1" ∷ codes "a in w61 : 1" ∷ codes "c gate +3 -3" ∷ []))
+    ≡ accepted (said_unsat 4 None ∷ [])
+unfolding computing
+several_pieces = refl
+
+several_pieces_twice : judged_lines (with_lines (codes "a in v0 w61 : 1" ∷ codes "a in v0 w61 : 1" ∷ []))
+    ≡ refused [] 15 repeated
+unfolding computing
+several_pieces_twice = refl
+
+two_words_side_by_side : judged_lines (with_lines (codes "a in w61 w62 v0 : 1" ∷ [])) ≡ refused [] 14 not_normal
+unfolding computing
+two_words_side_by_side = refl
+
+a_word_of_no_character : judged_lines (with_lines (codes "a in v0 w : 1" ∷ [])) ≡ refused [] 14 not_normal
+unfolding computing
+a_word_of_no_character = refl
+
+a_word_past_the_characters : judged_lines (with_lines (codes "a in w30000 : 1" ∷ [])) ≡ refused [] 14 not_normal
+unfolding computing
+a_word_past_the_characters = refl
+
+one_piece_of_no_constant : judged_lines (changed 9 (codes "a in v0 w61 v1 : 1")) ≡ refused [] 9 unknown_id
+unfolding computing
+one_piece_of_no_constant = refl
+
+several_pieces_in_no_regex : judged_lines (changed 9 (codes "a in v0 w61 : 7")) ≡ refused [] 9 unknown_id
+unfolding computing
+several_pieces_in_no_regex = refl
+
+-- Steps are clauses like others, and are counted.
+
+-- nothing is in a*, and "a" is, since a* is left of a* behind a
+abbrev with_steps : List (List ℕ) → List (List ℕ)
+with_steps lines = with_lines (codes "a in : 1" ∷ codes "a in w61 : 1" ∷ lines)
+
+an_end : judged_lines (with_steps (codes "c step +2" ∷ [])) ≡ accepted (said_unsat 4 None ∷ [])
+unfolding computing
+an_end = refl
+
+a_cut : judged_lines (with_steps (codes "c step -2 +3" ∷ [])) ≡ accepted (said_unsat 4 None ∷ [])
+unfolding computing
+a_cut = refl
+
+a_cut_both_ways : judged_lines (with_steps (codes "c step -2 +3" ∷ codes "c step +2 -3" ∷ [])) ≡ refused [] 21 hint_idle
+unfolding computing
+a_cut_both_ways = refl
+
+a_negated_end : judged_lines (with_steps (codes "c step -2" ∷ [])) ≡ refused [] 16 rule_broken
+unfolding computing
+a_negated_end = refl
+
+a_step_again : judged_lines (with_steps (codes "c step +2" ∷ codes "c step +2" ∷ [])) ≡ refused [] 17 repeated
+unfolding computing
+a_step_again = refl
+
+-- one that a kept clause is a subset of
+a_step_that_says_less : judged_lines (with_steps (codes "c step +2" ∷ codes "c step +2 -3" ∷ []))
+    ≡ refused [] 17 repeated
+unfolding computing
+a_step_that_says_less = refl
+
+a_step_of_another_rule : judged_lines (with_steps (codes "c gate +2" ∷ [])) ≡ refused [] 16 rule_broken
+unfolding computing
+a_step_of_another_rule = refl
+
+a_step_of_no_atom : judged_lines (with_steps (codes "c step +4" ∷ [])) ≡ refused [] 16 unknown_id
+unfolding computing
+a_step_of_no_atom = refl
+
+a_step_out_of_order : judged_lines (with_steps (codes "c step +3 -2" ∷ [])) ≡ refused [] 16 rule_broken
+unfolding computing
+a_step_out_of_order = refl
+
+both_signs_are_no_step : judged_lines (changed 14 (codes "c step +0 -0")) ≡ refused [] 14 rule_broken
+unfolding computing
+both_signs_are_no_step = refl
+
 -- What is not brought is refused by rule, unless a number names nothing.
-
-a_kind : judged_lines (changed 3 (codes "r path 0 0")) ≡ refused [] 3 rule_broken
-unfolding computing
-a_kind = refl
-
-a_kind_of_no_regex : judged_lines (changed 3 (codes "r path 0 1")) ≡ refused [] 3 unknown_id
-unfolding computing
-a_kind_of_no_regex = refl
 
 an_atom : judged_lines (changed 9 (codes "a le l0 5")) ≡ refused [] 9 rule_broken
 unfolding computing
@@ -263,25 +381,9 @@ an_atom_of_no_constant : judged_lines (changed 9 (codes "a le l1 5")) ≡ refuse
 unfolding computing
 an_atom_of_no_constant = refl
 
-many_pieces : judged_lines (changed 9 (codes "a in v0 w61 v0 : 1")) ≡ refused [] 9 rule_broken
-unfolding computing
-many_pieces = refl
-
-one_piece_of_no_constant : judged_lines (changed 9 (codes "a in v0 w61 v1 : 1")) ≡ refused [] 9 unknown_id
-unfolding computing
-one_piece_of_no_constant = refl
-
-many_pieces_in_no_regex : judged_lines (changed 9 (codes "a in v0 w61 : 7")) ≡ refused [] 9 unknown_id
-unfolding computing
-many_pieces_in_no_regex = refl
-
 a_rule : judged_lines (changed 14 (codes "c order +0 -0")) ≡ refused [] 14 rule_broken
 unfolding computing
 a_rule = refl
-
-another_rule : judged_lines (changed 14 (codes "c step +0 -0")) ≡ refused [] 14 rule_broken
-unfolding computing
-another_rule = refl
 
 a_rule_over_no_atom : judged_lines (changed 14 (codes "c linear +2 -2")) ≡ refused [] 14 unknown_id
 unfolding computing

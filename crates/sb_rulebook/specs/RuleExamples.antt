@@ -1,33 +1,30 @@
 -- Computed examples of what follows, rule by rule, and of verdicts, levels and limits.
-use Rattle.std.specs.Prelude.{◌≡◌, ℕ, pos, negsuc, true, false, ◌&&◌, List, [], ◌∷◌, ◌++◌, map, codes, Option, Some, None, option_map, Ok, Err, refl}
-use Rattle.std.proofs.Common.{ap₂}
+use Rattle.std.specs.Prelude.{◌≡◌, ℕ, pos, negsuc, true, false, List, [], ◌∷◌, ◌++◌, map, codes, Option, Some, None, option_map, Ok, Err, refl}
 use Rattle.sb_lit.specs.declared.clause.Lit.{Lit}
-use Rattle.sb_lang.specs.Regex.{Regex, none, set, cat, star, rep, path}
+use Rattle.sb_lang.specs.Regex.{Regex, none, eps, set, cat, neg, star, rep, path}
 use Rattle.sb_lang.specs.Order.{regex_eq}
 use Rattle.sb_lang.specs.Constructors.{any_character}
-use Rattle.sb_meaning.specs.Terms.{Term, boolean, integer, text, constant, numeral}
+use Rattle.sb_meaning.specs.Terms.{Term, boolean, integer, text, constant, word, numeral}
 use Rattle.sb_meaning.specs.Terms as symbol
 use Rattle.sb_meaning.specs.Values.{Text, Int, Truth}
 use Rattle.sb_rulebook.specs.Refusals.{Refusal, unknown_id, repeated, not_normal, wrong_target, not_closed, rule_broken, wrong_verdict}
 use Rattle.sb_rulebook.specs.Atoms.{Atom, bool_atom, in_atom, le_atom, sum_atom, and_atom, iff_atom, truths_of, is_well_formed}
-use Rattle.sb_rulebook.specs.Lines.{Line, regex_line, atom_line, expansion_line, dead_line, assertion_line, rule_line, learned_line, gate, set_node, rep_node, alt_node, said_sat, said_unsat, said_unknown, said_unsupported}
+use Rattle.sb_rulebook.specs.Lines.{Line, regex_line, atom_line, expansion_line, dead_line, assertion_line, rule_line, learned_line, gate, step, set_node, rep_node, alt_node, path_node, said_sat, said_unsat, said_unknown, said_unsupported}
 use Rattle.sb_rulebook.specs.Kept.{AllKept, Asked, nothing_kept, with_numbers, dropped_above, all_dropped}
 use Rattle.sb_rulebook.specs.Expansions.{is_expansion}
 use Rattle.sb_rulebook.specs.Gates.{is_gate}
 use Rattle.sb_rulebook.specs.BoundClauses.{is_order, is_linear}
 use Rattle.sb_rulebook.specs.Splits.{is_step, is_empty}
 use Rattle.sb_rulebook.specs.Brought.{newest_format}
-use Rattle.sb_rulebook.specs.Translation.{translation}
-use Rattle.sb_rulebook.specs.ClauseRules.{is_this, is_translation}
+use Rattle.sb_rulebook.specs.ClauseRules.{is_translation}
 use Rattle.sb_rulebook.specs.Follows.{by_rule}
 use Rattle.sb_rulebook.specs.Verdicts.{Question, refusal_of, denies, denied_by}
 use Rattle.sb_rulebook.specs.Relevant.{lies_between}
 use Rattle.sb_rulebook.specs.Tables.{is_table}
 use Rattle.sb_rulebook.specs.KeptLaws.{are_distinct, has_targets_below, names_regex_of, is_orderly_clause, is_rising}
 use Rattle.sb_rulebook.specs.ProofExamples.{computing}
-use Rattle.sb_rulebook.specs.TranslationExamples.{plus, minus}
-use Rattle.sb_script.specs.Brought.{is_structure}
-use Rattle.sb_script.specs.Fragment.{fits}
+use Rattle.sb_rulebook.specs.TranslationExamples.{plus, minus, of}
+use Rattle.sb_script.specs.Brought.{a_check_of, is_brought}
 use Rattle.sb_script.specs.Pieces.{constant_piece, word_piece}
 use Rattle.sb_script.specs.Sums.{int_constant, length_of}
 
@@ -198,6 +195,92 @@ not_the_other_way : is_step memberships (plus 5 ∷ []) ≡ false
 unfolding computing
 not_the_other_way = refl
 
+-- More memberships, behind those: where no pieces are left, from a regex that no word leads on from, and wrong ones.
+
+abbrev more_memberships : List Atom
+more_memberships =
+    memberships
+    -- 6: x is in b. 7: x leads from b to eps. 8: nothing is in eps. 9: "a" is in ab. 10: nothing is in ab
+    ++ in_atom (constant_piece 0 ∷ []) b ∷ in_atom (constant_piece 0 ∷ []) (path b eps) ∷ in_atom [] eps
+    ∷ in_atom (word_piece (codes "a") ∷ []) (cat a b) ∷ in_atom [] (cat a b)
+    -- 11: x and y are in none. 12: x leads from none to none, so it is any word. 13: y is in none
+    ∷ in_atom (constant_piece 0 ∷ constant_piece 1 ∷ []) none ∷ in_atom (constant_piece 0 ∷ []) (neg none) ∷ in_atom
+    (constant_piece 1 ∷ []) none
+    -- 14: x leads from ab to ab. 15: y is in ab. 16: x, "a" and y are in ab. 17: y leads from ab to b
+    ∷ in_atom (constant_piece 0 ∷ []) (path (cat a b) (cat a b)) ∷ in_atom (constant_piece 1 ∷ []) (cat a b) ∷ in_atom
+    (constant_piece 0 ∷ word_piece (codes "a") ∷ constant_piece 1 ∷ []) (cat a b) ∷ in_atom (constant_piece 1 ∷ [])
+    (path (cat a b) b) ∷ []
+
+-- x is in b, it leads from b to eps, and nothing is in eps, either way
+split_to_no_pieces : is_step more_memberships (minus 6 ∷ minus 7 ∷ plus 8 ∷ []) ≡ true
+unfolding computing
+split_to_no_pieces = refl
+
+split_back_from_no_pieces : is_step more_memberships (plus 6 ∷ minus 7 ∷ minus 8 ∷ []) ≡ true
+unfolding computing
+split_back_from_no_pieces = refl
+
+-- "a" is in ab where nothing is in b
+a_word_alone_is_cut : is_step more_memberships (plus 5 ∷ minus 9 ∷ []) ≡ true
+unfolding computing
+a_word_alone_is_cut = refl
+
+a_word_alone_is_cut_back : is_step more_memberships (minus 5 ∷ plus 9 ∷ []) ≡ true
+unfolding computing
+a_word_alone_is_cut_back = refl
+
+split_at_none : is_step more_memberships (minus 11 ∷ minus 12 ∷ plus 13 ∷ []) ≡ true
+unfolding computing
+split_at_none = refl
+
+-- the same regex again, to which a word may lead as to any other
+split_at_itself : is_step more_memberships (minus 0 ∷ minus 14 ∷ plus 15 ∷ []) ≡ true
+unfolding computing
+split_at_itself = refl
+
+-- the rest is to be in the regex behind the word, and not in the one before it
+the_word_is_not_forgotten : is_step more_memberships (minus 3 ∷ plus 15 ∷ []) ≡ false
+unfolding computing
+the_word_is_not_forgotten = refl
+
+not_without_the_word : is_step more_memberships (minus 9 ∷ plus 10 ∷ []) ≡ false
+unfolding computing
+not_without_the_word = refl
+
+-- a word between two constants stays with the rest
+the_word_between_stays : is_step more_memberships (minus 1 ∷ plus 2 ∷ minus 16 ∷ []) ≡ false
+unfolding computing
+the_word_between_stays = refl
+
+-- the constant that leads is the first piece, and leads to the regex of the rest
+not_of_the_second_piece : is_step more_memberships (minus 0 ∷ plus 2 ∷ minus 17 ∷ []) ≡ false
+unfolding computing
+not_of_the_second_piece = refl
+
+not_to_another_regex : is_step more_memberships (minus 0 ∷ minus 1 ∷ plus 15 ∷ []) ≡ false
+unfolding computing
+not_to_another_regex = refl
+
+-- both signs, and neither; more literals, and fewer
+not_both_true : is_step more_memberships (plus 0 ∷ minus 1 ∷ plus 2 ∷ []) ≡ false
+unfolding computing
+not_both_true = refl
+
+not_both_false : is_step more_memberships (minus 2 ∷ minus 3 ∷ []) ≡ false
+unfolding computing
+not_both_false = refl
+
+one_literal_more : is_step more_memberships (plus 4 ∷ plus 6 ∷ []) ≡ false
+unfolding computing
+one_literal_more = refl
+
+one_literal_less : is_step more_memberships (minus 0 ∷ plus 2 ∷ []) ≡ false
+unfolding computing
+one_literal_less = refl
+
+no_literal : is_step more_memberships [] ≡ false
+no_literal = refl
+
 -- Empty: x is in a, and x is not in a or b; y is in b.
 
 abbrev nothing : AllKept
@@ -322,10 +405,37 @@ an_assertion_to_come : refusal_in kept (assertion_line 2 (plus 1)) ≡ Some rule
 unfolding computing
 an_assertion_to_come = refl
 
--- an assertion past the limits on sizes has no literal, whatever atoms there are
-past_the_limits : (atoms : List Atom) (t : Term) (l : Lit) → is_structure t ≡ true → fits t ≡ false
-    → is_translation atoms (Some t) l ≡ false
-past_the_limits atoms t l brought large = ap₂ (λ b c. (b && c) && is_this l (translation atoms t)) brought large
+-- (= (str.++ x "b") "ab") has its literal, though no check over it is decided; where a constant stands twice, or no
+-- side is ground, there is none
+abbrev x : Term
+x = constant 1 text
+
+abbrev joined_atoms : List Atom
+joined_atoms =
+    in_atom (constant_piece 1 ∷ word_piece (codes "b") ∷ []) (cat a b) ∷ in_atom
+    (constant_piece 1 ∷ constant_piece 1 ∷ []) (cat a b) ∷ []
+
+abbrev is_ab : List Term → Term
+is_ab ts = of symbol.core_equal (of symbol.str_concat ts ∷ word (codes "ab") ∷ [])
+
+joined_constants : is_translation joined_atoms (Some (is_ab (x ∷ word (codes "b") ∷ []))) (plus 0) ≡ true
+unfolding computing
+joined_constants = refl
+
+are_not_checked : is_brought (a_check_of (is_ab (x ∷ word (codes "b") ∷ []))) ≡ false
+are_not_checked = refl
+
+not_denied : is_translation joined_atoms (Some (is_ab (x ∷ word (codes "b") ∷ []))) (minus 0) ≡ false
+unfolding computing
+not_denied = refl
+
+a_constant_twice : is_translation joined_atoms (Some (is_ab (x ∷ x ∷ []))) (plus 1) ≡ false
+unfolding computing
+a_constant_twice = refl
+
+no_ground_side : is_translation joined_atoms (Some (of symbol.core_equal (x ∷ x ∷ []))) (plus 0) ≡ false
+unfolding computing
+no_ground_side = refl
 
 past_the_last_assertion : refusal_in kept (assertion_line 4 (plus 0)) ≡ Some unknown_id
 unfolding computing
@@ -370,6 +480,30 @@ two_words : refusal_in kept (atom_line (in_atom (word_piece (codes "a") ∷ word
 unfolding computing
 two_words = refl
 
+-- several pieces, and none; a word that is empty, and a constant of another sort
+several_pieces : by_rule asked kept
+    (atom_line (in_atom (constant_piece 1 ∷ word_piece (codes "a") ∷ constant_piece 1 ∷ []) 1))
+    ≡ Ok (record kept {
+      atoms =
+          kept.atoms ++ in_atom (constant_piece 1 ∷ word_piece (codes "a") ∷ constant_piece 1 ∷ []) a ∷ [];
+    })
+unfolding computing
+several_pieces = refl
+
+no_pieces : by_rule asked kept (atom_line (in_atom [] 2))
+    ≡ Ok (record kept { atoms = kept.atoms ++ in_atom [] (star a) ∷ [] })
+unfolding computing
+no_pieces = refl
+
+an_empty_word : refusal_in kept (atom_line (in_atom (constant_piece 1 ∷ word_piece [] ∷ []) 1)) ≡ Some not_normal
+unfolding computing
+an_empty_word = refl
+
+a_piece_of_another_sort : refusal_in kept (atom_line (in_atom (word_piece (codes "a") ∷ constant_piece 2 ∷ []) 1))
+    ≡ Some unknown_id
+unfolding computing
+a_piece_of_another_sort = refl
+
 a_sum_of_one : refusal_in kept (atom_line (sum_atom (pos 5) ((negsuc 0, int_constant 2) ∷ []))) ≡ Some not_normal
 unfolding computing
 a_sum_of_one = refl
@@ -377,6 +511,78 @@ a_sum_of_one = refl
 one_literal : refusal_in kept (atom_line (and_atom (plus 0 ∷ []))) ≡ Some not_normal
 unfolding computing
 one_literal = refl
+
+-- Paths: from a* and from a, not from none.
+
+a_path : by_rule asked kept (regex_line (path_node 2 0))
+    ≡ Ok (record kept {
+      regexes = kept.regexes ++ path (star a) none ∷ [];
+      expansions = kept.expansions ++ None ∷ [];
+      dead = kept.dead ++ false ∷ [];
+    })
+unfolding computing
+a_path = refl
+
+a_path_from_none : refusal_in kept (regex_line (path_node 0 1)) ≡ Some not_normal
+unfolding computing
+a_path_from_none = refl
+
+a_path_to_no_regex : refusal_in kept (regex_line (path_node 1 3)) ≡ Some unknown_id
+unfolding computing
+a_path_to_no_regex = refl
+
+-- the path from a* to none expands to itself, and by other characters to every word
+abbrev with_path : AllKept
+with_path = record kept {
+  regexes = kept.regexes ++ neg none ∷ path (star a) none ∷ [];
+  expansions = kept.expansions ++ None ∷ None ∷ [];
+  dead = kept.dead ++ false ∷ false ∷ [];
+}
+
+an_expansion_of_a_path : by_rule asked with_path (expansion_line 4 (((0x61, 0x61) ∷ [], 4) ∷ (others, 3) ∷ []))
+    ≡ Ok (record with_path {
+      expansions = kept.expansions ++ None ∷ Some (4 ∷ 3 ∷ []) ∷ [];
+      counted = 1;
+    })
+unfolding computing
+an_expansion_of_a_path = refl
+
+not_to_the_second_part : refusal_in with_path (expansion_line 4 (((0x61, 0x61) ∷ [], 4) ∷ (others, 0) ∷ []))
+    ≡ Some wrong_target
+unfolding computing
+not_to_the_second_part = refl
+
+-- Steps count, are new, and their literals ascend.
+
+abbrev with_steps : AllKept
+with_steps = record kept { atoms = memberships }
+
+a_step : by_rule asked with_steps (rule_line step (minus 0 ∷ minus 1 ∷ plus 2 ∷ []))
+    ≡ Ok (record with_steps {
+      clauses = Some (record { literals = minus 0 ∷ minus 1 ∷ plus 2 ∷ []; level = 0 }) ∷ [];
+      rests = [] ∷ [];
+      counted = 1;
+    })
+unfolding computing
+a_step = refl
+
+a_step_out_of_order : refusal_in with_steps (rule_line step (minus 1 ∷ minus 0 ∷ plus 2 ∷ [])) ≡ Some rule_broken
+unfolding computing
+a_step_out_of_order = refl
+
+a_step_of_no_atom : refusal_in with_steps (rule_line step (plus 6 ∷ [])) ≡ Some unknown_id
+unfolding computing
+a_step_of_no_atom = refl
+
+a_step_twice : refusal_in (with_clauses (Some (plus 4 ∷ [], 0) ∷ []) ([] ∷ []) with_steps)
+    (rule_line step (plus 4 ∷ [])) ≡ Some repeated
+unfolding computing
+a_step_twice = refl
+
+a_step_past_the_limit : refusal_in (record with_steps { counted = 1 }) (rule_line step (plus 4 ∷ []))
+    ≡ Some wrong_verdict
+unfolding computing
+a_step_past_the_limit = refl
 
 -- The limit: one line counts, the next is a wrong verdict, though it follows.
 

@@ -160,6 +160,64 @@ no_word : of_string (of symbol.core_equal (x ∷ y ∷ [])) ≡ None
 unfolding computing
 no_word = refl
 
+-- Joined words are one piece, and of the empty word there is none; a concatenation is equal to a joined word, on either
+-- side, and to no other concatenation.
+
+abbrev joined : List Term → Term
+joined ts = of symbol.str_concat ts
+
+abbrev joined_atoms : List Atom
+joined_atoms =
+    in_atom (word_piece (codes "ab") ∷ []) (star a)
+    ∷ in_atom [] (star a)
+    ∷ in_atom (constant_piece 0 ∷ word_piece (codes "b") ∷ []) (cat a b)
+    ∷ in_atom (word_piece (codes "b") ∷ constant_piece 1 ∷ []) (cat a b) ∷ and_atom (plus 2 ∷ plus 3 ∷ []) ∷ []
+
+abbrev of_joined : Term → Option Lit
+of_joined t = translation joined_atoms t
+
+abbrev a_and_b : Term
+a_and_b = joined (word (codes "a") ∷ word [] ∷ word (codes "b") ∷ [])
+
+joined_words : of_joined (of symbol.str_in_re (a_and_b ∷ some_a ∷ [])) ≡ Some (plus 0)
+unfolding computing
+joined_words = refl
+
+the_empty_word : of_joined (of symbol.str_in_re (joined (word [] ∷ joined (word [] ∷ word [] ∷ []) ∷ []) ∷ some_a ∷ []))
+    ≡ Some (plus 1)
+unfolding computing
+the_empty_word = refl
+
+joined_on_the_left : of_joined (of symbol.core_equal (joined (x ∷ word (codes "b") ∷ []) ∷ a_and_b ∷ []))
+    ≡ Some (plus 2)
+unfolding computing
+joined_on_the_left = refl
+
+joined_on_the_right : of_joined
+    (of symbol.core_not (of symbol.core_equal (a_and_b ∷ joined (x ∷ joined (word (codes "b") ∷ word [] ∷ []) ∷ []) ∷
+    []) ∷ [])) ≡ Some (minus 2)
+unfolding computing
+joined_on_the_right = refl
+
+joined_in_a_chain : of_joined
+    (of symbol.core_equal
+    (joined (x ∷ word (codes "b") ∷ []) ∷ word (codes "ab") ∷ joined (word (codes "b") ∷ y ∷ []) ∷ []))
+    ≡ Some (plus 4)
+unfolding computing
+joined_in_a_chain = refl
+
+two_concatenations : of_joined
+    (of symbol.core_equal (joined (x ∷ word (codes "b") ∷ []) ∷ joined (word (codes "b") ∷ y ∷ []) ∷ [])) ≡ None
+unfolding computing
+two_concatenations = refl
+
+-- words are joined in a regular expression too
+joined_in_a_regex : of_string
+    (of symbol.str_in_re (x ∷ of symbol.str_to_re (joined (word (codes "a") ∷ word (codes "b") ∷ []) ∷ []) ∷ []))
+    ≡ Some (plus 1)
+unfolding computing
+joined_in_a_regex = refl
+
 distinct_words : of_string (of symbol.core_distinct (x ∷ word (codes "a") ∷ word (codes "b") ∷ [])) ≡ Some (plus 5)
 unfolding computing
 distinct_words = refl

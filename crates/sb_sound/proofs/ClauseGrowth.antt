@@ -9,14 +9,13 @@ use Rattle.sb_lit.specs.Hints.{Unlearned, is_repeated, learned}
 use Rattle.sb_lit.proofs.CallerLemmas.{is_same_literal-true}
 use Rattle.sb_meaning.specs.Terms.{Term}
 use Rattle.sb_meaning.specs.Values.{Valuation}
-use Rattle.sb_script.specs.State as state
 use Rattle.sb_rulebook.specs.Refusals.{Refusal, unknown_id, repeated, rule_broken}
 use Rattle.sb_rulebook.specs.Atoms.{Atom, literal_holds, truths_of, clause_holds}
 use Rattle.sb_rulebook.specs.AtomRules.{is_known, are_known}
 use Rattle.sb_rulebook.specs.Translation.{translation}
 use Rattle.sb_rulebook.specs.Lines.{Rule, gate, order, linear, step, empty}
 use Rattle.sb_rulebook.specs.Kept.{AllKept, Asked, counting, with_clause, rests_of_any}
-use Rattle.sb_script.specs.Fragment.{is_decided}
+use Rattle.sb_script.specs.Brought.{a_statement_of, is_brought}
 use Rattle.sb_rulebook.specs.ClauseRules.{holds_by, is_counted, follows_rule, is_this, is_translation, asserted, follows_assertion, refusal_of, follows_learned}
 use Rattle.sb_sound.specs.Tables.{HasWords}
 use Rattle.sb_sound.specs.TermLaws.{HasSorts}
@@ -102,15 +101,15 @@ with_clause_sound asked kept clause level rests known stand true_so sound =
 pub record IsOfTerm (atoms : List Atom) (o : Option Term) (l : Lit) : Type 0 where
   pub term : Term
   pub is : o ≡ Some term
-  pub decided : is_decided (state.asserted term) ≡ true
+  pub stated : is_brought (a_statement_of term) ≡ true
   pub there : translation atoms term ≡ Some l
 
 pub translation-parts : (atoms : List Atom) (o : Option Term) (l : Lit) → is_translation atoms o l ≡ true
     → IsOfTerm atoms o l
 translation-parts atoms None l h = absurd (false≢true h)
 translation-parts atoms (Some t) l h =
-    let parts = and_parts (is_decided (state.asserted t)) (is_this l (translation atoms t)) h in
-    record { term = t; is = refl; decided = parts.0; there = step (translation atoms t) parts.1 }
+    let parts = and_parts (is_brought (a_statement_of t)) (is_this l (translation atoms t)) h in
+    record { term = t; is = refl; stated = parts.0; there = step (translation atoms t) parts.1 }
   where
     step : (o : Option Lit) → is_this l o ≡ true → o ≡ Some l
     step None this = absurd (false≢true this)

@@ -6,14 +6,13 @@ use Rattle.sb_lit.specs.Clauses.{are_ascending}
 use Rattle.sb_lit.specs.Hints.{Unlearned, is_repeated, learned}
 use Rattle.sb_lit.proofs.CallerLemmas.{is_same_literal-self}
 use Rattle.sb_meaning.specs.Terms.{Term}
-use Rattle.sb_script.specs.State as state
 use Rattle.sb_rulebook.specs.Refusals.{Refusal, unknown_id, repeated, rule_broken}
 use Rattle.sb_rulebook.specs.Atoms.{Atom}
 use Rattle.sb_rulebook.specs.AtomRules.{is_known, are_known}
 use Rattle.sb_rulebook.specs.Translation.{translation}
 use Rattle.sb_rulebook.specs.Lines.{Rule, gate, order, linear, step, empty}
 use Rattle.sb_rulebook.specs.Kept.{AllKept, Asked, counting, with_clause, rests_of_any}
-use Rattle.sb_script.specs.Fragment.{is_decided}
+use Rattle.sb_script.specs.Brought.{a_statement_of, is_brought}
 use Rattle.sb_rulebook.specs.ClauseRules.{holds_by, is_counted, follows_rule, is_this, is_translation, asserted, follows_assertion, refusal_of, follows_learned}
 use Rattle.sb_sound.specs.GateLaws.{GatesAreExact}
 use Rattle.sb_sound.specs.BoundLaws.{OrdersAreExact}
@@ -170,7 +169,7 @@ assertion_form asked kept after place l h =
       term = of_term.term;
       level = a.1;
       live = found.1 ∙ ap (λ (o : Option Term). Some (o, a.1)) of_term.is;
-      decided = of_term.decided;
+      stated = of_term.stated;
       defined = ltb-true l.atom (length atoms) known.0;
       literal = of_term.there;
       is_kept = sym (same_ok {E = Refusal} now after right.1);
@@ -188,7 +187,7 @@ from_assertion asked kept after place l e =
     ∙ ap (λ b. if b then asserted kept place (Some e.term, e.level) l else Err unknown_id)
     (lt-ltb l.atom (length atoms) e.defined)
     ∙ ap (λ b. if b then Ok now else Err rule_broken)
-    (and_from (is_decided (state.asserted e.term)) (is_this l (translation atoms e.term)) e.decided
+    (and_from (is_brought (a_statement_of e.term)) (is_this l (translation atoms e.term)) e.stated
     (ap (is_this l) e.literal ∙ is_same_literal-self l))
     ∙ ap Ok (sym e.is_kept)
 

@@ -2,12 +2,11 @@
 use Rattle.std.specs.Prelude.{◌≡◌, ◌↔◌, ℕ, ◌+◌, ◌<◌, true, false, List, [], ◌∷◌, length, slice_get, Some, Ok, Contains}
 use Rattle.sb_lit.specs.declared.clause.Lit.{Lit}
 use Rattle.sb_meaning.specs.Terms.{Term}
-use Rattle.sb_script.specs.State.{asserted}
 use Rattle.sb_rulebook.specs.Atoms.{Atom}
 use Rattle.sb_rulebook.specs.Translation.{translation}
 use Rattle.sb_rulebook.specs.Lines.{Rule, gate, order, linear, step, empty}
 use Rattle.sb_rulebook.specs.Kept.{AllKept, Asked, most_counted, with_clause, rests_of_any}
-use Rattle.sb_script.specs.Fragment.{is_decided}
+use Rattle.sb_script.specs.Brought.{a_statement_of, is_brought}
 use Rattle.sb_rulebook.specs.ClauseRules.{is_counted, follows_rule, follows_assertion, follows_learned}
 use Rattle.sb_sound.specs.GateLaws.{IsGate}
 use Rattle.sb_sound.specs.BoundLaws.{IsOrder}
@@ -55,13 +54,13 @@ abbrev pub LearnedLinesAreExact : Type 0
 LearnedLinesAreExact = (asked : Asked) (kept after : AllKept) (clause : List Lit) (ids : List ℕ)
     → (follows_learned asked kept clause ids ≡ Ok after) ↔ IsLearnedLine asked kept after clause ids
 
--- An assertion's clause is the literal of its term, has its level, and rests on it. The assertion is decided, whatever
--- the others are.
+-- An assertion's clause is the literal of its term, has its level, and rests on it. The assertion is of a form that is
+-- brought.
 pub record IsAssertionLine (asked : Asked) (kept after : AllKept) (place : ℕ) (l : Lit) : Type 0 where
   pub term : Term
   pub level : ℕ
   pub live : slice_get asked.live place ≡ Some (Some term, level)
-  pub decided : is_decided (asserted term) ≡ true
+  pub stated : is_brought (a_statement_of term) ≡ true
   pub defined : l.atom < length kept.atoms
   pub literal : translation kept.atoms term ≡ Some l
   pub is_kept : after ≡ with_clause kept (l ∷ []) level (place ∷ [])
