@@ -81,6 +81,7 @@ absorbing_is k operation.Alt t h = grind (arith, nat_tests)
 absorbing_is k operation.And t h = grind (arith, nat_tests)
 absorbing_is k operation.Not t h = absurd (cc)
 absorbing_is k (operation.Cat b) t h = absurd (cc)
+absorbing_is k (operation.Path b) t h = absurd (cc)
 
 pub absorbed : (k : Constants) (op : Operation) (maps : List (List (ℕ × ℕ))) (i c stays t : ℕ) (m : List (ℕ × ℕ))
     (none ids : List ℕ) → i < length maps → m ≡ get_or maps i m → IsSpan m c stays t → absorbs k op t ≡ true → none ≡ []

@@ -218,6 +218,11 @@ unfolding drops
 cat_all k b [] = refl
 cat_all k b (t ∷ ts) = ap (λ xs. t ∷ xs) (cat_all k b ts)
 
+path_all : (k : Constants) (b : ℕ) (ts : List ℕ) → kept k (operation.Path b) ts ≡ ts
+unfolding drops
+path_all k b [] = refl
+path_all k b (t ∷ ts) = ap (λ xs. t ∷ xs) (path_all k b ts)
+
 made_kept : (rs : List Regex) (k : Constants) (op : Operation) (ts : List ℕ) → AreConstants rs k
     → made rs op (regexes_at rs (kept k op ts)) ≡ made rs op (regexes_at rs ts)
 unfolding made
@@ -227,6 +232,7 @@ made_kept rs k operation.And ts a =
     and_same (regexes_at rs (kept k operation.And ts)) (regexes_at rs ts) (and_kept rs k ts a)
 made_kept rs k operation.Not ts a = ap (λ xs. made rs operation.Not (regexes_at rs xs)) (not_all k ts)
 made_kept rs k (operation.Cat b) ts a = ap (λ xs. made rs (operation.Cat b) (regexes_at rs xs)) (cat_all k b ts)
+made_kept rs k (operation.Path b) ts a = ap (λ xs. made rs (operation.Path b) (regexes_at rs xs)) (path_all k b ts)
 
 one_any : (e : ℕ) → list_any (λ t. t == e) (e ∷ []) ≡ true
 one_any e = or_left (e == e) false (eq-eqb e e refl)
@@ -246,6 +252,7 @@ made_absorbed rs k operation.And ts a h =
     ∙ sym (and_whole (regexes_at rs ts) (has_none rs k.none ts e h))
 made_absorbed rs k operation.Not ts a h = absurd (none_any ts h)
 made_absorbed rs k (operation.Cat b) ts a h = absurd (none_any ts h)
+made_absorbed rs k (operation.Path b) ts a h = absurd (none_any ts h)
 
 pub made_picked : (rs : List Regex) (k : Constants) (op : Operation) (ts : List ℕ) → AreConstants rs k
     → made rs op (regexes_at rs (picked k op ts)) ≡ made rs op (regexes_at rs ts)
@@ -262,6 +269,7 @@ absorbing_number rs k operation.Alt a = names_below rs k.everything (neg none) a
 absorbing_number rs k operation.And a = names_below rs k.none none a.none_is
 absorbing_number rs k operation.Not a = names_below rs k.none none a.none_is
 absorbing_number rs k (operation.Cat b) a = names_below rs k.none none a.none_is
+absorbing_number rs k (operation.Path b) a = names_below rs k.none none a.none_is
 
 pub picked_numbers : (rs : List Regex) (k : Constants) (op : Operation) (ts : List ℕ) → AreConstants rs k
     → AllNumbers rs ts → AllNumbers rs (picked k op ts)
@@ -281,6 +289,7 @@ absorbing_absorbs k operation.Alt ts h = eq-eqb k.everything k.everything refl
 absorbing_absorbs k operation.And ts h = eq-eqb k.none k.none refl
 absorbing_absorbs k operation.Not ts h = absurd (none_any ts h)
 absorbing_absorbs k (operation.Cat b) ts h = absurd (none_any ts h)
+absorbing_absorbs k (operation.Path b) ts h = absurd (none_any ts h)
 
 leads_kept : (k : Constants) (op : Operation) (ts : List ℕ) → list_any (absorbs k op) ts ≡ false
     → leads k op (kept k op ts) ≡ false

@@ -1,5 +1,5 @@
 -- A target is made for each piece.
-use Rattle.std.proofs.Common.{◌≡◌, ℕ, zero, suc, ◌+◌, ◌<◌, ◌≤◌, Bool, true, false, cond, List, [], ◌∷◌, ◌++◌, length, take, drop, get_or, refl, sym, ap, ap₂, subst, ◌∙◌, arith, length-drop}
+use Rattle.std.proofs.Common.{◌≡◌, ℕ, suc, ◌+◌, ◌<◌, ◌≤◌, Bool, true, false, cond, List, [], ◌∷◌, ◌++◌, length, take, drop, get_or, refl, sym, ap, ap₂, subst, ◌∙◌, arith, length-drop}
 use Rattle.std.specs.Prelude.{nat_le}
 use Rattle.std.specs.List.{All}
 use Rattle.std.proofs.lemmas.Bool.{eq-eqb}
@@ -7,14 +7,14 @@ use Rattle.std.proofs.lemmas.Bool.Decides.{nat_tests}
 use Rattle.std.proofs.lemmas.List.{take_more, drop_more, take_all, get_or_default}
 use Rattle.std.proofs.lemmas.List.Elements.{All-nil, All-cons, All-append}
 use Rattle.sb_lang.specs.Regex.{Regex}
-use Rattle.sb_lang.specs.Constructors.{mkcat, mkalt, mkand, mknot}
+use Rattle.sb_lang.specs.Constructors.{mkcat, mkalt, mkand, mknot, mkpath}
 use Rattle.sb_regex.specs.Numbered.{regex_at, regexes_at, AllNumbers, Extends, Names}
 use Rattle.sb_deriv.specs.declared.operation.Operation.{Operation}
 use Rattle.sb_deriv.specs.declared.operation.Operation.TheVariants as operation
 use Rattle.sb_deriv.specs.Pieces.{value_from, value_at, rises, covers, are_merged, targets_of}
 use Rattle.sb_deriv.specs.Faithful.{IsMapOf}
 use Rattle.sb_deriv.specs.Choices.{first_of, made, list_of, OperandIsKnown, AreMade}
-use Rattle.sb_regex.proofs.CallerLemmas.{extends_same, extends_more, at_kept, ats_kept, names_at, names_below, names_kept, numbers_kept}
+use Rattle.sb_regex.proofs.CallerLemmas.{extends_same, extends_more, at_kept, ats_kept, names_at, names_below, names_kept, numbers_kept, one_number}
 use Rattle.sb_deriv.proofs.PieceFacts.{rises_head, rises_rest, rises_from_first, value_here, starts_below, value_pushed, value_below, map_some, covers_rises, covers_first}
 
 pub made_later : (old new : List Regex) (op : Operation) (ids : List ℕ) → Extends old new → OperandIsKnown old op
@@ -27,17 +27,17 @@ made_later old new operation.Not (i ∷ ids) e k h = ap mknot (at_kept old new i
 made_later old new (operation.Cat b) [] e k h = refl
 made_later old new (operation.Cat b) (i ∷ ids) e k h =
     ap₂ mkcat (at_kept old new i e (h 0 0 (omega arith))) (at_kept old new b e k)
+made_later old new (operation.Path b) [] e k h = refl
+made_later old new (operation.Path b) (i ∷ ids) e k h =
+    ap₂ mkpath (at_kept old new i e (h 0 0 (omega arith))) (at_kept old new b e k)
 
 pub operand_later : (old new : List Regex) (op : Operation) → Extends old new → OperandIsKnown old op
     → OperandIsKnown new op
 operand_later old new operation.Alt e k = tt
 operand_later old new operation.And e k = tt
 operand_later old new operation.Not e k = tt
-operand_later old new (operation.Cat b) e k = numbers_kept old new (b ∷ []) e (λ j d l. one j d l) 0 0 (omega arith)
-  where
-    one : (j d : ℕ) → j < length (b ∷ []) → get_or (b ∷ []) j d < length old
-    one zero d l = k
-    one (suc j) d l = absurd (omega arith)
+operand_later old new (operation.Cat b) e k = numbers_kept old new (b ∷ []) e (one_number old b k) 0 0 (omega arith)
+operand_later old new (operation.Path b) e k = numbers_kept old new (b ∷ []) e (one_number old b k) 0 0 (omega arith)
 
 pub record Making (cs : List (ℕ × List ℕ)) (rs0 rs : List Regex) (op : Operation) (k : ℕ) (out : List (ℕ × ℕ)) : Type 0
   where

@@ -12,7 +12,7 @@ use Rattle.std.specs.declared.cmp.Ordering.TheVariants.{Less, Equal, Greater}
 use Rattle.std.proofs.lemmas.Bool.{and_parts}
 use Rattle.sb_lang.specs.FoldLaws.{UnionOfOne}
 use Rattle.sb_lang.specs.Order.{code}
-use Rattle.sb_lang.specs.Constructors.{anything, mkset, mkcat, mkalt, mkand, mknot, alternatives, conjuncts, union_of, join_sets, alt_of, ranges_of, is_set, meet_sets, meet_of, and_of, sorted}
+use Rattle.sb_lang.specs.Constructors.{anything, mkset, mkcat, mkalt, mkand, mknot, mkpath, alternatives, conjuncts, union_of, join_sets, alt_of, ranges_of, is_set, meet_sets, meet_of, and_of, sorted}
 use Rattle.sb_regex.specs.Numbered.{regex_at, regexes_at, Names}
 use Rattle.sb_regex.proofs.CallerLemmas.{names_at, names_from}
 use Rattle.sb_deriv.specs.declared.operation.Constants.{Constants}
@@ -36,12 +36,14 @@ unfolding made
 of_none_and rs k op is a = a.everything_is ∙ ap Some (sym no_members ∙ ap (λ o. made rs o []) (sym is))
 
 pub of_none_other : (rs : List Regex) (k : Constants) (op : Operation)
-    → (op ≡ operation.Alt) ⊎ ((op ≡ operation.Not) ⊎ ((b : ℕ) × (op ≡ operation.Cat b))) → AreConstants rs k
-    → Names rs k.none (made rs op [])
+    → (op ≡ operation.Alt)
+    ⊎ ((op ≡ operation.Not) ⊎ (((b : ℕ) × (op ≡ operation.Cat b)) ⊎ ((b : ℕ) × (op ≡ operation.Path b))))
+    → AreConstants rs k → Names rs k.none (made rs op [])
 unfolding made
 of_none_other rs k op (inl e) a = a.none_is ∙ ap Some (sym no_alternatives ∙ ap (λ o. made rs o []) (sym e))
 of_none_other rs k op (inr (inl e)) a = a.none_is ∙ ap Some (ap (λ o. made rs o []) (sym e))
-of_none_other rs k op (inr (inr p)) a = a.none_is ∙ ap Some (ap (λ o. made rs o []) (sym p.1))
+of_none_other rs k op (inr (inr (inl p))) a = a.none_is ∙ ap Some (ap (λ o. made rs o []) (sym p.1))
+of_none_other rs k op (inr (inr (inr p))) a = a.none_is ∙ ap Some (ap (λ o. made rs o []) (sym p.1))
 
 one_none : mkand (none ∷ []) ≡ none
 unfolding mkand meet_sets meet_of ranges_of is_set conjuncts sorted and_of code
@@ -116,6 +118,12 @@ unfolding made
 made_cat_nil rs op b [] is l = ap (λ o. made rs o []) (sym is)
 made_cat_nil rs op b (i ∷ ids) is l = absurd (omega arith)
 
+pub made_path_nil : (rs : List Regex) (op : Operation) (b : ℕ) (ids : List ℕ) → op ≡ operation.Path b → length ids ≡ 0
+    → none ≡ made rs op (regexes_at rs ids)
+unfolding made
+made_path_nil rs op b [] is l = ap (λ o. made rs o []) (sym is)
+made_path_nil rs op b (i ∷ ids) is l = absurd (omega arith)
+
 pub made_not : (rs : List Regex) (op : Operation) (ids : List ℕ) (a : ℕ) → op ≡ operation.Not → 0 < length ids
     → a ≡ get_or ids 0 a → mknot (regex_at rs a) ≡ made rs op (regexes_at rs ids)
 unfolding made
@@ -128,4 +136,11 @@ pub made_cat : (rs : List Regex) (op : Operation) (b : ℕ) (ids : List ℕ) (a 
 unfolding made
 made_cat rs op b [] a is l h = absurd (omega arith)
 made_cat rs op b (i ∷ ids) a is l h = ap (λ x. mkcat (regex_at rs x) (regex_at rs b)) h
+    ∙ ap (λ o. made rs o (regexes_at rs (i ∷ ids))) (sym is)
+
+pub made_path : (rs : List Regex) (op : Operation) (b : ℕ) (ids : List ℕ) (a : ℕ) → op ≡ operation.Path b
+    → 0 < length ids → a ≡ get_or ids 0 a → mkpath (regex_at rs a) (regex_at rs b) ≡ made rs op (regexes_at rs ids)
+unfolding made
+made_path rs op b [] a is l h = absurd (omega arith)
+made_path rs op b (i ∷ ids) a is l h = ap (λ x. mkpath (regex_at rs x) (regex_at rs b)) h
     ∙ ap (λ o. made rs o (regexes_at rs (i ∷ ids))) (sym is)

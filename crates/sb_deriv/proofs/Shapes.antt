@@ -3,9 +3,10 @@ use Rattle.std.proofs.Common.{◌≡◌, ℕ, ◌<◌, Bool, true, false, nat_lt
 use Rattle.std.specs.List.{All, list_all}
 use Rattle.std.proofs.lemmas.Bool.{and_parts, false≢true}
 use Rattle.std.proofs.lemmas.Bool.Decides.{nat_tests}
+use Rattle.std.proofs.lemmas.List.Elements.{All-nil, All-cons}
 use Rattle.std.proofs.lemmas.List.Sums.{AllPass-from_list_all}
 use Rattle.sb_class.specs.Ranges.{Range, IsCanonical}
-use Rattle.sb_lang.specs.Regex.{Regex, none, eps, set, alt, and, neg, star, rep, regexes}
+use Rattle.sb_lang.specs.Regex.{Regex, none, eps, set, alt, and, neg, star, rep, path, regexes}
 use Rattle.sb_lang.specs.Constructors.{mkcat, mkalt, mkand, mkrep}
 use Rattle.sb_lang.specs.Derivative.{nd, nds}
 use Rattle.sb_lang.specs.NormalForm.{is_normal, IsNormal}
@@ -38,6 +39,11 @@ star_value : (rs : List Regex) (a : Regex) (n c : ℕ) → star a ≡ regex_at r
     → nd (star a) c ≡ made rs (operation.Cat n) (nd_each (a ∷ []) c)
 unfolding nd nds made
 star_value rs a n c e = ap (λ x. mkcat (nd a c) x) e
+
+path_value : (rs : List Regex) (a : Regex) (b c : ℕ)
+    → nd (path a (regex_at rs b)) c ≡ made rs (operation.Path b) (nd_each (a ∷ []) c)
+unfolding nd nds made
+path_value rs a b c = refl
 
 pub shape_none : (rs : List Regex) (d : Node) (r : Regex) → node_regex rs d ≡ r → d ≡ node.None → (c : ℕ)
     → nd r c ≡ none
@@ -108,3 +114,15 @@ pub made_star : (rs : List Regex) (n a : ℕ) (ps : List ℕ) → n < length rs 
 made_star rs n a ps l h e is =
     subst (λ (xs : List ℕ). IsMade rs n (operation.Cat n) xs) (sym is)
     (record { below = h; operand = l; value = λ c. ap (λ x. nd x c) (sym e) ∙ star_value rs (regex_at rs a) n c e })
+
+pub made_path : (rs : List Regex) (n a b : ℕ) (ps : List ℕ) → n < length rs → All (λ i. i < n) (a ∷ b ∷ [])
+    → path (regex_at rs a) (regex_at rs b) ≡ regex_at rs n → ps ≡ a ∷ [] → IsMade rs n (operation.Path b) ps
+made_path rs n a b ps l h e is =
+    subst (λ (xs : List ℕ). IsMade rs n (operation.Path b) xs) (sym is) (record {
+      below = All-cons (λ i. i < n) a [] (h 0 0 (omega arith)) (All-nil (λ i. i < n));
+      operand = known;
+      value = λ c. ap (λ x. nd x c) (sym e) ∙ path_value rs (regex_at rs a) b c;
+    })
+  where
+    known : b < length rs
+    known = let s : b < n = h 1 0 (omega arith) in omega (arith, s, l)

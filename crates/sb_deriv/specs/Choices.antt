@@ -3,7 +3,7 @@ use Rattle.std.specs.Prelude.{◌≡◌, ℕ, ◌<◌, ◌≤◌, ◌-◌, Bool,
 use Rattle.std.specs.List.{list_any}
 use Rattle.sb_class.specs.Ranges.{Range, IsCanonical}
 use Rattle.sb_lang.specs.Regex.{Regex, none, eps, set, cat, neg, rep}
-use Rattle.sb_lang.specs.Constructors.{mkcat, mkalt, mkand, mknot}
+use Rattle.sb_lang.specs.Constructors.{mkcat, mkalt, mkand, mknot, mkpath}
 use Rattle.sb_lang.specs.Derivative.{nd}
 use Rattle.sb_regex.specs.Numbered.{regex_at, regexes_at, AllNumbers, Names}
 use Rattle.sb_deriv.specs.declared.operation.Constants.{Constants}
@@ -15,7 +15,7 @@ use Rattle.sb_deriv.specs.Pieces.{value_at}
 use Rattle.sb_deriv.specs.Targets.{ClassTarget}
 use Rattle.sb_deriv.specs.Faithful.{Memo, entry_of}
 
--- what the operation makes of regexes: a complement or a concatenation of the first alone
+-- what the operation makes of regexes: a complement, a concatenation or the words to a regex of the first alone
 unfoldable pub made : List Regex → Operation → List Regex → Regex
 made rs operation.Alt ps = mkalt ps
 made rs operation.And ps = mkand ps
@@ -23,6 +23,8 @@ made rs operation.Not [] = none
 made rs operation.Not (p ∷ ps) = mknot p
 made rs (operation.Cat b) [] = none
 made rs (operation.Cat b) (p ∷ ps) = mkcat p (regex_at rs b)
+made rs (operation.Path b) [] = none
+made rs (operation.Path b) (p ∷ ps) = mkpath p (regex_at rs b)
 
 -- the numbers of three regexes
 pub record AreConstants (rs : List Regex) (k : Constants) : Type 0 where
@@ -36,6 +38,7 @@ drops k operation.Alt t = t == k.none
 drops k operation.And t = t == k.everything
 drops k operation.Not t = false
 drops k (operation.Cat b) t = false
+drops k (operation.Path b) t = false
 
 -- the member is what is made, whatever the others are
 unfoldable pub absorbs : Constants → Operation → ℕ → Bool
@@ -43,6 +46,7 @@ absorbs k operation.Alt t = t == k.everything
 absorbs k operation.And t = t == k.none
 absorbs k operation.Not t = false
 absorbs k (operation.Cat b) t = false
+absorbs k (operation.Path b) t = false
 
 -- those that make a difference
 abbrev pub kept : Constants → Operation → List ℕ → List ℕ
@@ -54,6 +58,7 @@ absorbing k operation.Alt = k.everything
 absorbing k operation.And = k.none
 absorbing k operation.Not = k.none
 absorbing k (operation.Cat b) = k.none
+absorbing k (operation.Path b) = k.none
 
 -- the one that absorbs the others, if it is there, or those that make a difference
 abbrev pub picked : Constants → Operation → List ℕ → List ℕ
@@ -111,6 +116,7 @@ OperandIsKnown rs operation.Alt = Unit {0}
 OperandIsKnown rs operation.And = Unit {0}
 OperandIsKnown rs operation.Not = Unit {0}
 OperandIsKnown rs (operation.Cat b) = b < length rs
+OperandIsKnown rs (operation.Path b) = b < length rs
 
 -- each target is what is made of the regexes of its piece
 abbrev pub AreMade : List Regex → Operation → List (ℕ × List ℕ) → List (ℕ × ℕ) → Type 0

@@ -118,6 +118,8 @@ pub(crate) enum Operation {
     Not,
     /// The first with this regex behind it.
     Cat(RegexId),
+    /// The words along which the derivative takes the first to this regex.
+    Path(RegexId),
 }
 
 impl Operation {
@@ -156,7 +158,7 @@ impl Operation {
         match self {
             Operation::Alt => is_union(arena, id, ids),
             Operation::And => is_intersection(arena, id, ids),
-            Operation::Not | Operation::Cat(_) => false,
+            Operation::Not | Operation::Cat(_) | Operation::Path(_) => false,
         }
     }
 
@@ -166,7 +168,8 @@ impl Operation {
     {
         match self {
             Operation::And => constants.everything,
-            Operation::Alt | Operation::Not | Operation::Cat(_) => constants.none,
+            Operation::Alt | Operation::Not | Operation::Cat(_) | Operation::Path(_) =>
+                constants.none,
         }
     }
 
@@ -196,6 +199,7 @@ impl Operation {
             }
             Operation::Not => arena.not(id),
             Operation::Cat(b) => arena.cat(id, *b),
+            Operation::Path(b) => arena.path(id, *b),
         }
     }
 
@@ -217,6 +221,10 @@ impl Operation {
                 [] => arena.none(),
                 [a, ..] => arena.cat(*a, *b),
             },
+            Operation::Path(b) => match ids {
+                [] => arena.none(),
+                [a, ..] => arena.path(*a, *b),
+            },
         }
     }
 
@@ -228,7 +236,7 @@ impl Operation {
         match self {
             Operation::Alt => id == constants.none,
             Operation::And => id == constants.everything,
-            Operation::Not | Operation::Cat(_) => false,
+            Operation::Not | Operation::Cat(_) | Operation::Path(_) => false,
         }
     }
 
@@ -240,7 +248,7 @@ impl Operation {
         match self {
             Operation::Alt => id == constants.everything,
             Operation::And => id == constants.none,
-            Operation::Not | Operation::Cat(_) => false,
+            Operation::Not | Operation::Cat(_) | Operation::Path(_) => false,
         }
     }
 }
@@ -288,5 +296,9 @@ pub(crate) fn shape_of(alloc: Global, arena: &Arena, id: RegexId) -> Result<Shap
             Ok(Shape::Made(Operation::Cat(id), parts))
         }
         Node::Rep(a, least, most) => Ok(Shape::Rep(*a, *least, *most)),
+        Node::Path(a, b) => {
+            let parts = SmallVec::from_slice(alloc, &[*a])?;
+            Ok(Shape::Made(Operation::Path(*b), parts))
+        }
     }
 }

@@ -46,6 +46,16 @@ impl Lengths {
         }
     }
 
+    /// Of a language of which nothing is known.
+    pub fn unknown() -> Lengths
+        ensures { (L : Language) → AreLengths result L }
+    {
+        Lengths {
+            possible: LengthSet::full(),
+            certain: LengthSet::none(),
+        }
+    }
+
     /// Of the empty word alone.
     pub fn empty_word() -> Lengths
         ensures { AreLengths result empty_word }

@@ -190,6 +190,7 @@ passed_other rs ns (node.And ps) f g = tt
 passed_other rs ns (node.Not a) f g = tt
 passed_other rs ns (node.Star a) f g = tt
 passed_other rs ns (node.Rep a n m) f g = tt
+passed_other rs ns (node.Path a b) f g = tt
 
 pub with_other : (rs : List Regex) (n : ℕ) (d : Node) (ns : List ℕ) → node_regex rs d ≡ regex_at rs n
     → ((a b : ℕ) → d ≡ node.Cat a b → ⊥) → ((ps : _) → d ≡ node.Alt ps → ⊥) → IsWith rs n ns ns

@@ -83,6 +83,7 @@ other_node rs (node.And ps) r e f g = subst IsOther e (record { is = λ c u. ref
 other_node rs (node.Not a) r e f g = subst IsOther e (record { is = λ c u. refl })
 other_node rs (node.Star a) r e f g = subst IsOther e (record { is = λ c u. refl })
 other_node rs (node.Rep a n m) r e f g = subst IsOther e (record { is = λ c u. refl })
+other_node rs (node.Path a b) r e f g = subst IsOther e (record { is = λ c u. refl })
 
 pub front_of_other : DerivativeHasRests → (old new : List Regex) (n z : ℕ) → Extends old new → n < length old
     → IsOther (regex_at old n) → Names new z eps → IsFront new n n z

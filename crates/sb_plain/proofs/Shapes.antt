@@ -6,7 +6,7 @@ use Rattle.std.proofs.lemmas.List.{drop_more, drop_all}
 use Rattle.std.proofs.lemmas.List.Elements.{All-cons, All-nil}
 use Rattle.std.specs.declared.alloc.Global.{Global}
 use Rattle.sb_class.specs.Ranges.{Range, in_range, in_ranges}
-use Rattle.sb_lang.specs.Regex.{Regex, none, eps, set, cat, alt, and, neg, star, rep, regexes}
+use Rattle.sb_lang.specs.Regex.{Regex, none, eps, set, cat, alt, and, neg, star, rep, path, regexes}
 use Rattle.sb_lang.specs.Order.{code}
 use Rattle.sb_lang.specs.Constructors.{anything, mkcat, mkalt, mkand, mknot, mkrep, conjuncts, ranges_of, is_set, meet_sets, meet_of, and_of, sorted}
 use Rattle.sb_lang.specs.Derivative.{nd, nds, nullable}
@@ -104,6 +104,19 @@ of_star rs n a l h e = record {
   value = λ c. ap (λ x. nd x c) (sym e) ∙ ap (λ x. mkcat (nd (regex_at rs a) c) x) e;
 }
 
+pub of_path : (rs : List Regex) (n a b : ℕ) → n < length rs → All (λ i. i < n) (a ∷ b ∷ [])
+    → path (regex_at rs a) (regex_at rs b) ≡ regex_at rs n → IsShape rs n (operation.Path b) (a ∷ [])
+unfolding made nd nds least_parts
+of_path rs n a b l h e = record {
+  below = All-cons (λ i. i < n) a [] (h 0 0 (omega arith)) (All-nil (λ i. i < n));
+  long = omega arith;
+  operand = known;
+  value = λ c. ap (λ x. nd x c) (sym e);
+}
+  where
+    known : b < length rs
+    known = let s : b < n = h 1 0 (omega arith) in omega (arith, s, l)
+
 pub of_cat : (rs : List Regex) (n a b : ℕ) (op : Operation) (ps : List ℕ) → a < n → b < n
     → cat (regex_at rs a) (regex_at rs b) ≡ regex_at rs n → IsShapeOfCat rs a b op ps → IsShape rs n op ps
 of_cat rs n a b op ps p q e h = record {
@@ -190,6 +203,7 @@ made_same rs operation.Alt c d ps h = refl
 made_same rs operation.And c d ps h = refl
 made_same rs operation.Not c d ps h = refl
 made_same rs (operation.Rep a n m) c d ps h = refl
+made_same rs (operation.Path b) c d ps h = refl
 
 -- a number in ranges, as a loop goes over them
 

@@ -4,7 +4,7 @@ use Rattle.std.specs.List.{list_all}
 use Rattle.sb_class.specs.Ranges.{Range, in_ranges}
 use Rattle.sb_word.specs.Words.{is_character}
 use Rattle.sb_lang.specs.Regex.{Regex, none, eps, cat, rep}
-use Rattle.sb_lang.specs.Constructors.{mkcat, mkalt, mkand, mknot, mkrep}
+use Rattle.sb_lang.specs.Constructors.{mkcat, mkalt, mkand, mknot, mkrep, mkpath}
 use Rattle.sb_lang.specs.Derivative.{nd}
 use Rattle.sb_regex.specs.Numbered.{regex_at, regexes_at}
 use Rattle.sb_plain.specs.declared.shape.Operation.{Operation}
@@ -58,6 +58,7 @@ made rs operation.Alt c ps = mkalt ps
 made rs operation.And c ps = mkand ps
 made rs operation.Not c ps = mknot (get_or ps 0 none)
 made rs (operation.Rep a n m) c ps = mkcat (get_or ps 0 none) (mkrep (regex_at rs a) n m)
+made rs (operation.Path b) c ps = mkpath (get_or ps 0 none) (regex_at rs b)
 
 -- the ranges of a set
 unfoldable pub set_ranges : Operation → List Range
@@ -69,6 +70,7 @@ set_ranges operation.Alt = []
 set_ranges operation.And = []
 set_ranges operation.Not = []
 set_ranges (operation.Rep a n m) = []
+set_ranges (operation.Path b) = []
 
 -- so many parts there are at least
 unfoldable pub least_parts : Operation → ℕ
@@ -80,6 +82,7 @@ least_parts operation.Alt = 0
 least_parts operation.And = 0
 least_parts operation.Not = 1
 least_parts (operation.Rep a n m) = 1
+least_parts (operation.Path b) = 1
 
 -- the number of a regex is known to the operation
 abbrev pub OperandIsKnown : List Regex → Operation → Type 0
@@ -91,6 +94,7 @@ OperandIsKnown rs operation.Alt = Unit {0}
 OperandIsKnown rs operation.And = Unit {0}
 OperandIsKnown rs operation.Not = Unit {0}
 OperandIsKnown rs (operation.Rep a n m) = a < length rs
+OperandIsKnown rs (operation.Path b) = b < length rs
 
 -- the derivatives of the parts by a character
 abbrev pub nd_each : List Regex → ℕ → List Regex

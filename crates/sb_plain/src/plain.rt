@@ -3,7 +3,7 @@
 ghost use Rattle.std.specs.Prelude.{◌≡◌, ◌<◌, ◌≤◌, ℕ, List, length, drop, IfOk};
 ghost use Rattle.sb_word.specs.Words.{IsWord};
 ghost use Rattle.sb_lang.specs.Regex.{Regex};
-ghost use Rattle.sb_lang.specs.Derivative.{nd};
+ghost use Rattle.sb_lang.specs.Derivative.{nd, nd_along};
 ghost use Rattle.sb_lang.specs.Language.{language};
 ghost use Rattle.sb_regex.specs.Numbered.{regex_at, Extends, Names};
 ghost use Rattle.sb_plain.specs.CutPoints.{AreCutPoints};
@@ -75,6 +75,25 @@ impl Plain {
         ensures right { IsRight arena.new self.new }
     {
         self.learnt.plain_derivative(arena, r, c)
+    }
+
+    /// The derivative along characters: one by each, as `plain_derivative` makes it.
+    ///
+    /// An error comes for want of memory alone, and the arena may hold more regexes then.
+    pub fn along(
+        &mut self,
+        arena: &mut Arena,
+        codes: &[u32],
+        r: RegexId,
+    ) -> Result<RegexId, AllocError>
+        requires known { r < length arena.old }
+        requires word { IsWord codes.now }
+        requires right { IsRight arena.old self.old }
+        ensures ok { IfOk result (λ id. Names arena.new id (nd_along (regex_at arena.old r) codes.now)) }
+        ensures extends { Extends arena.old arena.new }
+        ensures right { IsRight arena.new self.new }
+    {
+        self.learnt.along(arena, codes, r)
     }
 
     /// The cut points of a regex: 0, and where a range of a set by which a word can begin itself begins or has just

@@ -30,6 +30,8 @@ pub(crate) enum Operation {
     Not,
     /// The first with so many repetitions of this regex behind it.
     Rep(RegexId, u64, u64),
+    /// The words along which the derivative takes the first to this regex.
+    Path(RegexId),
 }
 
 /// How the derivative of a regex is made, and the parts whose derivatives it takes.
@@ -57,6 +59,7 @@ pub(crate) fn shape_of(alloc: Global, arena: &Arena, id: RegexId) -> Result<Shap
         Node::Not(a) => with_parts(alloc, Operation::Not, &[*a]),
         Node::Star(a) => with_parts(alloc, Operation::Cat(id), &[*a]),
         Node::Rep(a, least, most) => shape_of_rep(alloc, arena, *a, *least, *most),
+        Node::Path(a, b) => with_parts(alloc, Operation::Path(*b), &[*a]),
     }
 }
 
@@ -112,6 +115,7 @@ impl Operation {
             Operation::Set(ranges) => ranges.as_slice(),
             Operation::Nothing | Operation::Cat(_) | Operation::CatOrRest(_) => &[],
             Operation::Alt | Operation::And | Operation::Not | Operation::Rep(..) => &[],
+            Operation::Path(_) => &[],
         }
     }
 
@@ -149,6 +153,7 @@ impl Operation {
             Operation::And => intersection_of(alloc, arena, ids),
             Operation::Not => arena.not(ids[0]),
             Operation::Rep(a, least, most) => cat_with_rep(arena, ids[0], *a, *least, *most),
+            Operation::Path(b) => arena.path(ids[0], *b),
         }
     }
 }

@@ -1,12 +1,12 @@
 -- The regexes of new nodes are what the constructors give, and are normal.
-use Rattle.std.proofs.Common.{◌≡◌, ℕ, zero, suc, ◌<◌, ◌≤◌, ◌==◌, ◌&&◌, Bool, true, false, nat_lt, if◌then◌else◌, List, [], ◌∷◌, length, refl, sym, ap, ap₂, ◌∙◌, arith}
+use Rattle.std.proofs.Common.{◌≡◌, ℕ, zero, suc, ◌<◌, ◌≤◌, ◌==◌, ◌&&◌, ◌||◌, Bool, true, false, nat_lt, if◌then◌else◌, List, [], ◌∷◌, length, refl, sym, ap, ap₂, ◌∙◌, arith}
 use Rattle.std.specs.List.{All, list_all}
 use Rattle.std.proofs.lemmas.Bool.Decides.{nat_tests}
 use Rattle.std.proofs.lemmas.List.Sums.{AllPass-from_list_all}
 use Rattle.sb_class.specs.Ranges.{Range, IsCanonical}
-use Rattle.sb_lang.specs.Regex.{Regex, none, eps, set, neg, star, rep}
+use Rattle.sb_lang.specs.Regex.{Regex, none, eps, set, neg, star, rep, path}
 use Rattle.sb_lang.specs.Order.{code, regex_eq}
-use Rattle.sb_lang.specs.Constructors.{anything, any_character, is_none, mkset, mknot, mkstar, mkrep}
+use Rattle.sb_lang.specs.Constructors.{anything, any_character, is_anything, is_none, mkset, mknot, mkstar, mkrep, mkpath}
 use Rattle.sb_lang.specs.NormalForm.{is_normal, IsNormal}
 use Rattle.sb_lang.specs.NormalFormLaws.{ConstructorsGiveNormal}
 use Rattle.sb_regex.specs.declared.node.Node.{Node}
@@ -89,6 +89,7 @@ star_other rs d r e f g h k = ap (λ x. star x) (sym e) ∙ plain d f g h k ∙ 
     plain (node.Not a) f g h k = refl
     plain (node.Star a) f g h k = absurd (k a refl)
     plain (node.Rep a n m) f g h k = refl
+    plain (node.Path a b) f g h k = refl
 
 pub normal_star : (r : Regex) → ConstructorsGiveNormal → IsNormal r → star r ≡ mkstar r → IsNormal (star r)
 normal_star r law n e = rw e (law.stars r n)
@@ -181,6 +182,7 @@ rep_other rs d r n m le some other e f g =
     plain (node.Not a) f g = (refl, refl)
     plain (node.Star a) f g = (refl, refl)
     plain (node.Rep a k l) f g = (refl, refl)
+    plain (node.Path a b) f g = (refl, refl)
 
 pub normal_rep : (r : Regex) (n m : ℕ) → ConstructorsGiveNormal → IsNormal r → rep r n m ≡ mkrep r n m
     → IsNormal (rep r n m)
@@ -208,6 +210,65 @@ not_other rs d r e f = ap neg (sym e) ∙ plain d f ∙ ap mknot e
     plain (node.Not a) f = absurd (f a refl)
     plain (node.Star a) f = refl
     plain (node.Rep a n m) f = refl
+    plain (node.Path a b) f = refl
 
 pub normal_not : (r : Regex) → ConstructorsGiveNormal → IsNormal r → neg r ≡ mknot r → IsNormal (neg r)
 normal_not r law n e = rw e (law.complements r n)
+
+-- Paths.
+
+-- what a path from a regex comes to, where that has no word or every word, or has not
+path_of : Regex → Regex → Bool → Bool → Regex
+path_of a b stays same = if stays then (if same then anything else none) else path a b
+
+path_by : (a b : Regex) → mkpath a b ≡ path_of a b (is_none a || is_anything a) (regex_eq a b)
+unfolding mkpath path_of
+path_by a b = refl
+
+pub path_stays : (a b : Regex) (stays same : Bool) → stays ≡ (is_none a || is_anything a) → stays ≡ true
+    → same ≡ regex_eq a b → (if same then anything else none) ≡ mkpath a b
+unfolding path_of
+path_stays a b stays same is h e =
+    ap (λ t. path_of a b t same) (sym h ∙ is) ∙ ap (path_of a b (is_none a || is_anything a)) e ∙ sym (path_by a b)
+
+pub path_other : (a b : Regex) (stays : Bool) → stays ≡ (is_none a || is_anything a) → stays ≡ false
+    → path a b ≡ mkpath a b
+unfolding path_of
+path_other a b stays is h =
+    ap (λ t. path_of a b t (regex_eq a b)) (sym h ∙ is) ∙ sym (path_by a b)
+
+pub normal_path : (a b : Regex) → ConstructorsGiveNormal → IsNormal a → IsNormal b → path a b ≡ mkpath a b
+    → IsNormal (path a b)
+normal_path a b law n m e = rw e (law.paths a b n m)
+
+-- whether a regex stays, by its node
+pub stays_none : (rs : List Regex) (d : Node) (r : Regex) → node_regex rs d ≡ r → d ≡ node.None
+    → true ≡ (is_none r || is_anything r)
+unfolding code
+stays_none rs d r e is = ap (λ x. is_none (node_regex rs x) || is_anything (node_regex rs x)) (sym is)
+    ∙ ap (λ x. is_none x || is_anything x) e
+
+pub stays_not : (rs : List Regex) (d : Node) (r : Regex) (b : ℕ) (t : Bool) → node_regex rs d ≡ r → d ≡ node.Not b
+    → t ≡ is_none (regex_at rs b) → t ≡ (is_none r || is_anything r)
+unfolding code
+stays_not rs d r b t e is h =
+    h ∙ ap (λ x. is_none (node_regex rs x) || is_anything (node_regex rs x)) (sym is)
+    ∙ ap (λ x. is_none x || is_anything x) e
+
+pub stays_other : (rs : List Regex) (d : Node) (r : Regex) → node_regex rs d ≡ r → (d ≡ node.None → ⊥)
+    → ((b : ℕ) → d ≡ node.Not b → ⊥) → false ≡ (is_none r || is_anything r)
+unfolding code
+stays_other rs d r e f g = plain d f g ∙ ap (λ x. is_none x || is_anything x) e
+  where
+    plain : (d : Node) → (d ≡ node.None → ⊥) → ((b : ℕ) → d ≡ node.Not b → ⊥)
+        → false ≡ (is_none (node_regex rs d) || is_anything (node_regex rs d))
+    plain node.None f g = absurd (f refl)
+    plain node.Eps f g = refl
+    plain (node.Set v) f g = refl
+    plain (node.Cat a b) f g = refl
+    plain (node.Alt ps) f g = refl
+    plain (node.And ps) f g = refl
+    plain (node.Not a) f g = absurd (g a refl)
+    plain (node.Star a) f g = refl
+    plain (node.Rep a n m) f g = refl
+    plain (node.Path a b) f g = refl

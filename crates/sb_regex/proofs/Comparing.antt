@@ -104,6 +104,7 @@ not_none rs (node.And ps) h = refl
 not_none rs (node.Not a) h = refl
 not_none rs (node.Star a) h = refl
 not_none rs (node.Rep a n m) h = refl
+not_none rs (node.Path a b) h = refl
 
 tied : (x m : ℕ) → nat_eq x m ≡ is_eq (ordering_then (nat_cmp x m) Equal)
 tied x m = step (nat_cmp x m) refl
@@ -189,6 +190,7 @@ kind_of rs (node.And ps) = refl
 kind_of rs (node.Not a) = refl
 kind_of rs (node.Star a) = refl
 kind_of rs (node.Rep a n m) = refl
+kind_of rs (node.Path a b) = refl
 
 by_kinds : IsByKindThenParts regex_cmp → IsTotalOrder regex_cmp → (r s : Regex) → (kind r ≡ kind s → ⊥)
     → regex_cmp r s ≡ nat_cmp (kind r) (kind s)
@@ -228,6 +230,7 @@ none_first law total rs a b d e f g is = step (nat_eq (node_kind d) (node_kind e
     same_none (node.Not a) h = absurd (omega arith)
     same_none (node.Star a) h = absurd (omega arith)
     same_none (node.Rep a n m) h = absurd (omega arith)
+    same_none (node.Path a b) h = absurd (omega arith)
 
     step : (t : Bool) → nat_eq (node_kind d) (node_kind e) ≡ t
         → regex_cmp (regex_at rs a) (regex_at rs b) ≡ nat_cmp (node_kind d) (node_kind e)
@@ -255,6 +258,7 @@ eps_first law total rs a b d e f g is = step (nat_eq (node_kind d) (node_kind e)
     same_eps (node.Not a) h = absurd (omega arith)
     same_eps (node.Star a) h = absurd (omega arith)
     same_eps (node.Rep a n m) h = absurd (omega arith)
+    same_eps (node.Path a b) h = absurd (omega arith)
 
     step : (t : Bool) → nat_eq (node_kind d) (node_kind e) ≡ t
         → regex_cmp (regex_at rs a) (regex_at rs b) ≡ nat_cmp (node_kind d) (node_kind e)
@@ -277,6 +281,7 @@ not_set (node.And ps) h k = omega arith
 not_set (node.Not a) h k = omega arith
 not_set (node.Star a) h k = omega arith
 not_set (node.Rep a n m) h k = omega arith
+not_set (node.Path a b) h k = omega arith
 
 pub set_first : IsByKindThenParts regex_cmp → IsTotalOrder regex_cmp → (rs : List Regex) (a b : ℕ) (d e : Node)
     → node_regex rs d ≡ regex_at rs a → node_regex rs e ≡ regex_at rs b → (v : _) → d ≡ node.Set v
@@ -294,6 +299,7 @@ not_cat (node.And ps) h k = omega arith
 not_cat (node.Not a) h k = omega arith
 not_cat (node.Star a) h k = omega arith
 not_cat (node.Rep a n m) h k = omega arith
+not_cat (node.Path a b) h k = omega arith
 
 pub cat_first : IsByKindThenParts regex_cmp → IsTotalOrder regex_cmp → (rs : List Regex) (a b : ℕ) (d e : Node)
     → node_regex rs d ≡ regex_at rs a → node_regex rs e ≡ regex_at rs b → (p q : _) → d ≡ node.Cat p q
@@ -312,6 +318,7 @@ not_alt (node.And ps) h k = omega arith
 not_alt (node.Not a) h k = omega arith
 not_alt (node.Star a) h k = omega arith
 not_alt (node.Rep a n m) h k = omega arith
+not_alt (node.Path a b) h k = omega arith
 
 pub alt_first : IsByKindThenParts regex_cmp → IsTotalOrder regex_cmp → (rs : List Regex) (a b : ℕ) (d e : Node)
     → node_regex rs d ≡ regex_at rs a → node_regex rs e ≡ regex_at rs b → (ps : _) → d ≡ node.Alt ps
@@ -329,6 +336,7 @@ not_and (node.And ps) h k = h ps refl
 not_and (node.Not a) h k = omega arith
 not_and (node.Star a) h k = omega arith
 not_and (node.Rep a n m) h k = omega arith
+not_and (node.Path a b) h k = omega arith
 
 pub and_first : IsByKindThenParts regex_cmp → IsTotalOrder regex_cmp → (rs : List Regex) (a b : ℕ) (d e : Node)
     → node_regex rs d ≡ regex_at rs a → node_regex rs e ≡ regex_at rs b → (ps : _) → d ≡ node.And ps
@@ -346,6 +354,7 @@ not_not (node.And ps) h k = omega arith
 not_not (node.Not a) h k = h a refl
 not_not (node.Star a) h k = omega arith
 not_not (node.Rep a n m) h k = omega arith
+not_not (node.Path a b) h k = omega arith
 
 pub not_first : IsByKindThenParts regex_cmp → IsTotalOrder regex_cmp → (rs : List Regex) (a b : ℕ) (d e : Node)
     → node_regex rs d ≡ regex_at rs a → node_regex rs e ≡ regex_at rs b → (p : _) → d ≡ node.Not p
@@ -363,6 +372,7 @@ not_star (node.And ps) h k = omega arith
 not_star (node.Not a) h k = omega arith
 not_star (node.Star a) h k = h a refl
 not_star (node.Rep a n m) h k = omega arith
+not_star (node.Path a b) h k = omega arith
 
 pub star_first : IsByKindThenParts regex_cmp → IsTotalOrder regex_cmp → (rs : List Regex) (a b : ℕ) (d e : Node)
     → node_regex rs d ≡ regex_at rs a → node_regex rs e ≡ regex_at rs b → (p : _) → d ≡ node.Star p
@@ -380,6 +390,7 @@ not_rep (node.And ps) h k = omega arith
 not_rep (node.Not a) h k = omega arith
 not_rep (node.Star a) h k = omega arith
 not_rep (node.Rep a n m) h k = h a n m refl
+not_rep (node.Path a b) h k = omega arith
 
 pub rep_first : IsByKindThenParts regex_cmp → IsTotalOrder regex_cmp → (rs : List Regex) (a b : ℕ) (d e : Node)
     → node_regex rs d ≡ regex_at rs a → node_regex rs e ≡ regex_at rs b → (p n m : _) → d ≡ node.Rep p n m
@@ -387,6 +398,25 @@ pub rep_first : IsByKindThenParts regex_cmp → IsTotalOrder regex_cmp → (rs :
     → regex_cmp (regex_at rs a) (regex_at rs b) ≡ nat_cmp (node_kind d) (node_kind e)
 rep_first law total rs a b d e f g x0 x1 x2 is other =
     other_kind law total rs a b d e f g (λ k. not_rep e other (ap node_kind (sym is) ∙ k))
+
+not_path : (e : Node) → ((p q : _) → e ≡ node.Path p q → ⊥) → 9 ≡ node_kind e → ⊥
+not_path node.None h k = omega arith
+not_path node.Eps h k = omega arith
+not_path (node.Set v) h k = omega arith
+not_path (node.Cat a b) h k = omega arith
+not_path (node.Alt ps) h k = omega arith
+not_path (node.And ps) h k = omega arith
+not_path (node.Not a) h k = omega arith
+not_path (node.Star a) h k = omega arith
+not_path (node.Rep a n m) h k = omega arith
+not_path (node.Path a b) h k = h a b refl
+
+pub path_first : IsByKindThenParts regex_cmp → IsTotalOrder regex_cmp → (rs : List Regex) (a b : ℕ) (d e : Node)
+    → node_regex rs d ≡ regex_at rs a → node_regex rs e ≡ regex_at rs b → (p q : _) → d ≡ node.Path p q
+    → ((p q : _) → e ≡ node.Path p q → ⊥)
+    → regex_cmp (regex_at rs a) (regex_at rs b) ≡ nat_cmp (node_kind d) (node_kind e)
+path_first law total rs a b d e f g x0 x1 is other =
+    other_kind law total rs a b d e f g (λ k. not_path e other (ap node_kind (sym is) ∙ k))
 
 -- Members in order.
 
@@ -506,6 +536,26 @@ bodies_differ law tells rs distinct a b p n m q k l f g u v h =
     ap₂ (λ x y. regex_cmp x y) (sym f) (sym g)
     ∙ law.repetitions _ _ _ _ _ _
     ∙ unlike_then _ _ (differ tells rs distinct p q u v h)
+
+-- Paths.
+
+pub ends_differ : IsByKindThenParts regex_cmp → IsTotalOrder regex_cmp → (rs : List Regex) (a b p q r s : ℕ)
+    → path (regex_at rs p) (regex_at rs q) ≡ regex_at rs a → path (regex_at rs r) (regex_at rs s) ≡ regex_at rs b
+    → nat_eq p r ≡ true → regex_cmp (regex_at rs a) (regex_at rs b) ≡ regex_cmp (regex_at rs q) (regex_at rs s)
+ends_differ law total rs a b p q r s f g h =
+    ap₂ (λ x y. regex_cmp x y) (sym f) (sym g)
+    ∙ law.paths _ _ _ _
+    ∙ ap (λ o. ordering_then o (regex_cmp (regex_at rs q) (regex_at rs s)))
+    (ap (λ i. regex_cmp (regex_at rs p) (regex_at rs i)) (sym (nat_same p r h)) ∙ tied_itself total (regex_at rs p))
+
+pub starts_differ : IsByKindThenParts regex_cmp → OrderTellsApart → (rs : List Regex) → AreDistinct rs
+    → (a b p q r s : ℕ) → path (regex_at rs p) (regex_at rs q) ≡ regex_at rs a
+    → path (regex_at rs r) (regex_at rs s) ≡ regex_at rs b → p < length rs → r < length rs → nat_eq p r ≡ false
+    → regex_cmp (regex_at rs a) (regex_at rs b) ≡ regex_cmp (regex_at rs p) (regex_at rs r)
+starts_differ law tells rs distinct a b p q r s f g l m h =
+    ap₂ (λ x y. regex_cmp x y) (sym f) (sym g)
+    ∙ law.paths _ _ _ _
+    ∙ unlike_then _ _ (differ tells rs distinct p r l m h)
 
 -- The loop over parts that differ.
 

@@ -89,6 +89,7 @@ alternatives_other rs d r e other = ap (λ x. x ∷ []) (sym e) ∙ step d other
     step (node.Not a) h = refl
     step (node.Star a) h = refl
     step (node.Rep a n m) h = refl
+    step (node.Path a b) h = refl
 
 pub conjuncts_other : (rs : List Regex) (d : Node) (r : Regex) → node_regex rs d ≡ r → ((ps : _) → d ≡ node.And ps → ⊥)
     → r ∷ [] ≡ conjuncts r
@@ -105,6 +106,7 @@ conjuncts_other rs d r e other = ap (λ x. x ∷ []) (sym e) ∙ step d other �
     step (node.Not a) h = refl
     step (node.Star a) h = refl
     step (node.Rep a n m) h = refl
+    step (node.Path a b) h = refl
 
 pub ranges_set : (rs : List Range) (r : Regex) → set rs ≡ r → rs ∷ [] ≡ ranges_of r
 unfolding ranges_of
@@ -125,6 +127,7 @@ ranges_other rs d r e other = step d other ∙ ap ranges_of e
     step (node.Not a) h = refl
     step (node.Star a) h = refl
     step (node.Rep a n m) h = refl
+    step (node.Path a b) h = refl
 
 pub alone_set : (rs : List Range) (r : Regex) → set rs ≡ r → [] ≡ kept_alone r
 unfolding kept_alone is_set
@@ -145,6 +148,7 @@ alone_other rs d r e other = ap (λ x. x ∷ []) (sym e) ∙ step d other ∙ ap
     step (node.Not a) h = refl
     step (node.Star a) h = refl
     step (node.Rep a n m) h = refl
+    step (node.Path a b) h = refl
 
 pub normal_is_canonical : (rs : List Range) (r : Regex) → set rs ≡ r → IsNormal r → IsCanonical rs
 unfolding is_normal

@@ -4,7 +4,7 @@ use Rattle.std.specs.Cmp.Lexicographic.{pointwise, same_text}
 use Rattle.std.proofs.lemmas.Bool.{and_parts, false≢true}
 use Rattle.std.proofs.lemmas.Bool.Decides.{nat_tests}
 use Rattle.sb_class.specs.Ranges.{Range}
-use Rattle.sb_lang.specs.Regex.{Regex, set, cat, alt, and, neg, star, rep, regexes, parts}
+use Rattle.sb_lang.specs.Regex.{Regex, set, cat, alt, and, neg, star, rep, path, regexes, parts}
 use Rattle.sb_lang.specs.OrderLaws.{kind}
 use Rattle.sb_regex.specs.declared.node.Node.{Node}
 use Rattle.sb_regex.specs.declared.node.Node.TheVariants as node
@@ -90,6 +90,9 @@ same_gives rs (node.Rep a n m) (node.Rep b k l) h =
     let q = and_parts (nat_eq n k) _ p.1 in
     rep_same (regex_at rs a) (regex_at rs b) n k m l (ap (regex_at rs) (nat_same a b p.0)) (nat_same n k q.0)
     (nat_same m l q.1)
+same_gives rs (node.Path a b) (node.Path c d) h =
+    let p = and_parts (nat_eq a c) _ h in
+    ap₂ (λ x y. path (regex_at rs x) (regex_at rs y)) (nat_same a c p.0) (nat_same b d p.1)
 same_gives rs _ _ h = absurd (false≢true h)
 
 -- Regexes of other kinds, and the parts of equal ones.
@@ -111,6 +114,9 @@ star_part a b e = cc
 
 rep_parts : (a b : Regex) (n k m l : ℕ) → rep a n m ≡ rep b k l → (a ≡ b) × (n ≡ k) × (m ≡ l)
 rep_parts a b n k m l e = (cc, cc, cc)
+
+path_parts : (a b c d : Regex) → path a b ≡ path c d → (a ≡ c) × (b ≡ d)
+path_parts a b c d e = (cc, cc)
 
 -- The test finds nodes of one regex.
 
@@ -141,4 +147,9 @@ gives_same rs (node.Rep a n m) (node.Rep b k l) t p q h =
     ap₂ ◌&&◌
     (same_nat a b (t a b (p 0 0 (omega arith)) (q 0 0 (omega arith)) e.0))
     (ap₂ ◌&&◌ (same_nat n k e.1) (same_nat m l e.2))
+gives_same rs (node.Path a b) (node.Path c d) t p q h =
+    let e = path_parts _ _ _ _ h in
+    ap₂ ◌&&◌
+    (same_nat a c (t a c (p 0 0 (omega arith)) (q 0 0 (omega arith)) e.0))
+    (same_nat b d (t b d (p 1 0 (omega arith)) (q 1 0 (omega arith)) e.1))
 gives_same rs d e t p q h = absurd (other_kinds _ _ refl h)

@@ -35,6 +35,8 @@ same_parts (node.Not a) (node.Not b) h = ap (λ x. x ∷ []) (nat_same a b h)
 same_parts (node.Star a) (node.Star b) h = ap (λ x. x ∷ []) (nat_same a b h)
 same_parts (node.Rep a n m) (node.Rep b k l) h =
     let p = and_parts (nat_eq a b) _ h in ap (λ x. x ∷ []) (nat_same a b p.0)
+same_parts (node.Path a b) (node.Path c d) h =
+    let p = and_parts (nat_eq a c) _ h in ap₂ (λ x y. x ∷ y ∷ []) (nat_same a c p.0) (nat_same b d p.1)
 same_parts _ _ h = absurd (false≢true h)
 
 module _ {S T : Type 0} where

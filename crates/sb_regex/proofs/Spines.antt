@@ -61,6 +61,7 @@ not_cat rs d r e other = sym (ap is_cat e) ∙ step d other
     step (node.Not a) h = refl
     step (node.Star a) h = refl
     step (node.Rep a n m) h = refl
+    step (node.Path a b) h = refl
 
 pub plain_node : (rs : List Regex) (d : Node) (r : Regex) → node_regex rs d ≡ r → (d ≡ node.None → ⊥)
     → (d ≡ node.Eps → ⊥) → is_plain r ≡ true
@@ -77,6 +78,7 @@ plain_node rs d r e f g = sym (ap is_plain e) ∙ step d f g
     step (node.Not a) f g = refl
     step (node.Star a) f g = refl
     step (node.Rep a n m) f g = refl
+    step (node.Path a b) f g = refl
 
 -- From the right.
 

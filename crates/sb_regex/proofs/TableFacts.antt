@@ -7,7 +7,7 @@ use Rattle.std.proofs.lemmas.List.{get_or_append_left, get_or_push, get_or_defau
 use Rattle.std.proofs.lemmas.List.Folds.{list_all-append, list_any-from_Any}
 use Rattle.std.proofs.lemmas.Option.{get_or_from_slice_get, slice_get_within, slice_get-get_or}
 use Rattle.sb_lang.specs.NormalForm.{is_normal}
-use Rattle.sb_lang.specs.Regex.{Regex, none, cat, alt, and, neg, star, rep, regexes}
+use Rattle.sb_lang.specs.Regex.{Regex, none, cat, alt, and, neg, star, rep, path, regexes}
 use Rattle.sb_regex.specs.declared.arena.Facts.{Facts}
 use Rattle.sb_regex.specs.declared.node.Node.{Node}
 use Rattle.sb_regex.specs.declared.node.Node.TheVariants as node
@@ -36,6 +36,8 @@ node_kept old new (node.And ps) e h = ap (λ rs. and (regexes rs)) (ats_kept old
 node_kept old new (node.Not a) e h = ap (λ r. neg r) (at_kept old new a e (h 0 0 (omega arith)))
 node_kept old new (node.Star a) e h = ap (λ r. star r) (at_kept old new a e (h 0 0 (omega arith)))
 node_kept old new (node.Rep a n m) e h = ap (λ r. rep r n m) (at_kept old new a e (h 0 0 (omega arith)))
+node_kept old new (node.Path a b) e h =
+    ap₂ (λ x y. path x y) (at_kept old new a e (h 0 0 (omega arith))) (at_kept old new b e (h 1 0 (omega arith)))
 
 -- where the one more element is
 pub get_push : {X : Type 0} (xs : List X) (y x : X) (i : ℕ) → slice_get (xs ++ y ∷ []) i ≡ Some x

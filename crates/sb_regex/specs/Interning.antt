@@ -23,6 +23,7 @@ node_kind (node.And ps) = 5
 node_kind (node.Not a) = 6
 node_kind (node.Star a) = 7
 node_kind (node.Rep a n m) = 8
+node_kind (node.Path a b) = 9
 
 -- what is kept of a regex is true of it
 pub record AreFactsOf (facts : Facts) (r : Regex) : Type 0 where

@@ -1,8 +1,8 @@
-//! The constructors of single regexes, concatenations, stars and repetitions.
+//! The constructors of single regexes, concatenations, stars, repetitions and paths.
 
-ghost use Rattle.std.specs.Prelude.{◌≡◌, ◌<◌, ◌≤◌, true, false, length, IfOk};
-ghost use Rattle.sb_lang.specs.Regex.{set};
-ghost use Rattle.sb_lang.specs.Constructors.{any_character, mkset, mkcat, mknot, mkstar, mkrep};
+ghost use Rattle.std.specs.Prelude.{◌≡◌, ◌<◌, ◌≤◌, ◌||◌, true, false, if◌then◌else◌, length, IfOk};
+ghost use Rattle.sb_lang.specs.Regex.{none, set};
+ghost use Rattle.sb_lang.specs.Constructors.{any_character, anything, is_anything, is_none, mkset, mkcat, mknot, mkstar, mkrep, mkpath};
 ghost use Rattle.sb_lang.specs.Order.{regex_eq};
 ghost use Rattle.sb_lang.specs.Normal.{word_regex};
 ghost use Rattle.sb_lang.specs.NormalForm.{IsNormal};
@@ -183,6 +183,53 @@ impl Arena {
             Node::None => { if least == 0 { self.eps() } else { Ok(body) } }
             _ => self.intern(Node::Rep(body, least, most)),
         }
+    }
+
+    /// The words along which the derivative takes the one regex to the other. Constant time.
+    pub fn path(&mut self, from: RegexId, to: RegexId) -> Result<RegexId, AllocError>
+        requires from { from < length self.old }
+        requires to { to < length self.old }
+        ensures ok { IfOk result (λ id. Names self.new id (mkpath (regex_at self.old from) (regex_at self.old to))) }
+        ensures extends { Extends self.old self.new }
+    {
+        constructors_give_normal();
+        order_tells_apart();
+        self.normal_regexes_each_once();
+        if self.stays(from) {
+            return self.every_word_if(from == to);
+        }
+        self.intern(Node::Path(from, to))
+    }
+
+    /// Whether the derivative by each character is the regex itself: it has no word, or every word.
+    fn stays(&self, a: RegexId) -> bool
+        requires { a < length self.now }
+        ensures { result ≡ (is_none (regex_at self.now a) || is_anything (regex_at self.now a)) }
+    {
+        match self.node(a) {
+            Node::None => true,
+            Node::Not(b) => self.is_none(*b),
+            _ => false,
+        }
+    }
+
+    /// Whether the regex is the one with no word.
+    fn is_none(&self, a: RegexId) -> bool
+        requires { a < length self.now }
+        ensures { result ≡ is_none (regex_at self.now a) }
+    {
+        match self.node(a) {
+            Node::None => true,
+            _ => false,
+        }
+    }
+
+    /// The regex of every word, or of none.
+    fn every_word_if(&mut self, every: bool) -> Result<RegexId, AllocError>
+        ensures ok { IfOk result (λ id. Names self.new id (if every then anything else none)) }
+        ensures extends { Extends self.old self.new }
+    {
+        if every { self.anything() } else { self.none() }
     }
 
     /// The sets of the word's characters, one behind the other. Linear.

@@ -114,6 +114,16 @@ impl Arena {
                     Difference::Parts(*p, *q)
                 }
             }
+            Node::Path(p, q) => {
+                let Node::Path(r, s) = right else {
+                    return by_kind(left, right);
+                };
+                if p == r {
+                    Difference::Parts(*q, *s)
+                } else {
+                    Difference::Parts(*p, *r)
+                }
+            }
         }
     }
 }

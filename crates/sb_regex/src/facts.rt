@@ -21,6 +21,8 @@ impl Arena {
         requires { PartsBelow (length self.now) node.now }
         ensures { result ≡ nullable (node_regex self.now node.now) }
     {
+        order_tells_apart();
+        self.normal_regexes_each_once();
         match node {
             Node::None | Node::Set(_) => false,
             Node::Eps | Node::Star(_) => true,
@@ -29,6 +31,7 @@ impl Arena {
             Node::And(parts) => self.all_nullable(parts.as_slice()),
             Node::Not(a) => !self.nullable(*a),
             Node::Rep(a, least, most) => *least <= *most && (*least == 0 || self.nullable(*a)),
+            Node::Path(a, b) => *a == *b,
         }
     }
 
@@ -73,6 +76,7 @@ impl Arena {
             Node::Not(a) => self.lengths(*a).complement(),
             Node::Star(a) => self.lengths(*a).star(),
             Node::Rep(a, least, most) => self.lengths(*a).repeat(*least, *most),
+            Node::Path(..) => Lengths::unknown(),
         }
     }
 

@@ -62,6 +62,8 @@ pub enum Node {
     Star(RegexId),
     /// Repetition: the body, from the first number of times to the second.
     Rep(RegexId, u64, u64),
+    /// The words along which the derivative takes the first to the second.
+    Path(RegexId, RegexId),
 }
 
 impl Node {
@@ -81,6 +83,7 @@ impl Node {
             Node::Not(_) => 6,
             Node::Star(_) => 7,
             Node::Rep(..) => 8,
+            Node::Path(..) => 9,
         }
     }
 }

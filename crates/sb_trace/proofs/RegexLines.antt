@@ -7,7 +7,7 @@ use Rattle.std.proofs.lemmas.List.Elements.{All-append, All-cons, All-nil}
 use Rattle.std.proofs.lemmas.List.Sums.{AllPass-from_list_all}
 use Rattle.std.proofs.lemmas.Option.{slice_get-map, slice_get_within, unwrap_or-slice_get}
 use Rattle.sb_class.specs.Ranges.{Range, fits_from, rises_from}
-use Rattle.sb_lang.specs.Regex.{Regex, none, set, cat, alt, and, neg, star, rep, no_more, regexes, parts}
+use Rattle.sb_lang.specs.Regex.{Regex, none, set, cat, alt, and, neg, star, rep, path, no_more, regexes, parts}
 use Rattle.sb_lang.specs.Order.{code, regex_eq}
 use Rattle.sb_lang.specs.OrderLaws.{OrderTellsApart}
 use Rattle.sb_lang.specs.Constructors.{mkset, mkalt, mkand, alternatives, conjuncts, ranges_of, is_set, union_of, join_sets, meet_of, meet_sets, sorted, alt_of, and_of}
@@ -20,14 +20,13 @@ use Rattle.sb_deriv.specs.Faithful.{Memo, entry_of}
 use Rattle.sb_deriv.specs.Pieces.{targets_of}
 use Rattle.sb_graph.specs.Findings.{is_marked}
 use Rattle.sb_rulebook.specs.Refusals.{Refusal, unknown_id, repeated, not_normal}
-use Rattle.sb_rulebook.specs.Brought.{is_brought_node}
 use Rattle.sb_rulebook.specs.Parts.{together}
 use Rattle.sb_rulebook.specs.Lines as lines
 use Rattle.sb_rulebook.specs.Lines.{regex_line, text_of}
 use Rattle.sb_rulebook.specs.LineLaws.{is_small, are_small, is_small_range, have_text, some_small, node_has_text}
 use Rattle.sb_rulebook.specs.Kept.{AllKept, Asked, targets_in, with_regex}
-use Rattle.sb_rulebook.specs.RegexRules.{of_one, regex_of_node, defined, follows_regex}
-use Rattle.sb_rulebook.specs.Follows.{not_brought, follows}
+use Rattle.sb_rulebook.specs.RegexRules.{of_one, regex_of_node, defined}
+use Rattle.sb_rulebook.specs.Follows.{follows}
 use Rattle.sb_rulebook.proofs.CallerLemmas.{same_regex}
 use Rattle.sb_script.specs.Steps.{line}
 use Rattle.sb_proof.specs.Tapes.{with_bytes}
@@ -81,17 +80,11 @@ node-named rs order (node.Star a) n h =
 node-named rs order (node.Rep a least most) n h =
     ap (regex_of_node (regexes_at rs order)) h.4
     ∙ ap (option_map (λ r. rep r least most)) (named rs order a h.0 h.1)
-
-node-brought : (order : List ℕ) (d : Node) (n : lines.Node) → IsNodeIn order d n → is_brought_node n ≡ true
-node-brought order node.None n h = ap is_brought_node h
-node-brought order node.Eps n h = ap is_brought_node h
-node-brought order (node.Set ranges) n h = ap is_brought_node h
-node-brought order (node.Cat a b) n h = ap is_brought_node h.4
-node-brought order (node.Alt ps) n h = ap is_brought_node h.2
-node-brought order (node.And ps) n h = ap is_brought_node h.2
-node-brought order (node.Not a) n h = ap is_brought_node h.2
-node-brought order (node.Star a) n h = ap is_brought_node h.2
-node-brought order (node.Rep a least most) n h = ap is_brought_node h.4
+node-named rs order (node.Path a b) n h =
+    let known = regexes_at rs order in
+    ap (regex_of_node known) h.4
+    ∙ ap (option_and_then (λ r. of_one known (path r) h.1)) (named rs order a h.0 h.2)
+    ∙ ap (option_map (path (regex_at rs a))) (named rs order b h.1 h.3)
 
 -- A regex without a number is not kept.
 
@@ -134,8 +127,7 @@ pub regex_follows : (asked : Asked) (rs : List Regex) (memo : Memo) (t : Traced)
     → Tracks rs memo t kept → IsNodeIn t.order d n → number_in t.order r ≡ None
     → follows asked kept (regex_line n) ≡ Ok (with_regex (regex_at rs r) kept)
 regex_follows asked rs memo t kept d n r apart once normal at tracks is new =
-    ap (λ b. if b then follows_regex kept n else not_brought (follows_regex kept n)) (node-brought t.order d n is)
-    ∙ ap (λ o. elim o as (λ _. Result AllKept Refusal) [ None ↦ Err unknown_id | Some q ↦ defined kept q ]) found
+    ap (λ o. elim o as (λ _. Result AllKept Refusal) [ None ↦ Err unknown_id | Some q ↦ defined kept q ]) found
     ∙ defined-new kept (regex_at rs r)
     (ap (list_any (regex_eq (regex_at rs r))) tracks.regexes
     ∙ not-kept rs t.order r apart once at.known tracks.numbers (number-missing t.order r new))
@@ -224,6 +216,8 @@ node-has-text rs order (node.Star a) n l normal h = ap node_has_text h.2 ∙ sma
 node-has-text rs order (node.Rep a least most) n l normal h =
     ap node_has_text h.4
     ∙ ap₂ ◌&&◌ (small order a h.0 l h.1) (ap₂ ◌&&◌ (lt-ltb least (2 ^ 64) h.2) (lt-ltb most (2 ^ 64) h.3))
+node-has-text rs order (node.Path a b) n l normal h =
+    ap node_has_text h.4 ∙ ap₂ ◌&&◌ (small order a h.0 l h.2) (small order b h.1 l h.3)
 
 -- What is kept behind it.
 

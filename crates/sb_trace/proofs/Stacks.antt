@@ -62,6 +62,7 @@ node-parts rs (node.And ps) = parts-regexes (regexes_at rs ps.items)
 node-parts rs (node.Not a) = refl
 node-parts rs (node.Star a) = refl
 node-parts rs (node.Rep a n m) = refl
+node-parts rs (node.Path a b) = refl
 
 head-same : (a b : Regex) (xs ys : List Regex) → a ∷ xs ≡ b ∷ ys → a ≡ b
 head-same a b xs ys h = cc
@@ -157,6 +158,7 @@ node-weight rs (node.And ps) = ap suc (weights-regexes rs ps.items)
 node-weight rs (node.Not a) = omega arith
 node-weight rs (node.Star a) = omega arith
 node-weight rs (node.Rep a n m) = omega arith
+node-weight rs (node.Path a b) = omega arith
 
 weight-positive : (r : Regex) → 0 < weight r
 weight-positive none = omega arith

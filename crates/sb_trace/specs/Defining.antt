@@ -34,6 +34,8 @@ IsNodeIn order (node.Not a) n = (i : ℕ) × (number_in order a ≡ Some i) × (
 IsNodeIn order (node.Star a) n = (i : ℕ) × (number_in order a ≡ Some i) × (n ≡ lines.star_node i)
 IsNodeIn order (node.Rep a least most) n =
     (i : ℕ) × (number_in order a ≡ Some i) × (least < 2 ^ 64) × (most < 2 ^ 64) × (n ≡ lines.rep_node i least most)
+IsNodeIn order (node.Path a b) n =
+    (i : ℕ) × (j : ℕ) × (number_in order a ≡ Some i) × (number_in order b ≡ Some j) × (n ≡ lines.path_node i j)
 
 -- the node is the one of the regex at a number
 pub record IsNodeAt (rs : List Regex) (n : ℕ) (node : Node) : Type 0 where

@@ -18,7 +18,7 @@ pub(crate) fn part_at(node: &Node, place: usize) -> Option<RegexId>
 {
     match node {
         Node::None | Node::Eps | Node::Set(_) => None,
-        Node::Cat(first, second) => match place {
+        Node::Cat(first, second) | Node::Path(first, second) => match place {
             0 => Some(*first),
             1 => Some(*second),
             _ => None,
@@ -37,7 +37,7 @@ pub(crate) fn part_count(node: &Node) -> usize
 {
     match node {
         Node::None | Node::Eps | Node::Set(_) => 0,
-        Node::Cat(..) => 2,
+        Node::Cat(..) | Node::Path(..) => 2,
         Node::Alt(parts) | Node::And(parts) => parts.len(),
         Node::Not(_) | Node::Star(_) | Node::Rep(..) => 1,
     }
@@ -114,5 +114,8 @@ pub(crate) fn proof_node(
         Node::Not(part) => ProofNode::Not(number_of(order, *part)),
         Node::Star(part) => ProofNode::Star(number_of(order, *part)),
         Node::Rep(part, least, most) => proof_rep(order, *part, *least, *most),
+        Node::Path(first, second) => {
+            ProofNode::Path(number_of(order, *first), number_of(order, *second))
+        }
     })
 }

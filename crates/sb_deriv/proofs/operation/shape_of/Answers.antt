@@ -1,6 +1,6 @@
 use Rattle.std.proofs.Common.{◌∙◌, ap, sym, arith}
 use Rattle.sb_regex.specs.Nodes.{node_regex}
-use Rattle.sb_deriv.proofs.Shapes.{shape_none, shape_eps, shape_set, made_alt, made_and, made_not, made_star, shape_rep}
+use Rattle.sb_deriv.proofs.Shapes.{shape_none, shape_eps, shape_set, made_alt, made_and, made_not, made_star, made_path, shape_rep}
 use Rattle.sb_deriv.proofs.operation.shape_of.Goals as goal
 
 pub returns-in-None : goal.returns-in-None
@@ -56,3 +56,9 @@ returns-in-Rep c =
           c.normal_regexes_each_once.ensures.normal c.requires value,
       sym value,
     )
+
+pub returns-in_ok-parts-in-Path : goal.returns-in_ok-parts-in-Path
+returns-in_ok-parts-in-Path c =
+    let parts = rw (c.in-Path.is) at c.node.ensures.parts in
+    made_path c.args.arena.now c.args.id c.in-Path.a c.in-Path.b _ c.requires parts
+    (ap (node_regex c.args.arena.now) (sym c.in-Path.is) ∙ c.node.ensures.value) c.in_ok-parts-in-Path.ensures.ok

@@ -1,7 +1,7 @@
 use Rattle.std.proofs.Common.{◌∙◌, ap, sym, arith}
 use Rattle.std.proofs.lemmas.Result.{IfOk-weaker}
 use Rattle.sb_regex.specs.Nodes.{node_regex}
-use Rattle.sb_plain.proofs.Shapes.{shape_with, of_none, of_eps, of_set_ranges, of_alt, of_and, of_not, of_star, of_cat, of_rep}
+use Rattle.sb_plain.proofs.Shapes.{shape_with, of_none, of_eps, of_set_ranges, of_alt, of_and, of_not, of_star, of_cat, of_rep, of_path}
 use Rattle.sb_plain.proofs.shape.shape_of.Goals as goal
 
 pub returns-in-None : goal.returns-in-None
@@ -78,3 +78,12 @@ returns-in-Rep c =
     (λ s h. of_rep c.args.arena.now c.args.id c.in-Rep.a c.in-Rep.least c.in-Rep.most s.operation s.parts.items parts
     (ap (node_regex c.args.arena.now) (sym c.in-Rep.is) ∙ c.node.ensures.value) h)
     c.shape_of_rep.ensures
+
+pub returns-in-Path : goal.returns-in-Path
+returns-in-Path c =
+    let parts = rw (c.in-Path.is) at c.node.ensures.parts in
+    IfOk-weaker c.with_parts-in-Path.result _ _
+    (λ s e. shape_with c.args.arena.now c.args.id _ s.operation _ s.parts.items e.0 e.1
+    (of_path c.args.arena.now c.args.id c.in-Path.a c.in-Path.b c.requires parts
+    (ap (node_regex c.args.arena.now) (sym c.in-Path.is) ∙ c.node.ensures.value)))
+    c.with_parts-in-Path.ensures

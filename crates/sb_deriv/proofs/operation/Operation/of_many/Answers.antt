@@ -1,4 +1,4 @@
-use Rattle.sb_deriv.proofs.Operations.{made_alt, made_and, made_not_nil, made_cat_nil, made_not, made_cat}
+use Rattle.sb_deriv.proofs.Operations.{made_alt, made_and, made_not_nil, made_cat_nil, made_path_nil, made_not, made_cat, made_path}
 use Rattle.std.proofs.Common.{arith}
 use Rattle.sb_deriv.proofs.operation.Operation.of_many.Goals as goal
 
@@ -26,3 +26,13 @@ pub returns-in-len1-up-ids-clause-ok : goal.returns-in-len1-up-ids-clause-ok
 returns-in-len1-up-ids-clause-ok c =
     rw (made_cat c.args.arena.now c.args.self.now _ c.args.ids.now _ c.in-Cat.is (omega arith) c.a-item-in-Cat.is) at
     c.cat.ensures.ok
+
+pub returns-in-empty-ids-2-clause-ok : goal.returns-in-empty-ids-2-clause-ok
+returns-in-empty-ids-2-clause-ok c =
+    rw (made_path_nil c.args.arena.now c.args.self.now _ c.args.ids.now c.in-Path.is (omega arith)) at
+    c.none-in-empty-ids-2.ensures.ok
+
+pub returns-in-len1-up-ids-2-clause-ok : goal.returns-in-len1-up-ids-2-clause-ok
+returns-in-len1-up-ids-2-clause-ok c =
+    rw (made_path c.args.arena.now c.args.self.now _ c.args.ids.now _ c.in-Path.is (omega arith) c.a-item-in-Path.is) at
+    c.path.ensures.ok

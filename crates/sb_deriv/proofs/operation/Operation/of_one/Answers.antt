@@ -1,6 +1,6 @@
 use Rattle.std.proofs.Common.{◌∷◌, [], refl, sym, ◌∙◌, arith}
 use Rattle.std.proofs.lemmas.Bool.{eqb-true}
-use Rattle.sb_deriv.proofs.Operations.{one_union, one_absorbed, made_and, made_not, made_cat}
+use Rattle.sb_deriv.proofs.Operations.{one_union, one_absorbed, made_and, made_not, made_cat, made_path}
 use Rattle.sb_regex.proofs.CallerLemmas.{one_number}
 use Rattle.sb_deriv.proofs.operation.Operation.of_one.Goals as goal
 
@@ -25,6 +25,11 @@ pub returns-in-Cat-clause-ok : goal.returns-in-Cat-clause-ok
 returns-in-Cat-clause-ok c =
     rw (made_cat c.args.arena.now c.args.self.now _ (c.args.id ∷ []) c.args.id c.in-Cat.is (omega arith) refl) at
     c.cat.ensures.ok
+
+pub returns-in-Path-clause-ok : goal.returns-in-Path-clause-ok
+returns-in-Path-clause-ok c =
+    rw (made_path c.args.arena.now c.args.self.now _ (c.args.id ∷ []) c.args.id c.in-Path.is (omega arith) refl) at
+    c.path.ensures.ok
 
 pub and-requires : goal.and-requires
 and-requires c = one_number c.args.arena.now c.args.id c.requires.member

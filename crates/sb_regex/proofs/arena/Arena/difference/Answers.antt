@@ -1,6 +1,6 @@
 use Rattle.std.proofs.Common.{ap, sym, ◌∙◌, arith}
 use Rattle.sb_regex.specs.Nodes.{node_regex}
-use Rattle.sb_regex.proofs.Comparing.{none_first, eps_first, set_first, cat_first, alt_first, and_first, not_first, star_first, rep_first, unions_differ, intersections_differ, rests_differ, heads_differ, bounds_differ, bodies_differ}
+use Rattle.sb_regex.proofs.Comparing.{none_first, eps_first, set_first, cat_first, alt_first, and_first, not_first, star_first, rep_first, path_first, unions_differ, intersections_differ, rests_differ, heads_differ, bounds_differ, bodies_differ, ends_differ, starts_differ}
 use Rattle.sb_regex.proofs.arena.Arena.difference.Goals as goal
 
 pub returns-in_default : goal.returns-in_default
@@ -127,4 +127,38 @@ returns-else-eq-2 c =
           c.normal_regexes_each_once.ensures.distinct c.args.a c.args.b _ _ _ _ _ _ f g
           (omega (arith, l, c.requires.left)) (omega (arith, m, c.requires.right))
           (sym c.eq-in-Rep.ensures ∙ c.if-eq-2.false),
+    )
+
+pub returns-in_default-right-7 : goal.returns-in_default-right-7
+returns-in_default-right-7 c =
+    rw (c.by_kind-in_default-right-7.ensures)
+    (path_first c.order_is_by_parts.ensures c.order_is_total.ensures c.args.self.now c.args.a c.args.b _ _
+    c.node-left.ensures.value c.node-right.ensures.value c.in-Path.p c.in-Path.q c.in-Path.is
+    c.in_default-right-7.not-Path)
+
+pub returns-then-eq-3 : goal.returns-then-eq-3
+returns-then-eq-3 c =
+    let f = ap (node_regex c.args.self.now) (sym c.in-Path.is) ∙ c.node-left.ensures.value in
+    let g = ap (node_regex c.args.self.now) (sym c.in-Path-right.is) ∙ c.node-right.ensures.value in
+    let p = rw (c.in-Path.is) at c.node-left.ensures.parts in
+    let q = rw (c.in-Path-right.is) at c.node-right.ensures.parts in (
+      p 1 0 (omega arith),
+      q 1 0 (omega arith),
+      ends_differ c.order_is_by_parts.ensures c.order_is_total.ensures c.args.self.now c.args.a c.args.b _ _ _ _ f g
+          (sym c.eq-in-Path.ensures ∙ c.if-eq-3.true),
+    )
+
+pub returns-else-eq-3 : goal.returns-else-eq-3
+returns-else-eq-3 c =
+    let f = ap (node_regex c.args.self.now) (sym c.in-Path.is) ∙ c.node-left.ensures.value in
+    let g = ap (node_regex c.args.self.now) (sym c.in-Path-right.is) ∙ c.node-right.ensures.value in
+    let p = rw (c.in-Path.is) at c.node-left.ensures.parts in
+    let q = rw (c.in-Path-right.is) at c.node-right.ensures.parts in
+    let l = p 0 0 (omega arith) in
+    let m = q 0 0 (omega arith) in (
+      l,
+      m,
+      starts_differ c.order_is_by_parts.ensures c.order_tells_apart.ensures c.args.self.now
+          c.normal_regexes_each_once.ensures.distinct c.args.a c.args.b _ _ _ _ f g (omega (arith, l, c.requires.left))
+          (omega (arith, m, c.requires.right)) (sym c.eq-in-Path.ensures ∙ c.if-eq-3.false),
     )

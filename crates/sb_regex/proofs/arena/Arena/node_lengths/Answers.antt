@@ -13,3 +13,6 @@ returns-in-Set c =
     (full_set c.order_tells_apart.ensures c.in-Set.ranges.items c.is_full.result
     (rw (c.as_slice.ensures.value) at c.is_full.ensures)))
     (λ w. refl))
+
+pub returns-in-Path : goal.returns-in-Path
+returns-in-Path c = c.unknown.ensures _
