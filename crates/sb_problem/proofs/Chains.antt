@@ -23,6 +23,7 @@ use Rattle.sb_problem.specs.Shapes.{joined_right, or_none, regex_of, arguments_i
 use Rattle.sb_problem.specs.Waiting.{size, sizes}
 use Rattle.sb_problem.proofs.Keeping.{all_last}
 use Rattle.sb_problem.proofs.Meanings.{are_all, regexes_all}
+use Rattle.sb_problem.proofs.Texts.{text_no_regex}
 
 -- how many there are in all of them
 abbrev pub total : List Term → ℕ
@@ -129,10 +130,12 @@ joining_made ts rs new ks root left rest whole i regex more j is made named = re
 concatenates : (rs : List Regex) (t : Term) (k : Known) → IsKnown rs t k → is_regex t ≡ true
     → ((id : _) → k ≡ known.Made id → ⊥) → IsConcatenation t × (is_concatenation k ≡ true)
 concatenates rs t known.Nothing h kind none_made = absurd h
-concatenates rs t known.Other h kind none_made = absurd (false≢true (sym h ∙ kind))
+concatenates rs t known.Other h kind none_made = absurd (false≢true (sym h.0 ∙ kind))
 concatenates rs t known.Concatenation h kind none_made = (h, refl)
 concatenates rs t (known.Made id) h kind none_made = absurd (none_made id refl)
-concatenates rs t (known.Spelled id) h kind none_made = absurd (false≢true (sym h.0 ∙ kind))
+concatenates rs t (known.Text count) h kind none_made = absurd (false≢true (sym (text_no_regex t h.0) ∙ kind))
+concatenates rs t (known.Spelled id count) h kind none_made =
+    absurd (false≢true (sym (text_no_regex t h.0.0) ∙ kind))
 
 parts_joined : ConcatenationGroups → (ts : Terms) (xs : List Term) (w : Regex) → is_regex (apply re_concat ts) ≡ true
     → terms_of xs ≡ ts → chain (map regex_of xs) w ≡ mkcat (regex_of (apply re_concat ts)) w

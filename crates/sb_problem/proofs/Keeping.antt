@@ -1,12 +1,13 @@
 -- What is kept of terms by number, as more of them become known.
-use Rattle.std.proofs.Common.{◌≡◌, ℕ, zero, suc, ◌+◌, ◌<◌, ◌≤◌, ◌≢◌, Bool, true, false, not, ◌&&◌, nat_eq, List, [], ◌∷◌, ◌++◌, length, get_or, take, set, map, slice_get, refl, sym, ap, ap₂, subst, ◌∙◌, arith, ◌⊎◌, inl, inr, Option, Some, None, option_map, length-append}
-use Rattle.std.proofs.lemmas.Bool.{and_parts, false≢true}
+use Rattle.std.proofs.Common.{◌≡◌, ℕ, zero, suc, ◌+◌, ◌<◌, ◌≤◌, ◌≢◌, Bool, true, false, not, ◌&&◌, nat_eq, List, [], ◌∷◌, ◌++◌, length, get_or, take, drop, set, map, slice_get, refl, sym, ap, ap₂, subst, ◌∙◌, arith, ◌⊎◌, inl, inr, Option, Some, None, option_map, Result, IfOk, length-append}
+use Rattle.std.proofs.lemmas.Bool.{and_parts, and_from, false≢true}
 use Rattle.std.proofs.lemmas.Option.{same_Some}
-use Rattle.std.proofs.lemmas.List.{take_more, take_all, map-append, get_or_default, get_or-set_same, get_or-set_other, length-set}
+use Rattle.std.proofs.lemmas.List.{drop_all, take_more, take_all, map-append, get_or-set_same, get_or-set_other, length-set}
 use Rattle.std.proofs.lemmas.List.Elements.{All-append}
 use Rattle.std.proofs.lemmas.List.Folds.{list_all-append, list_all_at}
 use Rattle.std.proofs.lemmas.Bool.Decides.{nat_tests}
 use Rattle.std.specs.List.{All, list_all}
+use Rattle.std.specs.Prelude.{is_some}
 use Rattle.sb_term.specs.declared.sort.Symbol.{Symbol}
 use Rattle.sb_term.specs.declared.sort.Symbol.TheVariants as symbol
 use Rattle.sb_term.specs.Symbols.{symbol_in}
@@ -20,15 +21,18 @@ use Rattle.sb_facts.proofs.CallerLemmas.{all_weaker}
 use Rattle.sb_lang.specs.Regex.{Regex}
 use Rattle.sb_regex.specs.Numbered.{regex_at, regexes_at, Extends}
 use Rattle.sb_regex.proofs.CallerLemmas.{names_kept, names_at, names_below, one_number, numbers_kept, ats_kept}
-use Rattle.sb_meaning.specs.Terms.{Term, Terms, constant, word, numeral, parameter, apply, terms_of, no_terms, with_term, re_concat}
-use Rattle.sb_script.specs.Brought.{is_regex, are_regexes}
+use Rattle.sb_meaning.specs.Terms.{Term, Terms, apply, terms_of, no_terms, with_term, re_concat, str_concat}
+use Rattle.sb_script.specs.Brought.{is_regex, are_regexes, is_text, are_texts}
+use Rattle.sb_script.specs.Sizes.{size_of, sizes_of}
 use Rattle.sb_problem.specs.declared.normals.Known.{Known}
 use Rattle.sb_problem.specs.declared.normals.Known.TheVariants as known
-use Rattle.sb_problem.specs.Known.{IsKnown, IsConcatenation, AreNormals, AreTold, KnowsMore, PartsPass, known_from, is_something, is_other, is_concatenation, is_known}
+use Rattle.sb_problem.specs.Known.{IsKnown, IsConcatenation, IsTextBy, AreNormals, AreTexts, AreTold, KnowsMore, PartsPass, count_known, known_from, is_something, is_other, is_concatenation, is_known}
 use Rattle.sb_problem.specs.Laws.{NormalsStay}
 use Rattle.sb_problem.specs.Patterns.{literal_of}
 use Rattle.sb_problem.specs.Shapes.{IsNumbered, IsFound, AreRegexesOf, arguments_in, made, joins, joined_right, either, both, or_none, regex_of, regexes_of}
+use Rattle.sb_problem.specs.Words.{up_to_limit}
 use Rattle.sb_problem.proofs.Meanings.{are_all, regexes_all}
+use Rattle.sb_problem.proofs.Texts.{limit_sum, regex_no_text, text_no_regex}
 
 -- the last one of a list
 pub all_last : {A : Type 0} (p : A → Bool) (xs : List A) (x : A) → list_all p (xs ++ x ∷ []) ≡ true
@@ -57,7 +61,8 @@ some_known known.Nothing h = absurd (h refl)
 some_known known.Other h = refl
 some_known known.Concatenation h = refl
 some_known (known.Made id) h = refl
-some_known (known.Spelled id) h = refl
+some_known (known.Text count) h = refl
+some_known (known.Spelled id count) h = refl
 
 pub kept_known : (ks : List Known) (id : ℕ) (k : Known) → k ≡ get_or ks id known.Nothing → (k ≡ known.Nothing → ⊥)
     → is_known ks id ≡ true
@@ -68,14 +73,16 @@ concatenation_known known.Nothing h = absurd (false≢true h)
 concatenation_known known.Other h = absurd (false≢true h)
 concatenation_known known.Concatenation h = refl
 concatenation_known (known.Made id) h = absurd (false≢true h)
-concatenation_known (known.Spelled id) h = absurd (false≢true h)
+concatenation_known (known.Text count) h = absurd (false≢true h)
+concatenation_known (known.Spelled id count) h = absurd (false≢true h)
 
 pub known_something : (rs : List Regex) (t : Term) (k : Known) → IsKnown rs t k → is_something k ≡ true
 known_something rs t known.Nothing h = absurd h
 known_something rs t known.Other h = refl
 known_something rs t known.Concatenation h = refl
 known_something rs t (known.Made id) h = refl
-known_something rs t (known.Spelled id) h = refl
+known_something rs t (known.Text count) h = refl
+known_something rs t (known.Spelled id count) h = refl
 
 pub normals_new : (ts : List Term) (rs : List Regex) (ks : List Known) → length ks ≡ 0 → AreNormals ts rs ks
 normals_new ts rs ks h = record {
@@ -91,7 +98,9 @@ known_kept rs new t known.Nothing e h = h
 known_kept rs new t known.Other e h = h
 known_kept rs new t known.Concatenation e h = h
 known_kept rs new t (known.Made id) e h = (h.0, names_kept rs new id (regex_of t) e h.1)
-known_kept rs new t (known.Spelled id) e h = (h.0, (h.1.0, names_kept rs new id (regex_of (literal_of t)) e h.1.1))
+known_kept rs new t (known.Text count) e h = h
+known_kept rs new t (known.Spelled id count) e h =
+    (h.0, (h.1.0, names_kept rs new id (regex_of (literal_of t)) e h.1.1))
 
 -- the arguments of a term
 pub parts_weaker : (ts : List Term) (p q : ℕ → Bool) (i : ℕ) → ((j : ℕ) → p j ≡ true → q j ≡ true) → PartsPass ts p i
@@ -146,17 +155,38 @@ normals_pushed ts rs ks items items' n view more l =
 -- which terms are regular expressions
 told_known : (rs : List Regex) (t : Term) (k : Known) → IsKnown rs t k → is_regex t ≡ not (is_other k)
 told_known rs t known.Nothing h = absurd h
-told_known rs t known.Other h = h
+told_known rs t known.Other h = h.0
 told_known rs t known.Concatenation h = h.kind
 told_known rs t (known.Made id) h = h.0
-told_known rs t (known.Spelled id) h = h.0
+told_known rs t (known.Text count) h = text_no_regex t h.0
+told_known rs t (known.Spelled id count) h = text_no_regex t h.0.0
 
 pub told : (ts : List Term) (rs : List Regex) (ks : List Known) → AreNormals ts rs ks → AreTold ts ks
 told ts rs ks n i m = told_known rs (term_at ts i) (get_or ks i known.Nothing) (n.each i m)
 
-pub known_is : (rs : List Regex) (t : Term) (found : Option ℕ) → IsNumbered rs t found → IsKnown rs t (known_from found)
-known_is rs t None h = h
-known_is rs t (Some id) h = h
+-- which terms are words
+text_known : (rs : List Regex) (t : Term) (k : Known) → IsKnown rs t k → IsTextBy t (count_known k)
+text_known rs t known.Nothing h = absurd h
+text_known rs t known.Other h = h.1
+text_known rs t known.Concatenation h = regex_no_text t h.kind
+text_known rs t (known.Made id) h = regex_no_text t h.0
+text_known rs t (known.Text count) h = h
+text_known rs t (known.Spelled id count) h = h.0
+
+pub texts : (ts : List Term) (rs : List Regex) (ks : List Known) → AreNormals ts rs ks → AreTexts ts ks
+texts ts rs ks n i m = text_known rs (term_at ts i) (get_or ks i known.Nothing) (n.each i m)
+
+-- what is known of one that is a word, and of one that is none
+pub text_at : (ts : List Term) (ks : List Known) (id : ℕ) (k : Known) (found : Option ℕ) → AreTexts ts ks
+    → is_known ks id ≡ true → k ≡ get_or ks id known.Nothing → found ≡ count_known k →
+    IsTextBy (term_at ts id) found
+text_at ts ks id k found t m is e =
+    subst (IsTextBy (term_at ts id)) (sym (e ∙ ap count_known is)) (t id m)
+
+pub known_is : (rs : List Regex) (t : Term) (found : Option ℕ) → is_text t ≡ false → IsNumbered rs t found
+    → IsKnown rs t (known_from found)
+known_is rs t None other h = (h, other)
+known_is rs t (Some id) other h = h
 
 -- a list of terms, one further
 pub kinds_further : (p : Term → Bool) (ts : List Term) (ids : List ℕ) (i x : ℕ) → i < length ids → x ≡ get_or ids i x
@@ -243,11 +273,29 @@ other_one symbol.ReAllChar no_terms h k = absurd (false≢true (sym k))
 other_one symbol.ReAllChar (with_term t ts) h k = refl
 other_one s ts h k = absurd (false≢true h)
 
+-- what makes a regular expression makes no word
+joins_no_text : (s : Symbol) (ts : Terms) → joins s ≡ true → is_text (apply (symbol_in s) ts) ≡ false
+joins_no_text symbol.ReUnion ts h = refl
+joins_no_text symbol.ReInter ts h = refl
+joins_no_text symbol.ReDiff ts h = refl
+joins_no_text symbol.ReStar ts h = refl
+joins_no_text symbol.RePlus ts h = refl
+joins_no_text symbol.ReOpt ts h = refl
+joins_no_text symbol.ReComp ts h = refl
+joins_no_text symbol.ReNone ts h = refl
+joins_no_text symbol.ReAll ts h = refl
+joins_no_text symbol.ReAllChar ts h = refl
+joins_no_text (symbol.RePower n) ts h = refl
+joins_no_text (symbol.ReLoop n m) ts h = refl
+joins_no_text s ts h = absurd (false≢true h)
+
 pub none_given : (rs : List Regex) (s : Symbol) (ts : List Term) (ids : List ℕ) (t : Term) → joins s ≡ true
     → t ≡ apply (symbol_in s) (terms_of (terms_at ts ids)) → list_all is_regex (terms_at ts ids) ≡ false →
-    is_regex t ≡ false
-none_given rs s ts ids t h is other =
-    ap is_regex is ∙ other_one s (terms_of (terms_at ts ids)) h (are_all (terms_at ts ids) ∙ other)
+    IsKnown rs t known.Other
+none_given rs s ts ids t h is other = rw is (
+  other_one s (terms_of (terms_at ts ids)) h (are_all (terms_at ts ids) ∙ other),
+  joins_no_text s (terms_of (terms_at ts ids)) h,
+)
 
 some_joined : (join : Regex → Regex → Regex) (r : Regex) (rs : List Regex) → joined_right join (r ∷ rs) ≡ None → ⊥
 some_joined join r [] e = cc
@@ -354,6 +402,7 @@ made_known rs new s ts ids found found' t o k h is all same f from =
     let same_regexes : regexes_at rs found' ≡ regexes_of (terms_of (terms_at ts ids)) =
     ap (regexes_at rs) same ∙ (all.regexes ∙ sym (regexes_all (terms_at ts ids))) in
     rw (from, is) (known_is new (apply (symbol_in s) (terms_of (terms_at ts ids))) o
+    (joins_no_text s (terms_of (terms_at ts ids)) h)
     (by_regexes s new (terms_of (terms_at ts ids)) o h (are_all (terms_at ts ids) ∙ all.kind)
     (f ∙ ap (λ rs. option_map Some (made s rs)) same_regexes)))
 
@@ -365,17 +414,19 @@ pub told_at : (ts : List Term) (ks : List Known) (id : ℕ) (k : Known) → AreT
     → k ≡ get_or ks id known.Nothing → is_other k ≡ true → is_regex (term_at ts id) ≡ false
 told_at ts ks id k t m is other = t id m ∙ (ap (λ x. not (is_other x)) (sym is) ∙ ap not other)
 
--- what is none, whether or not it is the word of a literal
-pub other_or_spelled : (k : Known) → (k ≡ known.Nothing) ⊎ ((k ≡ known.Other) ⊎ ((id : _) × (k ≡ known.Spelled id)))
+-- what is none, whether or not it is a word
+pub other_or_text : (k : Known) → (k ≡ known.Nothing) ⊎ ((k ≡ known.Other)
+    ⊎ (((count : _) × (k ≡ known.Text count)) ⊎ ((id : _) × (count : _) × (k ≡ known.Spelled id count))))
     → is_other k ≡ true
-other_or_spelled k (inl is) = ap is_other is
-other_or_spelled k (inr (inl is)) = ap is_other is
-other_or_spelled k (inr (inr is)) = ap is_other is.1
+other_or_text k (inl is) = ap is_other is
+other_or_text k (inr (inl is)) = ap is_other is
+other_or_text k (inr (inr (inl is))) = ap is_other is.1
+other_or_text k (inr (inr (inr is))) = ap is_other is.2
 
-pub concat_other : (ts : List Term) (ids : List ℕ) (i x : ℕ) → i < length ids → x ≡ get_or ids i x
-    → is_regex (term_at ts x) ≡ false → is_regex (apply re_concat (terms_of (terms_at ts ids))) ≡ false
-concat_other ts ids i x l there other =
-    by_list (terms_at ts ids) (one_other is_regex ts ids i x l there other)
+pub concat_other : (rs : List Regex) (ts : List Term) (ids : List ℕ) (i x : ℕ) → i < length ids → x ≡ get_or ids i x
+    → is_regex (term_at ts x) ≡ false → IsKnown rs (apply re_concat (terms_of (terms_at ts ids))) known.Other
+concat_other rs ts ids i x l there other =
+    (by_list (terms_at ts ids) (one_other is_regex ts ids i x l there other), refl)
   where
     by_list : (xs : List Term) → list_all is_regex xs ≡ false → is_regex (apply re_concat (terms_of xs)) ≡ false
     by_list [] h = refl
@@ -452,14 +503,6 @@ pub now_known : (ks ks' : List Known) (id : ℕ) (k : Known) → id < length ks 
 now_known ks ks' id k l some is =
     ap (λ xs. is_known xs id) is ∙ (ap is_something (get_or-set_same ks id k known.Nothing l) ∙ some)
 
--- what has the regular expression of a literal is a word, and none itself
-pub literal_is_none : (t : Term) → is_regex (literal_of t) ≡ true → is_regex t ≡ false
-literal_is_none (word w) h = refl
-literal_is_none (constant n s) h = absurd (false≢true h)
-literal_is_none (numeral n) h = absurd (false≢true h)
-literal_is_none (apply s ts) h = absurd (false≢true h)
-literal_is_none (parameter n s) h = absurd (false≢true h)
-
 -- the term of a node with arguments
 pub applied_at : (ts : List Term) (d : code.Term) (s : Symbol) (arguments : _) (items : List ℕ) (id : ℕ)
     → node_term ts d ≡ term_at ts id → d ≡ node.Apply s arguments → items ≡ arguments.items →
@@ -474,8 +517,58 @@ arguments_pass ts test d s arguments items id h value is same below =
     h items (sym (ap arguments_in (applied_at ts d s arguments items id value is same)))
     (subst (All (λ j. j < id)) (sym same) (subst (ArgumentsBelow id) is below))
 
-pub concat_is : (rs : List Regex) (ts : List Term) (s : Symbol) (items : List ℕ) (id : ℕ) (k : Known)
-    → term_at ts id ≡ apply (symbol_in s) (terms_of (terms_at ts items)) → s ≡ symbol.ReConcat →
-    ((rs : List Regex) → IsKnown rs (apply re_concat (terms_of (terms_at ts items))) k) → IsKnown rs (term_at ts id) k
-concat_is rs ts s items id k is which h =
-    rw (is ∙ ap (λ x. apply (symbol_in x) (terms_of (terms_at ts items))) which) (h rs)
+-- Concatenations of String terms.
+
+text_all : (xs : List Term) → are_texts (terms_of xs) ≡ list_all is_text xs
+text_all [] = refl
+text_all (t ∷ xs) = ap (λ b. is_text t && b) (text_all xs)
+
+-- one that is no word
+pub joined_other : (rs : List Regex) (ts : List Term) (ids : List ℕ) (i x : ℕ) → i < length ids → x ≡ get_or ids i x
+    → is_text (term_at ts x) ≡ false → IsKnown rs (apply str_concat (terms_of (terms_at ts ids))) known.Other
+joined_other rs ts ids i x l there other =
+    (refl, text_all (terms_at ts ids) ∙ one_other is_text ts ids i x l there other)
+
+-- all of them from a place on are words, and have so many letters
+pub record AreWords (ts : List Term) (ids : List ℕ) (count : ℕ) : Type 0 where
+  pub kind : are_texts (terms_of (terms_at ts ids)) ≡ true
+  pub size : count ≡ up_to_limit (sizes_of (terms_of (terms_at ts ids)))
+
+pub words_none : (ts : List Term) (ids : List ℕ) (k count : ℕ) → k ≡ length ids → count ≡ 0
+    → AreWords ts (drop k ids) count
+words_none ts ids k count e none = rw (drop_all k ids (omega (arith, e)), none) (record { kind = refl; size = refl })
+
+pub words_more : (ts : List Term) (ids : List ℕ) (k x one all sum : ℕ) → k < length ids → x ≡ get_or ids k x
+    → IsTextBy (term_at ts x) (Some one) → sum ≡ up_to_limit (one + all) → AreWords ts (drop (suc k) ids) all
+    → AreWords ts (drop k ids) sum
+words_more ts [] k x one all sum l there h e w = absurd (omega arith)
+words_more ts (y ∷ ids) zero x one all sum l there h e w = rw (← there) (record {
+  kind = and_from (is_text (term_at ts x)) (are_texts (terms_of (terms_at ts ids))) h.0 w.kind;
+  size = e
+      ∙ (ap₂ (λ a b. up_to_limit (a + b)) h.1 w.size
+      ∙ limit_sum (size_of (term_at ts x)) (sizes_of (terms_of (terms_at ts ids))));
+})
+words_more ts (y ∷ ids) (suc k) x one all sum l there h e w =
+    words_more ts ids k x one all sum (omega (arith, l)) there h e w
+
+pub joined_text : (rs : List Regex) (ts : List Term) (ids : List ℕ) (count k : ℕ) → k ≡ 0
+    → AreWords ts (drop k ids) count → IsKnown rs (apply str_concat (terms_of (terms_at ts ids))) (known.Text count)
+joined_text rs ts ids count k e w =
+    let all : AreWords ts ids count = subst (λ n. AreWords ts (drop n ids) count) e w in
+    (all.kind, all.size)
+
+-- what is known of a term that is the same
+pub known_of_applied : {E : Type 0} (rs : List Regex) (t u : Term) (found : Result Known E) → t ≡ u
+    → IfOk found (λ k. IsKnown rs u k) → IfOk found (λ k. IsKnown rs t k)
+known_of_applied rs t u found is h = rw is h
+
+-- whether a count is known
+pub no_count : (t : Term) (found : Option ℕ) (none : Bool) → IsTextBy t found → is_some found ≡ not none → none ≡ true
+    → is_text t ≡ false
+no_count t None none h told is = h
+no_count t (Some count) none h told is = absurd (false≢true (sym (told ∙ ap not is)))
+
+pub some_count : (t : Term) (found : Option ℕ) (none : Bool) → IsTextBy t found → is_some found ≡ not none
+    → none ≡ false → is_text t ≡ true
+some_count t None none h told is = absurd (false≢true (told ∙ ap not is))
+some_count t (Some count) none h told is = h.0

@@ -1,3 +1,4 @@
+pub mod Texts
 pub mod TermShapes
 pub mod Leaves
 pub mod Joins
@@ -5,4 +6,5 @@ pub mod Meanings
 pub mod Keeping
 pub mod Chains
 pub mod Settling
+pub mod Takings
 pub mod CallerLemmas

@@ -1,4 +1,4 @@
--- A regular expression over literals means a RegLan term, whose normal regex is the one that is made of its parts.
+-- A regular expression over words means a RegLan term, whose normal regex is the one that is made of its parts.
 use Rattle.std.proofs.Common.{◌≡◌, ℕ, true, ◌&&◌, List, [], ◌∷◌, map, refl, sym, ap, ap₂, ◌∙◌, Option, Some, None, option_map}
 use Rattle.std.proofs.lemmas.Bool.{and_parts, false≢true}
 use Rattle.std.specs.List.{flat_map, list_all}
@@ -8,13 +8,15 @@ use Rattle.sb_lang.specs.RegLan.{RegLan}
 use Rattle.sb_lang.specs.Regex.{Regex, none}
 use Rattle.sb_lang.specs.Constructors.{anything, any_character, mkcat, mknot, mkstar}
 use Rattle.sb_lang.specs.Normal.{normal, word_regex, range_regex}
-use Rattle.sb_meaning.specs.Terms.{Term, Terms, word, apply, no_terms, with_term, terms_of, str_to_re, re_none, re_all, re_allchar, re_range, re_concat, re_union, re_inter, re_diff, re_star, re_plus, re_opt, re_comp, re_power, re_loop}
+use Rattle.sb_meaning.specs.Terms.{Term, Terms, apply, no_terms, with_term, terms_of, str_to_re, re_none, re_all, re_allchar, re_range, re_concat, re_union, re_inter, re_diff, re_star, re_plus, re_opt, re_comp, re_power, re_loop}
 use Rattle.sb_meaning.specs.Values.{Valuation}
-use Rattle.sb_meaning.specs.Truth.{Meaning, meaning_of, meanings_of, means_reglan, reglan_in}
+use Rattle.sb_meaning.specs.Truth.{meaning_of, meanings_of, means_reglan, reglan_in, word_in}
 use Rattle.sb_meaning.specs.Truth as truth
-use Rattle.sb_script.specs.Brought.{is_regex, are_regexes}
+use Rattle.sb_script.specs.Brought.{is_regex, are_regexes, is_text}
 use Rattle.sb_problem.specs.Normals.{IsNumberOf}
 use Rattle.sb_problem.specs.Shapes.{IsNumbered, joined_right, joined_from, joined_left, either, both, without, repeated, optional, times, or_none, regex_of, regexes_of}
+use Rattle.sb_problem.specs.Words.{letters_of}
+use Rattle.sb_problem.proofs.Texts.{text_means}
 
 pub record IsMeant (t : Term) : Type 0 where
   pub reglan : RegLan
@@ -29,6 +31,17 @@ pub record AreMeant (ts : Terms) : Type 0 where
 reglans_among : (Rs : List RegLan) → flat_map reglan_in (map means_reglan Rs) ≡ Rs
 reglans_among [] = refl
 reglans_among (R ∷ Rs) = ap (λ Ss. R ∷ Ss) (reglans_among Rs)
+
+-- of a word, and of two words
+word_means : (v : Valuation) (t : Term) → is_text t ≡ true
+    → meaning_of v (apply str_to_re (with_term t no_terms)) ≡ means_reglan (reglan.re_word (letters_of t))
+word_means v t h = ap (λ m. means_reglan (truth.of_word (flat_map word_in (m ∷ [])))) (text_means v t h)
+
+range_means : (v : Valuation) (s t : Term) → is_text s ≡ true → is_text t ≡ true
+    → meaning_of v (apply re_range (with_term s (with_term t no_terms)))
+    ≡ means_reglan (reglan.re_range (letters_of s) (letters_of t))
+range_means v s t h k =
+    ap₂ (λ m n. means_reglan (truth.of_range (flat_map word_in (m ∷ n ∷ [])))) (text_means v s h) (text_means v t k)
 
 normal_word : (w : List ℕ) → normal (reglan.re_word w) ≡ word_regex w
 unfolding normal
@@ -140,10 +153,18 @@ one_means join v t R h = ap (λ m. means_reglan (truth.of_one join (flat_map reg
 
 mutual
   pub regex_means : (t : Term) → is_regex t ≡ true → IsMeant t
-  regex_means (apply str_to_re (with_term (word w) no_terms)) h =
-      record { reglan = reglan.re_word w; means = λ v. refl; normal = normal_word w }
-  regex_means (apply re_range (with_term (word s) (with_term (word t) no_terms))) h =
-      record { reglan = reglan.re_range s t; means = λ v. refl; normal = normal_range s t }
+  regex_means (apply str_to_re (with_term t no_terms)) h = record {
+    reglan = reglan.re_word (letters_of t);
+    means = λ v. word_means v t h;
+    normal = normal_word (letters_of t);
+  }
+  regex_means (apply re_range (with_term s (with_term t no_terms))) h =
+      let both = and_parts (is_text s) (is_text t) h in
+      record {
+        reglan = reglan.re_range (letters_of s) (letters_of t);
+        means = λ v. range_means v s t both.0 both.1;
+        normal = normal_range (letters_of s) (letters_of t);
+      }
   regex_means (apply re_none no_terms) h =
       record { reglan = reglan.re_none; means = λ v. refl; normal = normal_none }
   regex_means (apply re_all no_terms) h =

@@ -1,6 +1,9 @@
 pub mod Normals
+pub mod Words
+pub mod Parts
 pub mod Shapes
 pub mod Known
 pub mod Laws
 pub mod Patterns
 pub mod Waiting
+pub mod Taking

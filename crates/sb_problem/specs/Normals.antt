@@ -4,12 +4,12 @@ use Rattle.sb_lang.specs.RegLan.{RegLan}
 use Rattle.sb_lang.specs.Regex.{Regex}
 use Rattle.sb_lang.specs.Normal.{normal}
 use Rattle.sb_regex.specs.Numbered.{Names}
-use Rattle.sb_meaning.specs.Terms.{Term, text, constant}
+use Rattle.sb_meaning.specs.Terms.{Term, text, constant, apply, str_concat}
 use Rattle.sb_meaning.specs.Values.{Valuation}
 use Rattle.sb_meaning.specs.Truth.{meaning_of, means_reglan}
 use Rattle.sb_script.specs.Brought.{is_regex}
 
--- The term is a regular expression over literals: under every valuation it means one, and the number is of its normal
+-- The term is a regular expression over words: under every valuation it means one, and the number is of its normal
 -- regex.
 pub record IsRegexOf (rs : List Regex) (term : Term) (id : ℕ) : Type 0 where
   pub kind : is_regex term ≡ true
@@ -26,3 +26,8 @@ IsNumberOf rs term (Some id) = IsRegexOf rs term id
 abbrev pub is_text_constant : Term → Bool
 is_text_constant (constant serial text) = true
 is_text_constant _ = false
+
+-- the term concatenates String terms
+abbrev pub is_joined : Term → Bool
+is_joined (apply str_concat terms) = true
+is_joined _ = false

@@ -5,7 +5,7 @@ use Rattle.sb_term.specs.Numbered.{term_at}
 use Rattle.sb_problem.specs.declared.pattern.Pattern.{Pattern}
 use Rattle.sb_problem.specs.declared.pattern.Pattern.TheVariants.{Expression, Word}
 
--- the regular expression of a literal: its word alone
+-- the regular expression of a word: this word alone
 abbrev pub literal_of : Term → Term
 literal_of t = apply str_to_re (with_term t no_terms)
 

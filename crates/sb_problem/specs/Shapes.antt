@@ -7,8 +7,9 @@ use Rattle.sb_lang.specs.Regex.{Regex, none, eps}
 use Rattle.sb_lang.specs.Constructors.{anything, any_character, mkcat, mkalt, mkand, mknot, mkstar, mkrep}
 use Rattle.sb_lang.specs.Normal.{word_regex, range_regex}
 use Rattle.sb_regex.specs.Numbered.{regexes_at, AllNumbers, Names}
-use Rattle.sb_meaning.specs.Terms.{Term, Terms, word, apply, no_terms, with_term, str_to_re, re_none, re_all, re_allchar, re_range, re_concat, re_union, re_inter, re_diff, re_star, re_plus, re_opt, re_comp, re_power, re_loop}
+use Rattle.sb_meaning.specs.Terms.{Term, Terms, apply, no_terms, with_term, str_to_re, re_none, re_all, re_allchar, re_range, re_concat, re_union, re_inter, re_diff, re_star, re_plus, re_opt, re_comp, re_power, re_loop}
 use Rattle.sb_script.specs.Brought.{is_regex}
+use Rattle.sb_problem.specs.Words.{letters_of}
 
 -- one or more, joined from the right
 abbrev pub joined_right : (Regex → Regex → Regex) → List Regex → Option Regex
@@ -74,11 +75,11 @@ made _ rs = None
 abbrev pub or_none : Option Regex → Regex
 or_none found = unwrap_or found none
 
--- the normal regex of a term that is a regular expression over literals
+-- the normal regex of a term that is a regular expression over words
 abbrev mutual
   pub regex_of : Term → Regex
-  regex_of (apply str_to_re (with_term (word w) no_terms)) = word_regex w
-  regex_of (apply re_range (with_term (word v) (with_term (word w) no_terms))) = range_regex v w
+  regex_of (apply str_to_re (with_term t no_terms)) = word_regex (letters_of t)
+  regex_of (apply re_range (with_term s (with_term t no_terms))) = range_regex (letters_of s) (letters_of t)
   regex_of (apply re_none ts) = or_none (of_nothing none (regexes_of ts))
   regex_of (apply re_all ts) = or_none (of_nothing anything (regexes_of ts))
   regex_of (apply re_allchar ts) = or_none (of_nothing any_character (regexes_of ts))
@@ -98,7 +99,7 @@ abbrev mutual
   regexes_of no_terms = []
   regexes_of (with_term t ts) = regex_of t ∷ regexes_of ts
 
--- the number is of the term's normal regex, and there is none where the term is no regular expression over literals
+-- the number is of the term's normal regex, and there is none where the term is no regular expression over words
 abbrev pub IsNumbered : List Regex → Term → Option ℕ → Type 0
 IsNumbered rs t None = is_regex t ≡ false
 IsNumbered rs t (Some id) = (is_regex t ≡ true) × Names rs id (regex_of t)
@@ -107,7 +108,7 @@ IsNumbered rs t (Some id) = (is_regex t ≡ true) × Names rs id (regex_of t)
 abbrev pub IsFound : List Regex → Option ℕ → Option Regex → Type 0
 IsFound rs found regex = option_map (slice_get rs) found ≡ option_map Some regex
 
--- The terms are regular expressions over literals, and each number is of the normal regex of the term beside it.
+-- The terms are regular expressions over words, and each number is of the normal regex of the term beside it.
 pub record AreRegexesOf (rs : List Regex) (ts : List Term) (ids : List ℕ) : Type 0 where
   pub kind : list_all is_regex ts ≡ true
   pub numbers : AllNumbers rs ids

@@ -1,23 +1,24 @@
 //! What terms are as regular expressions, by number.
 
-ghost use Rattle.std.specs.Prelude.{◌≡◌, ◌<◌, ◌++◌, ◌∷◌, true, false, List, [], length, get_or, set, All, IfOk, OnOk, MatchOption};
+ghost use Rattle.std.specs.Prelude.{◌≡◌, ◌<◌, ◌+◌, ◌++◌, ◌∷◌, true, false, List, [], length, get_or, set, All, IfOk, OnOk, MatchOption};
 ghost use Rattle.std.specs.List.{list_all};
 ghost use Rattle.sb_lang.specs.Regex.{Regex};
 ghost use Rattle.sb_meaning.specs.Terms as meaning;
-ghost use Rattle.sb_meaning.specs.Terms.{apply, re_concat, terms_of};
+ghost use Rattle.sb_meaning.specs.Terms.{apply, re_concat, re_range, str_concat, str_to_re, terms_of};
 ghost use Rattle.sb_regex.specs.Numbered.{Names, Extends};
 ghost use Rattle.sb_script.specs.Brought.{is_regex};
 ghost use Rattle.sb_term.specs.Numbered.{term_at, terms_at};
 ghost use Rattle.sb_problem.specs.declared.normals.Known.TheVariants.{Nothing};
-ghost use Rattle.sb_problem.specs.Known.{IsKnown, KnowsMore, AreNormals, AreTold, PartsPass, is_known, known_from};
+ghost use Rattle.sb_problem.specs.Known.{IsKnown, KnowsMore, AreNormals, AreTexts, AreTold, PartsPass, count_known, is_known, known_from};
 ghost use Rattle.sb_problem.specs.Normals.{IsNumberOf};
 ghost use Rattle.sb_problem.specs.Patterns.{literal_of, number_of, pattern_in};
 ghost use Rattle.sb_problem.specs.Shapes.{IsNumbered, AreRegexesOf, arguments_in, joins, regex_of};
 ghost use Rattle.sb_problem.specs.Waiting.{AreWaiting, Settles};
+ghost use Rattle.sb_problem.specs.Words.{up_to_limit};
 ghost use Rattle.sb_term.specs.Symbols.{symbol_in};
 
 use crate::join::joined;
-use crate::literals::{of_range, of_word};
+use crate::literals::between;
 use crate::pattern::Pattern;
 use crate::waiting::{Waiting, enter};
 use sb_lang::fold::concatenation_groups;
@@ -26,7 +27,10 @@ use sb_term::{Symbol, Table, Term, TermId};
 use std::alloc::{AllocError, Global};
 use std::marker::Model;
 
-/// What a term is as a regular expression over literals.
+/// The most letters of a word of which a check may speak.
+pub(crate) const WORD_LIMIT: u32 = 65_535;
+
+/// What a term is as a regular expression over words, or as a word.
 #[derive(Clone, Copy)]
 pub(crate) enum Known {
     /// It was not asked for.
@@ -37,11 +41,24 @@ pub(crate) enum Known {
     Concatenation,
     /// It has this normal regex.
     Made(RegexId),
-    /// It is none, but the word of a literal, which has this normal regex.
-    Spelled(RegexId),
+    /// It is a word of so many letters, up to the least count past the limit.
+    Text(u32),
+    /// It is such a word, and has this normal regex.
+    Spelled(RegexId, u32),
 }
 
 impl Known {
+    /// How many letters it has, up to the least count past the limit, where it is known to be a word.
+    pub(crate) fn count(self) -> Option<u32>
+        ensures { result ≡ count_known self }
+    {
+        match self {
+            Known::Text(count) => Some(count),
+            Known::Spelled(_, count) => Some(count),
+            Known::Nothing | Known::Other | Known::Concatenation | Known::Made(_) => None,
+        }
+    }
+
     fn made(found: Option<RegexId>) -> Known
         ensures { result ≡ known_from found }
     {
@@ -52,8 +69,31 @@ impl Known {
     }
 }
 
-/// What is known of the terms of a table, those that were asked for, as regular expressions over literals: those that
-/// are made of words, ranges and the constants of that sort.
+/// The count of letters up to the least one past the limit.
+fn capped(count: usize) -> u32
+    ensures { result ≡ up_to_limit count }
+{
+    if count <= WORD_LIMIT as usize {
+        count as u32
+    } else {
+        WORD_LIMIT + 1
+    }
+}
+
+/// The sum of two counts of letters, up to the least one past the limit.
+fn sum(a: u32, b: u32) -> u32
+    ensures { result ≡ up_to_limit (a + b) }
+{
+    let sum = a as u64 + b as u64;
+    if sum <= WORD_LIMIT as u64 {
+        sum as u32
+    } else {
+        WORD_LIMIT + 1
+    }
+}
+
+/// What is known of the terms of a table, those that were asked for, as words, and as regular expressions over words:
+/// those that are made of words, ranges and the constants of that sort.
 #[derive(Drop)]
 pub struct Normals {
     known: Vec<Known>,
@@ -78,15 +118,16 @@ impl Normals {
         }
     }
 
-    /// The number of a term's normal regex, `None` exactly where the term is no regular expression over literals.
+    /// The number of a term's normal regex, `None` exactly where the term is no regular expression over words.
     ///
     /// A term and those that it is made of are gone over once, when it is asked for first, by itself or as a part, with
     /// no recursion; what is not asked for is not made. In all that is linear in these terms and their arguments, and in
     /// the largest number that was asked for, but that the members of unions and intersections are sorted. A
     /// concatenation is made when it is asked for by itself or as an argument of another symbol, and then goes over its
-    /// parts, however they are nested, up to those that are made: linear in their tree. Where concatenations share their
-    /// parts, that and the regex may be larger than the terms by far, so whoever asks bounds the size of the term as a
-    /// tree before. `AllocError` only for want of memory; the arena may hold more regexes then.
+    /// parts, however they are nested, up to those that are made: linear in their tree. A word that is concatenated is
+    /// made of its parts that have letters when its regex is asked for: linear in the tree of these. Where concatenations
+    /// share their parts, that and the regex may be larger than the terms by far, so whoever asks bounds the size of the
+    /// term as a tree before. `AllocError` only for want of memory; the arena may hold more regexes then.
     pub fn normal(
         &mut self,
         table: &Table,
@@ -103,9 +144,9 @@ impl Normals {
         self.regex(table, arena, id)
     }
 
-    /// The number of the normal regex of a pattern, `None` exactly where the pattern is no regular expression over
-    /// literals and no literal. Its cost and its error are those of [`Normals::normal`]; a word is made a regex when it is
-    /// asked for first, which is linear in it.
+    /// The number of the normal regex of a pattern, `None` exactly where the pattern is no regular expression over words
+    /// and no word. Its cost and its error are those of [`Normals::normal`]; a word is made a regex when it is asked for
+    /// first, which is linear in it.
     pub fn pattern(
         &mut self,
         table: &Table,
@@ -121,7 +162,7 @@ impl Normals {
         match pattern {
             Pattern::Expression(id) => self.normal(table, arena, id),
             Pattern::Word(id) => {
-                self.lengthen(id)?;
+                self.reach(table, arena, id)?;
                 let found = self.spelled(table, arena, id)?;
                 Ok(found)
             }
@@ -141,7 +182,7 @@ impl Normals {
     }
 
     /// What is known of a term.
-    fn kept(&self, id: TermId) -> Known
+    pub(crate) fn kept(&self, id: TermId) -> Known
         ensures { result ≡ get_or self.now id Nothing }
     {
         match self.known.get(id.number()) {
@@ -159,7 +200,12 @@ impl Normals {
     }
 
     /// Makes known what a term is, and first what those are that it is made of, each once, with no recursion.
-    fn reach(&mut self, table: &Table, arena: &mut Arena, id: TermId) -> Result<(), AllocError>
+    pub(crate) fn reach(
+        &mut self,
+        table: &Table,
+        arena: &mut Arena,
+        id: TermId,
+    ) -> Result<(), AllocError>
         requires known { id < length table.now }
         requires normals { AreNormals table.now arena.old self.old }
         ensures reached { OnOk result (is_known self.new id ≡ true) }
@@ -206,27 +252,92 @@ impl Normals {
         enter(waiting, next.id, arguments_of(table, next.id))
     }
 
-    /// The number of the normal regex of a literal's word, made where it was not asked for before.
+    /// The number of the normal regex of a word, made where it was not asked for before.
     fn spelled(
         &mut self,
         table: &Table,
         arena: &mut Arena,
         id: TermId,
     ) -> Result<Option<RegexId>, AllocError>
-        requires known { id < length self.old }
+        requires known { is_known self.old id ≡ true }
         requires normals { AreNormals table.now arena.old self.old }
         ensures number { IfOk result (λ found. IsNumbered arena.new (literal_of (term_at table.now id)) found) }
         ensures extends { Extends arena.old arena.new }
         ensures normals { AreNormals table.now arena.new self.new }
     {
-        if let Known::Spelled(regex) = self.kept(id) {
-            return Ok(Some(regex));
-        }
-        let Some(regex) = of_word(table, arena, &[id])? else {
+        let Some(count) = self.kept(id).count() else {
             return Ok(None);
         };
-        self.keep(id, Known::Spelled(regex));
+        let Some(regex) = self.of_word(table, arena, id)? else {
+            return Ok(None);
+        };
+        self.keep(id, Known::Spelled(regex, count));
         Ok(Some(regex))
+    }
+
+    /// The number of the normal regex of a word that is known, `None` where the term is none.
+    fn of_word(
+        &self,
+        table: &Table,
+        arena: &mut Arena,
+        id: TermId,
+    ) -> Result<Option<RegexId>, AllocError>
+        requires known { is_known self.now id ≡ true }
+        requires normals { AreNormals table.now arena.old self.now }
+        ensures number { IfOk result (λ found. IsNumbered arena.new (literal_of (term_at table.now id)) found) }
+        ensures extends { Extends arena.old arena.new }
+    {
+        if let Known::Spelled(regex, _) = self.kept(id) {
+            return Ok(Some(regex));
+        }
+        let Some(letters) = self.word(table, id)? else {
+            return Ok(None);
+        };
+        Ok(Some(arena.characters(&letters)?))
+    }
+
+    /// The regular expression of a word, `None` where the arguments are others.
+    fn of_one_word(
+        &self,
+        table: &Table,
+        arena: &mut Arena,
+        arguments: &[TermId],
+    ) -> Result<Option<RegexId>, AllocError>
+        requires known { list_all (is_known self.now) arguments.now ≡ true }
+        requires normals { AreNormals table.now arena.old self.now }
+        ensures number { IfOk result
+            (λ found. IsNumbered arena.new (apply str_to_re (terms_of (terms_at table.now arguments.now))) found) }
+        ensures extends { Extends arena.old arena.new }
+    {
+        let [argument] = arguments else {
+            return Ok(None);
+        };
+        self.of_word(table, arena, *argument)
+    }
+
+    /// The range between two words, `None` where the arguments are others.
+    fn of_range(
+        &self,
+        table: &Table,
+        arena: &mut Arena,
+        arguments: &[TermId],
+    ) -> Result<Option<RegexId>, AllocError>
+        requires known { list_all (is_known self.now) arguments.now ≡ true }
+        requires normals { AreNormals table.now arena.old self.now }
+        ensures number { IfOk result
+            (λ found. IsNumbered arena.new (apply re_range (terms_of (terms_at table.now arguments.now))) found) }
+        ensures extends { Extends arena.old arena.new }
+    {
+        let [from, to] = arguments else {
+            return Ok(None);
+        };
+        let Some(from) = self.word(table, *from)? else {
+            return Ok(None);
+        };
+        let Some(to) = self.word(table, *to)? else {
+            return Ok(None);
+        };
+        Ok(Some(between(self.allocator(), arena, &from, &to)?))
     }
 
     /// What a term is of which the arguments are known.
@@ -239,19 +350,36 @@ impl Normals {
         ensures normals { AreNormals table.now arena.new self.new }
         ensures more { KnowsMore self.old self.new }
     {
-        let Term::Apply(symbol, arguments) = table.term(id) else {
-            return Ok(Known::Other);
-        };
-        let arguments = arguments.as_slice();
+        match table.term(id) {
+            Term::Word(codes) => Ok(Known::Text(capped(codes.len()))),
+            Term::Apply(symbol, arguments) => {
+                self.applied(table, arena, *symbol, arguments.as_slice())
+            }
+            _ => Ok(Known::Other),
+        }
+    }
+
+    /// What a symbol makes of arguments that are known.
+    fn applied(
+        &mut self,
+        table: &Table,
+        arena: &mut Arena,
+        symbol: Symbol,
+        ids: &[TermId],
+    ) -> Result<Known, AllocError>
+        requires known { list_all (is_known self.old) ids.now ≡ true }
+        requires normals { AreNormals table.now arena.old self.old }
+        ensures is { IfOk result
+            (λ found. IsKnown arena.new (apply (symbol_in symbol) (terms_of (terms_at table.now ids.now))) found) }
+        ensures extends { Extends arena.old arena.new }
+        ensures normals { AreNormals table.now arena.new self.new }
+        ensures more { KnowsMore self.old self.new }
+    {
         match symbol {
-            Symbol::StrToRe => Ok(Known::made(of_word(table, arena, arguments)?)),
-            Symbol::ReRange => Ok(Known::made(of_range(
-                self.allocator(),
-                table,
-                arena,
-                arguments,
-            )?)),
-            Symbol::ReConcat => Ok(self.concatenated(table, arguments)),
+            Symbol::StrConcat => Ok(self.joined_words(table, ids)),
+            Symbol::StrToRe => Ok(Known::made(self.of_one_word(table, arena, ids)?)),
+            Symbol::ReRange => Ok(Known::made(self.of_range(table, arena, ids)?)),
+            Symbol::ReConcat => Ok(self.concatenated(table, ids)),
             Symbol::ReUnion
             | Symbol::ReInter
             | Symbol::ReDiff
@@ -261,11 +389,30 @@ impl Normals {
             | Symbol::ReComp
             | Symbol::ReNone
             | Symbol::ReAll
-            | Symbol::ReAllChar => self.join(table, arena, *symbol, arguments),
-            Symbol::RePower(_) => self.join(table, arena, *symbol, arguments),
-            Symbol::ReLoop(..) => self.join(table, arena, *symbol, arguments),
+            | Symbol::ReAllChar => self.join(table, arena, symbol, ids),
+            Symbol::RePower(_) => self.join(table, arena, symbol, ids),
+            Symbol::ReLoop(..) => self.join(table, arena, symbol, ids),
             _ => Ok(Known::Other),
         }
+    }
+
+    /// What the concatenation of String terms is: a word where each of them is one.
+    fn joined_words(&self, table: &Table, ids: &[TermId]) -> Known
+        requires texts { AreTexts table.now self.now }
+        requires known { list_all (is_known self.now) ids.now ≡ true }
+        ensures { (rs : List Regex)
+            → IsKnown rs (apply str_concat (terms_of (terms_at table.now ids.now))) result }
+    {
+        let mut left = ids.len();
+        let mut all = 0;
+        while left > 0 {
+            left -= 1;
+            let Some(count) = self.kept(ids[left]).count() else {
+                return Known::Other;
+            };
+            all = sum(count, all);
+        }
+        Known::Text(all)
     }
 
     /// What a symbol makes of regexes, those of these terms.
@@ -307,7 +454,9 @@ impl Normals {
             return Known::Other;
         }
         for id in ids {
-            if let Known::Nothing | Known::Other | Known::Spelled(_) = self.kept(*id) {
+            if let Known::Nothing | Known::Other | Known::Text(_) | Known::Spelled(..) = self.kept(
+                *id,
+            ) {
                 return Known::Other;
             }
         }
@@ -354,7 +503,7 @@ impl Normals {
         ensures more { KnowsMore self.old self.new }
     {
         match self.kept(id) {
-            Known::Nothing | Known::Other | Known::Spelled(_) => Ok(None),
+            Known::Nothing | Known::Other | Known::Text(_) | Known::Spelled(..) => Ok(None),
             Known::Made(regex) => Ok(Some(regex)),
             Known::Concatenation => {
                 let regex = self.concatenation(table, arena, id)?;
@@ -392,7 +541,7 @@ impl Normals {
 }
 
 /// The arguments of a term, none where it is no symbol with arguments.
-fn arguments_of(table: &Table, id: TermId) -> &[TermId]
+pub(crate) fn arguments_of(table: &Table, id: TermId) -> &[TermId]
     requires { id < length table.now }
     ensures terms { terms_of (terms_at table.now result.now) ≡ arguments_in (term_at table.now id) }
     ensures below { All (λ i. i < id) result.now }

@@ -7,6 +7,6 @@ use sb_term::TermId;
 pub enum Pattern {
     /// A regular expression.
     Expression(TermId),
-    /// The word of a literal, and no other.
+    /// The word that a literal is, or a concatenation of such, and no other.
     Word(TermId),
 }

@@ -56,7 +56,7 @@ const WORDS_OF_SCRIPTS: [&[u8]; 38] = [
 ];
 
 /// The names of the theories that are not read.
-const LEFT_OUT: [&[u8]; 32] = [
+const LEFT_OUT: [&[u8]; 31] = [
     b"<=",
     b"<",
     b">=",
@@ -64,7 +64,6 @@ const LEFT_OUT: [&[u8]; 32] = [
     b"+",
     b"*",
     b"-",
-    b"str.++",
     b"str.len",
     b"str.prefixof",
     b"str.suffixof",
@@ -103,6 +102,7 @@ const SYMBOLS: &[(&[u8], Symbol)] = &[
     (b"ite", Symbol::Ite),
     (b"=", Symbol::Equal),
     (b"distinct", Symbol::Distinct),
+    (b"str.++", Symbol::StrConcat),
     (b"str.in_re", Symbol::StrInRe),
     (b"str.to_re", Symbol::StrToRe),
     (b"re.none", Symbol::ReNone),

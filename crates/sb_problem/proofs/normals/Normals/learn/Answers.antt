@@ -1,82 +1,49 @@
-use Rattle.sb_meaning.specs.Terms.{apply, str_to_re, re_range, terms_of}
-use Rattle.sb_term.specs.Numbered.{terms_at}
-use Rattle.sb_term.specs.Symbols.{symbol_in}
+use Rattle.std.proofs.Common.{◌≡◌, length, ap, ◌∙◌, arith}
+use Rattle.sb_regex.proofs.CallerLemmas.{extends_same}
+use Rattle.sb_term.specs.Numbered.{term_at}
 use Rattle.sb_problem.specs.Known.{is_known}
-use Rattle.sb_problem.proofs.Keeping.{told, known_is, normals_grown, applied_at, arguments_pass, concat_is, knows_same}
-use Rattle.std.proofs.lemmas.Result.{IfOk-from_err}
-use Rattle.std.proofs.Common.{ap, ◌∙◌}
+use Rattle.sb_problem.specs.Words.{up_to_limit}
+use Rattle.sb_problem.proofs.Keeping.{applied_at, arguments_pass, known_of_applied, knows_same}
+use Rattle.sb_problem.proofs.TermShapes.{other_known, word_known}
 use Rattle.sb_problem.proofs.normals.Normals.learn.Goals as goal
 
-pub concatenated-requires : goal.concatenated-requires
-concatenated-requires c = record {
-  told = told c.args.table.now c.args.arena.now c.args.self.now c.requires.normals;
-  known = arguments_pass c.args.table.now (is_known c.args.self.now) c.term.result.now c.in-Apply.symbol
-      c.in-Apply.arguments c.as_slice-arguments.result.now c.args.id c.requires.parts c.term.ensures.value c.in-Apply.is
-      c.as_slice-arguments.ensures c.term.ensures.arguments;
+pub returns-in-Word : goal.returns-in-Word
+returns-in-Word c =
+    let same : c.len.result ≡ length c.in-Word.codes.items = omega (arith, c.len.ensures, c.in-Word.codes.ok.0) in
+    record {
+      is = word_known c.args.arena.now c.args.table.now c.term.result.now c.in-Word.codes c.args.id c.capped.result
+          c.term.ensures.value c.in-Word.is (c.capped.ensures ∙ ap up_to_limit same);
+      extends = extends_same c.args.arena.now;
+      normals = c.requires.normals;
+      more = knows_same c.args.self.now;
+    }
+
+pub returns-in_default : goal.returns-in_default
+returns-in_default c = record {
+  is = other_known c.args.arena.now c.args.table.now c.term.result.now c.args.id c.term.ensures.value
+      c.in_default.not-Word c.in_default.not-Apply;
+  extends = extends_same c.args.arena.now;
+  normals = c.requires.normals;
+  more = knows_same c.args.self.now;
 }
 
-pub join-requires-clause-known : goal.join-requires-clause-known
-join-requires-clause-known c =
-    arguments_pass c.args.table.now (is_known c.args.self.now) c.term.result.now c.in-Apply.symbol
-    c.in-Apply.arguments c.as_slice-arguments.result.now c.args.id c.requires.parts c.term.ensures.value c.in-Apply.is
-    c.as_slice-arguments.ensures c.term.ensures.arguments
+pub applied-requires : goal.applied-requires
+applied-requires c = record {
+  known = arguments_pass c.args.table.now (is_known c.args.self.now) c.term.result.now c.in-Apply.symbol
+      c.in-Apply.arguments c.as_slice.result.now c.args.id c.requires.parts c.term.ensures.value c.in-Apply.is
+      c.as_slice.ensures c.term.ensures.arguments;
+  normals = c.requires.normals;
+}
 
-pub returns-in_ok-of_word-in-StrToRe-clause-normals : goal.returns-in_ok-of_word-in-StrToRe-clause-normals
-returns-in_ok-of_word-in-StrToRe-clause-normals c =
-    normals_grown c.args.table.now c.args.arena.now c.of_word.new.arena c.args.self.now
-    c.in_ok-of_word-in-StrToRe.ensures.extends c.requires.normals
-
-pub returns-in_ok-of_range-in-ReRange-clause-normals : goal.returns-in_ok-of_range-in-ReRange-clause-normals
-returns-in_ok-of_range-in-ReRange-clause-normals c =
-    normals_grown c.args.table.now c.args.arena.now c.of_range.new.arena c.args.self.now
-    c.in_ok-of_range-in-ReRange.ensures.extends c.requires.normals
-
-pub returns-in-ReConcat-clause-is : goal.returns-in-ReConcat-clause-is
-returns-in-ReConcat-clause-is c =
-    concat_is c.args.arena.now c.args.table.now c.in-Apply.symbol c.as_slice-arguments.result.now c.args.id
-    c.concatenated.result
-    (applied_at c.args.table.now c.term.result.now c.in-Apply.symbol c.in-Apply.arguments
-    c.as_slice-arguments.result.now c.args.id c.term.ensures.value c.in-Apply.is c.as_slice-arguments.ensures)
-    c.in-ReConcat.is c.concatenated.ensures
-
-pub returns-in_err-of_word-in-StrToRe : goal.returns-in_err-of_word-in-StrToRe
-returns-in_err-of_word-in-StrToRe c =
-    let x = c.from_residual in
-    let e = c.in_err-of_word-in-StrToRe.ensures in
+pub returns-in-Apply : goal.returns-in-Apply
+returns-in-Apply c =
+    let e = c.applied.ensures in
     record {
-      is = IfOk-from_err x.result _ x.ensures.0;
+      is = known_of_applied c.applied.new.arena (term_at c.args.table.now c.args.id) _ c.applied.result
+          (applied_at c.args.table.now c.term.result.now c.in-Apply.symbol c.in-Apply.arguments
+          c.as_slice.result.now c.args.id c.term.ensures.value c.in-Apply.is c.as_slice.ensures)
+          e.is;
       extends = e.extends;
-      normals = normals_grown c.args.table.now c.args.arena.now c.of_word.new.arena c.args.self.now e.extends
-          c.requires.normals;
-      more = knows_same c.args.self.now;
+      normals = e.normals;
+      more = e.more;
     }
-
-pub returns-in_err-of_range-in-ReRange : goal.returns-in_err-of_range-in-ReRange
-returns-in_err-of_range-in-ReRange c =
-    let x = c.from_residual-in_err-of_range-in-ReRange in
-    let e = c.in_err-of_range-in-ReRange.ensures in
-    record {
-      is = IfOk-from_err x.result _ x.ensures.0;
-      extends = e.extends;
-      normals = normals_grown c.args.table.now c.args.arena.now c.of_range.new.arena c.args.self.now e.extends
-          c.requires.normals;
-      more = knows_same c.args.self.now;
-    }
-
-pub returns-in_ok-of_word-in-StrToRe-clause-is : goal.returns-in_ok-of_word-in-StrToRe-clause-is
-returns-in_ok-of_word-in-StrToRe-clause-is c =
-    let ts = terms_of (terms_at c.args.table.now c.as_slice-arguments.result.now) in
-    let is = applied_at c.args.table.now c.term.result.now c.in-Apply.symbol c.in-Apply.arguments
-    c.as_slice-arguments.result.now c.args.id c.term.ensures.value c.in-Apply.is c.as_slice-arguments.ensures
-    ∙ ap (λ s. apply (symbol_in s) ts) c.in-StrToRe.is in
-    rw (c.made.ensures, is)
-    (known_is c.of_word.new.arena (apply str_to_re ts) c.in_ok-of_word-in-StrToRe.field-0 c.in_ok-of_word-in-StrToRe.ensures.number)
-
-pub returns-in_ok-of_range-in-ReRange-clause-is : goal.returns-in_ok-of_range-in-ReRange-clause-is
-returns-in_ok-of_range-in-ReRange-clause-is c =
-    let ts = terms_of (terms_at c.args.table.now c.as_slice-arguments.result.now) in
-    let is = applied_at c.args.table.now c.term.result.now c.in-Apply.symbol c.in-Apply.arguments
-    c.as_slice-arguments.result.now c.args.id c.term.ensures.value c.in-Apply.is c.as_slice-arguments.ensures
-    ∙ ap (λ s. apply (symbol_in s) ts) c.in-ReRange.is in
-    rw (c.made-in-ReRange.ensures, is)
-    (known_is c.of_range.new.arena (apply re_range ts) c.in_ok-of_range-in-ReRange.field-0 c.in_ok-of_range-in-ReRange.ensures.number)

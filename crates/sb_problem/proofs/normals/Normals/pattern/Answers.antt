@@ -1,8 +1,8 @@
 use Rattle.std.proofs.lemmas.Result.{IfOk-from_err}
+use Rattle.sb_regex.proofs.CallerLemmas.{extends_more}
 use Rattle.sb_term.specs.Numbered.{term_at}
 use Rattle.sb_problem.specs.Patterns.{literal_of}
 use Rattle.sb_problem.proofs.Meanings.{number_of}
-use Rattle.sb_regex.proofs.CallerLemmas.{extends_same}
 use Rattle.sb_problem.proofs.normals.Normals.pattern.Goals as goal
 
 pub returns-in_ok-found-in-Word : goal.returns-in_ok-found-in-Word
@@ -12,7 +12,7 @@ returns-in_ok-found-in-Word c =
       number = rw c.in-Word.is
           (number_of c.spelled.new.arena (literal_of (term_at c.args.table.now c.in-Word.id))
           c.in_ok-found-in-Word.found e.number);
-      extends = e.extends;
+      extends = extends_more _ _ _ c.in_ok-reach-in-Word.ensures.extends e.extends;
       normals = e.normals;
     }
 
@@ -22,23 +22,25 @@ returns-in_err-found-in-Word c =
     let e = c.in_err-found-in-Word.ensures in
     record {
       number = IfOk-from_err x.result _ x.ensures.0;
+      extends = extends_more _ _ _ c.in_ok-reach-in-Word.ensures.extends e.extends;
+      normals = e.normals;
+    }
+
+pub returns-in_err-reach-in-Word : goal.returns-in_err-reach-in-Word
+returns-in_err-reach-in-Word c =
+    let x = c.from_residual in
+    let e = c.in_err-reach-in-Word.ensures in
+    record {
+      number = IfOk-from_err x.result _ x.ensures.0;
       extends = e.extends;
       normals = e.normals;
     }
 
-pub returns-in_err-lengthen-in-Word : goal.returns-in_err-lengthen-in-Word
-returns-in_err-lengthen-in-Word c =
-    let x = c.from_residual in
-    record {
-      number = IfOk-from_err x.result _ x.ensures.0;
-      extends = extends_same c.args.arena.now;
-      normals = c.in_err-lengthen-in-Word.ensures.normals c.args.table.now c.args.arena.now
-          (rw c.in-Word.is at c.requires.known) c.requires.normals;
-    }
+pub reach-requires : goal.reach-requires
+reach-requires c = record { known = rw c.in-Word.is at c.requires.known; normals = c.requires.normals }
 
 pub spelled-requires : goal.spelled-requires
 spelled-requires c = record {
-  known = c.in_ok-lengthen-in-Word.ensures.inside;
-  normals = c.in_ok-lengthen-in-Word.ensures.normals c.args.table.now c.args.arena.now
-      (rw c.in-Word.is at c.requires.known) c.requires.normals;
+  known = c.in_ok-reach-in-Word.ensures.reached;
+  normals = c.in_ok-reach-in-Word.ensures.normals;
 }

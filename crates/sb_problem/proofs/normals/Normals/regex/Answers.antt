@@ -3,14 +3,14 @@ use Rattle.std.proofs.lemmas.Bool.{false≢true}
 use Rattle.std.proofs.lemmas.Result.{IfOk-from_err}
 use Rattle.sb_regex.proofs.CallerLemmas.{extends_same}
 use Rattle.sb_problem.specs.declared.normals.Known.TheVariants as known
-use Rattle.sb_problem.proofs.Keeping.{known_inside, known_at, normals_grown, normals_set, knows_same, knows_set, told, told_at, other_or_spelled}
+use Rattle.sb_problem.proofs.Keeping.{known_inside, known_at, normals_grown, normals_set, knows_same, knows_set, told, told_at, other_or_text}
 use Rattle.sb_problem.proofs.normals.Normals.regex.Goals as goal
 
 pub returns-in-Nothing : goal.returns-in-Nothing
 returns-in-Nothing c = record {
   number = told_at c.args.table.now c.args.self.now c.args.id c.kept.result
       (told c.args.table.now c.args.arena.now c.args.self.now c.requires.normals) c.requires.known c.kept.ensures
-      (other_or_spelled c.kept.result c.in-Nothing.is);
+      (other_or_text c.kept.result c.in-Nothing.is);
   extends = extends_same c.args.arena.now;
   normals = c.requires.normals;
   more = knows_same c.args.self.now;

@@ -1,36 +1,41 @@
-use Rattle.std.proofs.Common.{sym, ap, ◌∙◌}
+use Rattle.std.proofs.Common.{subst}
 use Rattle.std.proofs.lemmas.Bool.{false≢true}
-use Rattle.sb_term.specs.Numbered.{term_at}
-use Rattle.sb_regex.proofs.CallerLemmas.{extends_same}
-use Rattle.sb_problem.specs.declared.normals.Known.TheVariants as known
-use Rattle.sb_problem.specs.Known.{is_something}
-use Rattle.sb_problem.proofs.Keeping.{known_at, literal_is_none, normals_set, normals_grown}
 use Rattle.std.proofs.lemmas.Result.{IfOk-from_err}
+use Rattle.sb_regex.proofs.CallerLemmas.{extends_same}
+use Rattle.sb_term.specs.Numbered.{term_at}
+use Rattle.sb_problem.specs.declared.normals.Known.TheVariants as known
+use Rattle.sb_problem.specs.Known.{IsTextBy}
+use Rattle.sb_problem.proofs.Keeping.{known_inside, normals_set, normals_grown, text_at, texts}
 use Rattle.sb_problem.proofs.normals.Normals.spelled.Goals as goal
 
-pub returns-in-Spelled : goal.returns-in-Spelled
-returns-in-Spelled c =
-    let k = known_at c.args.table.now c.args.arena.now c.args.self.now c.args.id c.kept.result c.requires.normals
-    (ap is_something (sym c.kept.ensures) ∙ ap is_something c.in-Spelled.is) c.kept.ensures in
+pub returns-in_default : goal.returns-in_default
+returns-in_default c =
+    let t = text_at c.args.table.now c.args.self.now c.args.id c.kept.result c.count.result
+    (texts c.args.table.now c.args.arena.now c.args.self.now c.requires.normals) c.requires.known c.kept.ensures
+    c.count.ensures in
     record {
-      number = (rw c.in-Spelled.is at k).1;
+      number = subst (IsTextBy (term_at c.args.table.now c.args.id)) c.in_default.is t;
       extends = extends_same c.args.arena.now;
       normals = c.requires.normals;
     }
 
 pub keep-requires : goal.keep-requires
-keep-requires c = c.requires.known
+keep-requires c = known_inside c.args.self.now c.args.id c.requires.known
 
 pub returns : goal.returns
 returns c =
     let e = c.in_ok-regex.ensures in
-    let found = rw c.in-Some.is at e.number in
+    let found = rw c.in-Some-2.is at e.number in
+    let t = text_at c.args.table.now c.args.self.now c.args.id c.kept.result c.count.result
+    (texts c.args.table.now c.args.arena.now c.args.self.now c.requires.normals) c.requires.known c.kept.ensures
+    c.count.ensures in
     record {
       number = found;
       extends = e.extends;
       normals = normals_set c.args.table.now c.args.arena.now c.of_word.new.arena c.args.self.now c.keep.new.self
-          c.args.id (known.Spelled c.in-Some.regex) c.requires.normals e.extends c.requires.known
-          (literal_is_none (term_at c.args.table.now c.args.id) found.0, found) (λ h. absurd (false≢true h))
+          c.args.id (known.Spelled c.in-Some-2.regex c.in-Some.count) c.requires.normals e.extends
+          (known_inside c.args.self.now c.args.id c.requires.known)
+          (subst (IsTextBy (term_at c.args.table.now c.args.id)) c.in-Some.is t, found) (λ h. absurd (false≢true h))
           c.keep.ensures;
     }
 
