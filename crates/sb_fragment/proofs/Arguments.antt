@@ -1,10 +1,8 @@
 -- The arguments of a term, and pairs of them.
-use Rattle.std.proofs.Common.{◌≡◌, ℕ, zero, suc, ◌<◌, ◌≤◌, Bool, true, false, ◌&&◌, nat_lt, List, [], ◌∷◌, length, take, get_or, All, Option, Some, option_map, Vec, Global, MatchOption, refl, sym, ap, ◌∙◌, arith}
+use Rattle.std.proofs.Common.{◌≡◌, ℕ, zero, suc, ◌<◌, ◌≤◌, Bool, true, ◌&&◌, nat_lt, List, [], ◌∷◌, length, get_or, All, Option, Some, option_map, Vec, Global, refl, sym, ap, ◌∙◌, arith}
 use Rattle.std.specs.List.{list_all}
-use Rattle.std.proofs.lemmas.Bool.{and_parts, and_from, and_right, ltb-true, lt-ltb}
-use Rattle.std.proofs.lemmas.List.{take_all}
+use Rattle.std.proofs.lemmas.Bool.{and_parts, and_from, ltb-true, lt-ltb}
 use Rattle.sb_meaning.specs.Terms.{Term}
-use Rattle.sb_script.specs.Brought.{is_pair}
 use Rattle.sb_term.specs.Numbered.{term_at, terms_at}
 use Rattle.sb_fragment.specs.Compared.{compared}
 use Rattle.sb_fragment.specs.Shapes.{are_numbers, terms_of_pairs}
@@ -14,7 +12,7 @@ pub items_some : {A : Type 0} (o : Option (Vec A Global)) (v : Vec A Global) →
     → option_map (λ w. w.items) o ≡ Some v.items
 items_some o v e = ap (option_map (λ w. w.items)) e
 
-below_all : (n m : ℕ) (is : List ℕ) → m ≤ n → All (λ i. i < m) is → list_all (λ i. nat_lt i n) is ≡ true
+pub below_all : (n m : ℕ) (is : List ℕ) → m ≤ n → All (λ i. i < m) is → list_all (λ i. nat_lt i n) is ≡ true
 below_all n m [] le h = refl
 below_all n m (i ∷ is) le h =
     and_from (nat_lt i n) (list_all (λ j. nat_lt j n) is) (lt-ltb i n (omega (arith, le, h 0 0 (omega arith))))
@@ -39,68 +37,12 @@ pub terms_compared : (ts : List Term) (distinct : Bool) (is : List ℕ)
     → terms_of_pairs ts (compared distinct is) ≡ compared distinct (terms_at ts is)
 terms_compared ts distinct is = sym (compared_map (term_at ts) distinct is)
 
-words_false : (test : Term × Term → Bool) (ts : List Term) (ps : List (ℕ × ℕ)) (i : ℕ) (p : ℕ × ℕ) → i < length ps
-    → p ≡ get_or ps i p → test (term_at ts p.0, term_at ts p.1) ≡ false
-    → list_all test (terms_of_pairs ts ps) ≡ false
-words_false test ts [] i p within e h = absurd (omega (arith, within))
-words_false test ts (q ∷ ps) zero p within e h =
-    ap (λ b. b && list_all test (terms_of_pairs ts ps))
-    (ap (λ (r : ℕ × ℕ). test (term_at ts r.0, term_at ts r.1)) (sym e) ∙ h)
-words_false test ts (q ∷ ps) (suc i) p within e h =
-    and_right (test (term_at ts q.0, term_at ts q.1)) _ (words_false test ts ps i p (omega (arith, within)) e h)
-
-pub words_stop : (test : Term × Term → Bool) (ts us : List Term) (distinct : Bool) (is : List ℕ) (ps : List (ℕ × ℕ))
-    (i : ℕ) (p : ℕ × ℕ) → ps ≡ compared distinct is → terms_at ts is ≡ us → i < length ps → p ≡ get_or ps i p
-    → test (term_at ts p.0, term_at ts p.1) ≡ false → false ≡ list_all test (compared distinct us)
-words_stop test ts us distinct is ps i p e same within at h =
-    sym (words_false test ts ps i p within at h)
-    ∙ ap (list_all test)
-    (ap (terms_of_pairs ts) e ∙ terms_compared ts distinct is ∙ ap (compared distinct) same)
-
-pub words_end : (test : Term × Term → Bool) (ts us : List Term) (distinct : Bool) (is : List ℕ) (ps : List (ℕ × ℕ))
-    (i : ℕ) → ps ≡ compared distinct is → terms_at ts is ≡ us → length ps ≤ i
-    → list_all test (terms_of_pairs ts (take i ps)) ≡ true → true ≡ list_all test (compared distinct us)
-words_end test ts us distinct is ps i e same done h =
-    sym h
-    ∙ ap (list_all test)
-    (ap (terms_of_pairs ts) (take_all i ps done ∙ e) ∙ terms_compared ts distinct is ∙ ap (compared distinct) same)
-
-some_not : (test : Term → Bool) (ts : List Term) (is : List ℕ) (i x : ℕ) → i < length is → x ≡ get_or is i x
-    → test (term_at ts x) ≡ false → list_all test (terms_at ts is) ≡ false
-some_not test ts [] i x within at h = absurd (omega (arith, within))
-some_not test ts (j ∷ is) zero x within at h =
-    ap (λ b. b && list_all test (terms_at ts is)) (ap (λ k. test (term_at ts k)) (sym at) ∙ h)
-some_not test ts (j ∷ is) (suc i) x within at h =
-    and_right (test (term_at ts j)) (list_all test (terms_at ts is))
-    (some_not test ts is i x (omega (arith, within)) at h)
-
-pub structure_stop : (test : Term → Bool) (ts us : List Term) (is : List ℕ) (i x : ℕ) → terms_at ts is ≡ us
-    → i < length is → x ≡ get_or is i x → test (term_at ts x) ≡ false → false ≡ list_all test us
-structure_stop test ts us is i x same within at h =
-    sym (some_not test ts is i x within at h) ∙ ap (list_all test) same
-
 pub all_at : {X : Type 0} (test : X → Bool) (xs : List X) (i : ℕ) (x : X) → list_all test xs ≡ true → i < length xs
     → x ≡ get_or xs i x → test x ≡ true
 all_at test [] i x h within e = absurd (omega (arith, within))
 all_at test (y ∷ xs) zero x h within e = ap test e ∙ (and_parts (test y) (list_all test xs) h).0
 all_at test (y ∷ xs) (suc i) x h within e =
     all_at test xs i x (and_parts (test y) (list_all test xs) h).1 (omega (arith, within)) e
-
-pub some_pair : {A : Type 0} (P : Type 0) (Q : A → Type 0) (o : Option A) (x : A) → o ≡ Some x → MatchOption o P Q
-    → Q x
-some_pair P Q o x e h = rw e at h
-
-pub words_at : (ts : List Term) (ps : List (ℕ × ℕ)) (i : ℕ) (p : ℕ × ℕ)
-    → list_all (λ q. is_pair q.0 q.1) (terms_of_pairs ts ps) ≡ true → i < length ps → p ≡ get_or ps i p
-    → is_pair (term_at ts p.0) (term_at ts p.1) ≡ true
-words_at ts [] i p h within e = absurd (omega (arith, within))
-words_at ts (q ∷ ps) zero p h within e =
-    ap (λ (r : ℕ × ℕ). is_pair (term_at ts r.0) (term_at ts r.1)) e
-    ∙ (and_parts (is_pair (term_at ts q.0) (term_at ts q.1)) (list_all (λ r. is_pair r.0 r.1) (terms_of_pairs ts ps)) h).0
-words_at ts (q ∷ ps) (suc i) p h within e =
-    words_at ts ps i p
-    (and_parts (is_pair (term_at ts q.0) (term_at ts q.1)) (list_all (λ r. is_pair r.0 r.1) (terms_of_pairs ts ps)) h).1
-    (omega (arith, within)) e
 
 abbrev pub pair_at : List Term → ℕ × ℕ → Term × Term
 pair_at ts p = (term_at ts p.0, term_at ts p.1)
@@ -121,22 +63,3 @@ pub pairs_done : (ts : List Term) (ps : List (ℕ × ℕ)) (i : ℕ) → length 
 pairs_done ts [] i done = omega arith
 pairs_done ts (q ∷ ps) zero done = absurd (omega (arith, done))
 pairs_done ts (q ∷ ps) (suc i) done = let rest = pairs_done ts ps i (omega (arith, done)) in omega (arith, rest)
-
--- Terms by number.
-
-pub term_within : (ts : List Term) (is : List ℕ) (i : ℕ) → i < length is → i < length (terms_at ts is)
-term_within ts [] i within = absurd (omega (arith, within))
-term_within ts (j ∷ is) zero within = omega arith
-term_within ts (j ∷ is) (suc i) within =
-    let lt-ltb = term_within ts is i (omega (arith, within)) in omega (arith, lt-ltb)
-
-pub term_read : (ts : List Term) (is : List ℕ) (i x : ℕ) → i < length is → x ≡ get_or is i x
-    → term_at ts x ≡ get_or (terms_at ts is) i (term_at ts x)
-term_read ts [] i x within e = absurd (omega (arith, within))
-term_read ts (j ∷ is) zero x within e = ap (term_at ts) e
-term_read ts (j ∷ is) (suc i) x within e = term_read ts is i x (omega (arith, within)) e
-
-pub terms_done : (ts : List Term) (is : List ℕ) (i : ℕ) → length is ≤ i → length (terms_at ts is) ≤ i
-terms_done ts [] i done = omega arith
-terms_done ts (j ∷ is) zero done = absurd (omega (arith, done))
-terms_done ts (j ∷ is) (suc i) done = let rest = terms_done ts is i (omega (arith, done)) in omega (arith, rest)

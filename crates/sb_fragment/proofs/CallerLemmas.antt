@@ -1,5 +1,5 @@
--- What a caller cites of measures, in a table that grows, of what is known of live assertions, of terms that ask something
--- of one constant's word, and of Boolean structure over these, by its shapes.
+-- What a caller cites of measures, in a table that grows, of what is known of live assertions, of terms that ask
+-- something of one constant's word, and of Boolean structure over these, by its shapes.
 use Rattle.std.proofs.Common.{◌≡◌, ℕ, Some, List, [], slice_get, arith}
 use Rattle.std.proofs.lemmas.Option.{slice_get_within}
 use Rattle.sb_meaning.specs.Terms.{Term}
@@ -7,12 +7,10 @@ use Rattle.sb_term.specs.Numbered.{term_at, Extends}
 use Rattle.sb_term.proofs.CallerLemmas.{at_kept, long_kept}
 use Rattle.sb_fragment.specs.declared.measure.Measure.{Measure}
 use Rattle.sb_fragment.specs.Measures.{IsMeasure, AreMeasures}
-pub use Rattle.sb_fragment.proofs.AskedFacts.{asked_membership}
-pub use Rattle.sb_fragment.proofs.FittingFacts.{asked_decided}
 pub use Rattle.sb_fragment.proofs.ComparedPairs.{compared_all, compared_map, pairs_all_test, map-map, map_same}
-pub use Rattle.sb_fragment.proofs.Arguments.{all_at, items_some, some_pair, numbers_compared, terms_compared, number_at, words_at, words_stop, words_end, structure_stop, pair_at, pair_within, pair_read, pairs_done, term_within, term_read, terms_done}
+pub use Rattle.sb_fragment.proofs.Arguments.{all_at, items_some, numbers_compared, terms_compared, number_at, pair_at, pair_within, pair_read, pairs_done}
 pub use Rattle.sb_fragment.proofs.InsideFacts.{inside_none, inside_all, inside_stays, inside_left, assertions_kept, front_of_front}
-pub use Rattle.sb_fragment.proofs.Structured.{asked_structure, always_structure, alone_structure, connected_structure, words_structure, structure_sort, pair_sort, membership_structure}
+pub use Rattle.sb_fragment.proofs.Structured.{asked_structure, connected_structure, structure_sort}
 
 pub measures_kept : (old new : List Term) (ms : List Measure) → Extends old new → AreMeasures old ms
     → AreMeasures new ms

@@ -1,10 +1,11 @@
 -- What is compared two by two.
-use Rattle.std.proofs.Common.{◌≡◌, ◌<◌, Bool, true, false, ◌&&◌, List, [], ◌∷◌, ◌++◌, length, map, take, drop, get_or, ℕ, ◌+◌, ◌≤◌, refl, sym, ap, ap₂, ◌∙◌, arith}
+use Rattle.std.proofs.Common.{◌≡◌, ◌<◌, Bool, true, false, ◌&&◌, List, [], ◌∷◌, ◌++◌, length, map, take, drop, get_or, ℕ, zero, suc, ◌+◌, ◌≤◌, refl, sym, ap, ap₂, ◌∙◌, arith}
 use Rattle.std.specs.List.{list_all}
 use Rattle.std.proofs.lemmas.Bool.{and_parts, and_from}
 use Rattle.std.proofs.lemmas.List.{append-nil, append_assoc, map-append, take_all, take_more}
+use Rattle.std.proofs.Math.Bool.{and-true}
 use Rattle.sb_meaning.specs.Truth.{are_pairs}
-use Rattle.sb_fragment.specs.Compared.{neighbours, pairs, compared}
+use Rattle.sb_fragment.specs.Compared.{neighbours, pairs, compared, each_two, facing}
 
 -- A test of all is one of all pairs.
 
@@ -58,6 +59,76 @@ pub pairs_all_test : {X : Type 0} (test : X → X → Bool) (xs : List X)
     → are_pairs test xs ≡ list_all (λ p. test p.0 p.1) (pairs xs)
 pairs_all_test test [] = refl
 pairs_all_test test (x ∷ xs) = with_each_test test x xs (pairs xs) (are_pairs test xs) (pairs_all_test test xs)
+
+-- Those with which one in front is compared.
+
+pub two_more : {X : Type 0} (distinct : Bool) (test : X → X → Bool) (x : X) (xs : List X)
+    → each_two distinct test (x ∷ xs) ≡ (list_all (test x) (facing distinct xs) && each_two distinct test xs)
+two_more true test x xs = refl
+two_more false test x [] = refl
+two_more false test x (y ∷ xs) = ap (λ b. b && each_two false test (y ∷ xs)) (sym (and-true (test x y)))
+
+facing_pass : {X : Type 0} (test : X → Bool) (distinct : Bool) (xs : List X) → list_all test xs ≡ true
+    → list_all test (facing distinct xs) ≡ true
+facing_pass test true xs h = h
+facing_pass test false [] h = refl
+facing_pass test false (x ∷ xs) h =
+    and_from (test x) true (and_parts (test x) (list_all test xs) h).0 refl
+
+row_same : {X : Type 0} (test : X → Bool) (p q : X → Bool) (xs : List X) → list_all test xs ≡ true
+    → ((x : X) → test x ≡ true → p x ≡ q x) → list_all p xs ≡ list_all q xs
+row_same test p q [] h same = refl
+row_same test p q (x ∷ xs) h same =
+    let parts = and_parts (test x) (list_all test xs) h in
+    ap₂ ◌&&◌ (same x parts.0) (row_same test p q xs parts.1 same)
+
+-- two relations that are one between those that pass
+pub two_same : {X : Type 0} (distinct : Bool) (test : X → Bool) (p q : X → X → Bool) (xs : List X)
+    → list_all test xs ≡ true → ((x y : X) → test x ≡ true → test y ≡ true → p x y ≡ q x y)
+    → each_two distinct p xs ≡ each_two distinct q xs
+two_same true test p q [] h same = refl
+two_same false test p q [] h same = refl
+two_same distinct test p q (x ∷ xs) h same =
+    let parts = and_parts (test x) (list_all test xs) h in
+    two_more distinct p x xs
+    ∙ (ap₂ ◌&&◌
+    (row_same test (p x) (q x) (facing distinct xs) (facing_pass test distinct xs parts.1)
+    (λ y. same x y parts.0))
+    (two_same distinct test p q xs parts.1 same)
+    ∙ sym (two_more distinct q x xs))
+
+-- what holds of both of each two holds of all, where there are two
+pub two_all : {X : Type 0} (distinct : Bool) (test : X → X → Bool) (P : X → Type 0) (x y : X) (xs : List X)
+    → ((a b : X) → test a b ≡ true → P a × P b) → each_two distinct test (x ∷ y ∷ xs) ≡ true
+    → P x × (P y × ((k : ℕ) (d : X) → k < length xs → P (get_or xs k d)))
+two_all {X = X} distinct test P x y xs both h = (first distinct h, step distinct x y xs h)
+  where
+    first : (distinct : Bool) → each_two distinct test (x ∷ y ∷ xs) ≡ true → P x
+    first true h =
+        let all = and_parts (list_all (test x) (y ∷ xs)) (each_two true test (y ∷ xs)) h in
+        (both x y (and_parts (test x y) (list_all (test x) xs) all.0).0).0
+    first false h = (both x y (and_parts (test x y) (each_two false test (y ∷ xs)) h).0).0
+
+    row : (z : X) (zs : List X) → list_all (test z) zs ≡ true → (k : ℕ) (d : X) → k < length zs → P (get_or zs k d)
+    row z [] h k d l = absurd (omega arith)
+    row z (w ∷ zs) h zero d l = (both z w (and_parts (test z w) (list_all (test z) zs) h).0).1
+    row z (w ∷ zs) h (suc k) d l = row z zs (and_parts (test z w) (list_all (test z) zs) h).1 k d (omega (arith, l))
+
+    chain : (z : X) (zs : List X) → each_two false test (z ∷ zs) ≡ true → (k : ℕ) (d : X) → k < length zs
+        → P (get_or zs k d)
+    chain z [] h k d l = absurd (omega arith)
+    chain z (w ∷ zs) h zero d l = (both z w (and_parts (test z w) (each_two false test (w ∷ zs)) h).0).1
+    chain z (w ∷ zs) h (suc k) d l =
+        chain w zs (and_parts (test z w) (each_two false test (w ∷ zs)) h).1 k d (omega (arith, l))
+
+    step : (distinct : Bool) (x y : X) (xs : List X) → each_two distinct test (x ∷ y ∷ xs) ≡ true
+        → P y × ((k : ℕ) (d : X) → k < length xs → P (get_or xs k d))
+    step true x y xs h =
+        let all = row x (y ∷ xs) (and_parts (list_all (test x) (y ∷ xs)) (each_two true test (y ∷ xs)) h).0 in
+        (all 0 y (omega arith), λ k d l. all (suc k) d (omega (arith, l)))
+    step false x y xs h =
+        let all = chain x (y ∷ xs) h in
+        (all 0 y (omega arith), λ k d l. all (suc k) d (omega (arith, l)))
 
 -- Maps.
 

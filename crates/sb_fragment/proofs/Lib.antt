@@ -6,6 +6,8 @@ pub mod AskedFacts
 pub mod ComparedPairs
 pub mod Arguments
 pub mod Structured
+pub mod SideFacts
 pub mod FittingFacts
+pub mod RuledFacts
 pub mod CallerLemmas
 pub mod WholeFacts

@@ -1,19 +1,20 @@
 -- Measures of terms are those that their arguments' measures give.
 use Rattle.std.proofs.Common.{◌≡◌, ℕ, suc, ◌+◌, ◌<◌, Bool, true, false, inl, inr, not, ◌&&◌, ◌==◌}
-use Rattle.std.proofs.Common.{nat_le, Some, List, [], ◌∷◌, ◌++◌, length, get_or, refl, sym, ap, ap₂}
+use Rattle.std.proofs.Common.{nat_le, if◌then◌else◌, Some, List, [], ◌∷◌, ◌++◌, length, get_or, refl, sym, ap, ap₂}
 use Rattle.std.proofs.Common.{◌∙◌, arith, length-append, subst}
 use Rattle.std.specs.List.{All, list_all}
 use Rattle.std.proofs.lemmas.Bool.Decides.{nat_tests}
 use Rattle.std.proofs.lemmas.Option.{slice_get-get_or}
-use Rattle.std.proofs.Math.Bool.{and_assoc}
+use Rattle.std.proofs.lemmas.Bool.{and_parts}
+use Rattle.std.proofs.Math.Bool.{and_assoc, and-true, and-false}
 use Rattle.sb_facts.proofs.CallerLemmas.{get_push}
-use Rattle.sb_meaning.specs.Terms.{Symbol, Term, Terms, constant, word, numeral, apply, parameter, no_terms}
-use Rattle.sb_meaning.specs.Terms.{with_term, terms_of}
+use Rattle.sb_meaning.specs.Terms.{Symbol, Term, apply, terms_of}
 use Rattle.sb_meaning.specs.Terms as symbol
-use Rattle.sb_script.specs.Brought.{is_regex, are_regexes, is_structure}
-use Rattle.sb_script.specs.Fragment.{fits}
+use Rattle.sb_script.specs.Brought.{is_regex, are_regexes, is_structure, is_text, are_texts, is_unjoined, are_unjoined}
+use Rattle.sb_script.specs.Fragment.{fits, is_decided}
 use Rattle.sb_script.specs.Pieces.{are_ground}
 use Rattle.sb_script.specs.Sizes.{size_of, sizes_of, has_short_words, have_short_words, is_regular}
+use Rattle.sb_script.specs.State.{asserted}
 use Rattle.sb_script.proofs.CallerLemmas.{terms_in_of}
 use Rattle.sb_term.specs.declared.term.Term as code
 use Rattle.sb_term.specs.declared.term.Term.TheVariants as node
@@ -23,11 +24,12 @@ use Rattle.sb_term.specs.Symbols.{symbol_in}
 use Rattle.sb_problem.specs.Patterns.{literal_of}
 use Rattle.sb_fragment.specs.declared.fitting.Fit.{Fit}
 use Rattle.sb_fragment.specs.declared.measure.Measure.{Measure}
-use Rattle.sb_fragment.specs.Measures.{is_literal, within_limit, IsMeasure, AreMeasures}
-use Rattle.sb_fragment.specs.Measured.{is_regex_by, is_short_by, size_by, joined, no_measure, within, total}
+use Rattle.sb_fragment.specs.Measures.{within_limit, IsMeasure, AreMeasures}
+use Rattle.sb_fragment.specs.Measured.{is_text_by, is_unjoined_by, is_regex_by, is_short_by, size_by, joined, no_measure, within, total}
 use Rattle.sb_fragment.specs.Measured.{applied_measure, node_measure, with_fit}
-use Rattle.sb_fragment.specs.Shapes.{parts_of}
-use Rattle.sb_fragment.specs.Fitting.{fit_with, term_fit, terms_fit}
+use Rattle.sb_fragment.specs.declared.measures.Sides.{Sides}
+use Rattle.sb_fragment.specs.Shapes.{parts_of, sides_in}
+use Rattle.sb_fragment.specs.Fitting.{AreFit, IsFit, fit_with}
 
 within_sum : (a b : ℕ) → within_limit (within_limit a + within_limit b) ≡ within_limit (a + b)
 within_sum a b = grind (arith, nat_tests)
@@ -46,29 +48,31 @@ both_moved false b c d = refl
 
 -- what is known of terms together
 pub record IsTotal (ts : List Term) (m : Measure) : Type 0 where
-  pub word : m.is_word ≡ list_all is_literal ts
+  pub text : m.is_text ≡ are_texts (terms_of ts)
+  pub unjoined : m.is_unjoined ≡ list_all is_unjoined ts
   pub constants : m.is_ground ≡ are_ground (terms_of ts)
   pub regex : m.is_regex ≡ are_regexes (terms_of ts)
   pub short : m.is_short ≡ have_short_words (terms_of ts)
   pub size : m.size ≡ within_limit (sizes_of (terms_of ts))
   pub structure : m.is_structure ≡ list_all is_structure ts
-  pub fitting : m.fits ≡ (list_all is_structure ts && list_all fits ts)
+  pub fitting : m.fits ≡ list_all (λ t. is_decided (asserted t)) ts
 
 total_more : (t : Term) (ts : List Term) (m n : Measure) → IsMeasure t m → IsTotal ts n → IsTotal (t ∷ ts) (joined m n)
 total_more t ts m n p q = record {
-  word = ap₂ ◌&&◌ p.word q.word;
+  text = ap₂ ◌&&◌ p.text q.text;
+  unjoined = ap₂ ◌&&◌ p.unjoined q.unjoined;
   constants = ap₂ ◌&&◌ p.constants q.constants;
   regex = ap₂ ◌&&◌ p.regex q.regex;
   short = ap₂ ◌&&◌ p.short q.short;
   size = ap₂ (λ a b. within_limit (a + b)) p.size q.size ∙ within_sum (size_of t) (sizes_of (terms_of ts));
   structure = ap₂ ◌&&◌ p.structure q.structure;
-  fitting = ap₂ ◌&&◌ p.fitting q.fitting
-      ∙ both_moved (is_structure t) (fits t) (list_all is_structure ts) (list_all fits ts);
+  fitting = ap₂ ◌&&◌ p.fitting q.fitting;
 }
 
 of_none : IsTotal [] no_measure
 of_none = record {
-  word = refl;
+  text = refl;
+  unjoined = refl;
   constants = refl;
   regex = refl;
   short = refl;
@@ -86,25 +90,6 @@ total_is ts ms (i ∷ is) h l =
     (total_is ts ms is h (λ k d m. l (suc k) d (omega (arith, m))))
 
 -- A symbol with arguments.
-
-word_first : (t : Term) → (is_regex (apply symbol.str_to_re (with_term t no_terms))) ≡ is_literal t && true
-word_first (word w) = refl
-word_first (constant n s) = refl
-word_first (numeral n) = refl
-word_first (apply s ts) = refl
-word_first (parameter n s) = refl
-
-words_two : (t u : Term) → is_regex (apply symbol.re_range (with_term t (with_term u no_terms)))
-    ≡ is_literal t && (is_literal u && true)
-words_two (word w) (word v) = refl
-words_two (word w) (constant n s) = refl
-words_two (word w) (numeral n) = refl
-words_two (word w) (apply s ts) = refl
-words_two (word w) (parameter n s) = refl
-words_two (constant n s) u = refl
-words_two (numeral n) u = refl
-words_two (apply s ts) u = refl
-words_two (parameter n s) u = refl
 
 one_regex : (b : Bool) → b ≡ b && true
 one_regex true = refl
@@ -132,17 +117,13 @@ some_parts n b = ap (λ t. t && b) some
     some = grind (arith, nat_tests)
 
 regex_applied : (s : Symbol) (ts : List Term)
-    → is_regex (apply s (terms_of ts)) ≡ is_regex_by s (length ts) (list_all is_literal ts) (are_regexes (terms_of ts))
+    → is_regex (apply s (terms_of ts)) ≡ is_regex_by s (length ts) (are_texts (terms_of ts)) (are_regexes (terms_of ts))
 regex_applied symbol.str_to_re [] = refl
-regex_applied symbol.str_to_re (t ∷ []) = word_first t
-regex_applied symbol.str_to_re (word w ∷ u ∷ ts) = not_one (length ts) _
+regex_applied symbol.str_to_re (t ∷ []) = one_regex (is_text t)
 regex_applied symbol.str_to_re (t ∷ u ∷ ts) = not_one (length ts) _
 regex_applied symbol.re_range [] = refl
-regex_applied symbol.re_range (word w ∷ []) = refl
 regex_applied symbol.re_range (t ∷ []) = refl
-regex_applied symbol.re_range (t ∷ u ∷ []) = words_two t u
-regex_applied symbol.re_range (word w ∷ word v ∷ x ∷ ts) = not_two (length ts) _
-regex_applied symbol.re_range (word w ∷ u ∷ x ∷ ts) = not_two (length ts) _
+regex_applied symbol.re_range (t ∷ u ∷ []) = ap (λ b. is_text t && b) (one_regex (is_text u))
 regex_applied symbol.re_range (t ∷ u ∷ x ∷ ts) = not_two (length ts) _
 regex_applied symbol.re_concat [] = refl
 regex_applied symbol.re_concat (t ∷ ts) = some_parts (length ts) _
@@ -188,20 +169,55 @@ size_applied : (s : Symbol) (ts : List Term) (size : ℕ) → size ≡ within_li
 size_applied symbol.str_concat ts size k = k
 size_applied _ ts size k = ap (λ n. within_limit (1 + n)) k ∙ within_next (sizes_of (terms_of ts))
 
-applied_is : (s : Symbol) (ts : List Term) (n : ℕ) (all : Measure) (fit : Fit) → n ≡ length ts → IsTotal ts all
-    → fit ≡ term_fit (apply s (terms_of ts)) → IsMeasure (apply s (terms_of ts)) (with_fit fit (applied_measure s n all))
-applied_is s ts n all fit e h f = record {
-  word = refl;
-  constants = h.constants;
-  regex = by_parts n all.is_word all.is_regex e h.word h.regex ∙ sym (regex_applied s ts);
-  short = short_applied s ts all.is_short all.size h.short h.size;
-  size = size_applied s ts all.size h.size;
-  structure = ap (λ (x : Fit). x.is_structure) f;
-  fitting = ap (λ (x : Fit). x.fits) f;
-}
+text_applied : (s : Symbol) (ts : List Term) (texts : Bool) → texts ≡ are_texts (terms_of ts)
+    → is_text_by s texts ≡ is_text (apply s (terms_of ts))
+text_applied symbol.str_concat ts texts h = h
+text_applied _ ts texts h = refl
+
+unjoined_all : (ts : List Term) → are_unjoined (terms_of ts) ≡ list_all is_unjoined ts
+unjoined_all [] = refl
+unjoined_all (t ∷ ts) = ap (λ b. is_unjoined t && b) (unjoined_all ts)
+
+unjoined_applied : (s : Symbol) (ts : List Term) (texts unjoined : Bool) → texts ≡ are_texts (terms_of ts)
+    → unjoined ≡ list_all is_unjoined ts → is_unjoined_by s texts unjoined ≡ is_unjoined (apply s (terms_of ts))
+unjoined_applied symbol.str_concat ts texts unjoined h k = h
+unjoined_applied _ ts texts unjoined h k = k ∙ sym (unjoined_all ts)
+
+-- what it says of Boolean structure, with whether constants are joined
+decided_by : (f u s w g : Bool) → u ≡ w → (w ≡ true → f ≡ (s && g)) → (f && u) ≡ ((s && w) && g)
+decided_by f u s true g e h = ap₂ ◌&&◌ (h refl) e ∙ moved s g
   where
-    by_parts : (k : ℕ) (b c : Bool) → k ≡ length ts → b ≡ list_all is_literal ts → c ≡ are_regexes (terms_of ts)
-        → is_regex_by s k b c ≡ is_regex_by s (length ts) (list_all is_literal ts) (are_regexes (terms_of ts))
+    moved : (s g : Bool) → ((s && g) && true) ≡ ((s && true) && g)
+    moved true true = refl
+    moved true false = refl
+    moved false g = refl
+decided_by f u s false g e h = ap (λ b. f && b) e ∙ (and-false f ∙ sym (none s g))
+  where
+    none : (s g : Bool) → ((s && false) && g) ≡ false
+    none true g = refl
+    none false g = refl
+
+fit_decided : (t : Term) (fit : Fit) (u : Bool) → IsFit t fit → u ≡ is_unjoined t
+    → (fit.fits && u) ≡ is_decided (asserted t)
+fit_decided t fit u h e = decided_by fit.fits u (is_structure t) (is_unjoined t) (fits t) e h.fitting
+
+applied_is : (s : Symbol) (ts : List Term) (n : ℕ) (all : Measure) (fit : Fit) → n ≡ length ts → IsTotal ts all
+    → IsFit (apply s (terms_of ts)) fit → IsMeasure (apply s (terms_of ts)) (with_fit fit (applied_measure s n all))
+applied_is s ts n all fit e h f =
+    let unjoined = unjoined_applied s ts all.is_text all.is_unjoined h.text h.unjoined in
+    record {
+      text = text_applied s ts all.is_text h.text;
+      unjoined = unjoined;
+      constants = h.constants;
+      regex = by_parts n all.is_text all.is_regex e h.text h.regex ∙ sym (regex_applied s ts);
+      short = short_applied s ts all.is_short all.size h.short h.size;
+      size = size_applied s ts all.size h.size;
+      structure = f.structure;
+      fitting = fit_decided (apply s (terms_of ts)) fit (is_unjoined_by s all.is_text all.is_unjoined) f unjoined;
+    }
+  where
+    by_parts : (k : ℕ) (b c : Bool) → k ≡ length ts → b ≡ are_texts (terms_of ts) → c ≡ are_regexes (terms_of ts)
+        → is_regex_by s k b c ≡ is_regex_by s (length ts) (are_texts (terms_of ts)) (are_regexes (terms_of ts))
     by_parts k b c p q r = rw (p, q, r) refl
 
 length_terms_at : (ts : List Term) (is : List ℕ) → length is ≡ length (terms_at ts is)
@@ -209,45 +225,49 @@ length_terms_at ts [] = refl
 length_terms_at ts (i ∷ is) = ap suc (length_terms_at ts is)
 
 node_is : (ts : List Term) (d : code.Term) (all : Measure) (fit : Fit) → IsTotal (parts_of (node_term ts d)) all
-    → fit ≡ term_fit (node_term ts d) → IsMeasure (node_term ts d) (with_fit fit (node_measure all d))
+    → IsFit (node_term ts d) fit → IsMeasure (node_term ts d) (with_fit fit (node_measure all d))
 node_is ts (node.Constant n s) all fit h f = record {
-  word = refl;
+  text = refl;
+  unjoined = refl;
   constants = refl;
   regex = refl;
   short = refl;
   size = refl;
-  structure = ap (λ (x : Fit). x.is_structure) f;
-  fitting = ap (λ (x : Fit). x.fits) f;
+  structure = f.structure;
+  fitting = fit_decided (node_term ts (node.Constant n s)) fit true f refl;
 }
 node_is ts (node.Word w) all fit h f = record {
-  word = refl;
+  text = refl;
+  unjoined = refl;
   constants = refl;
   regex = refl;
   short = refl;
   size = refl;
-  structure = ap (λ (x : Fit). x.is_structure) f;
-  fitting = ap (λ (x : Fit). x.fits) f;
+  structure = f.structure;
+  fitting = fit_decided (node_term ts (node.Word w)) fit true f refl;
 }
 node_is ts (node.Numeral n) all fit h f = record {
-  word = refl;
+  text = refl;
+  unjoined = refl;
   constants = refl;
   regex = refl;
   short = refl;
   size = refl;
-  structure = ap (λ (x : Fit). x.is_structure) f;
-  fitting = ap (λ (x : Fit). x.fits) f;
+  structure = f.structure;
+  fitting = fit_decided (node_term ts (node.Numeral n)) fit true f refl;
 }
 node_is ts (node.Apply s is) all fit h f =
     applied_is (symbol_in s) (terms_at ts is.items) (length is.items) all fit (length_terms_at ts is.items)
     (subst (λ us. IsTotal us all) (terms_in_of (terms_at ts is.items)) h) f
 node_is ts (node.Parameter n s) all fit h f = record {
-  word = refl;
+  text = refl;
+  unjoined = refl;
   constants = refl;
   regex = refl;
   short = refl;
   size = refl;
-  structure = ap (λ (x : Fit). x.is_structure) f;
-  fitting = ap (λ (x : Fit). x.fits) f;
+  structure = f.structure;
+  fitting = fit_decided (node_term ts (node.Parameter n s)) fit true f refl;
 }
 
 -- of the numbers of its arguments
@@ -256,25 +276,36 @@ total_of_parts : (ts : List Term) (ms : List Measure) (is : List ℕ) (us : List
 total_of_parts ts ms is us all h l same sum =
     subst (IsTotal us) (sym sum) (subst (λ vs. IsTotal vs (total ms is)) same (total_is ts ms is h l))
 
+-- where no constants are joined, all are decided that are Boolean structure and within the limits
+all_decided : (ts : List Term) → list_all is_unjoined ts ≡ true
+    → list_all (λ t. is_decided (asserted t)) ts ≡ (list_all is_structure ts && list_all fits ts)
+all_decided [] h = refl
+all_decided (t ∷ ts) h =
+    let parts = and_parts (is_unjoined t) (list_all is_unjoined ts) h in
+    ap₂ (λ a b. ((is_structure t && a) && fits t) && b) parts.0 (all_decided ts parts.1)
+    ∙ (ap (λ a. (a && fits t) && (list_all is_structure ts && list_all fits ts)) (and-true (is_structure t))
+    ∙ both_moved (is_structure t) (fits t) (list_all is_structure ts) (list_all fits ts))
+
 pub parts_fit : (ts : List Term) (ms : List Measure) (is : List ℕ) (us : List Term) (all : Measure) → AreMeasures ts ms
     → All (λ i. i < length ms) is → terms_at ts is ≡ us → all ≡ total ms is
-    → fit_with all.is_structure all.fits ≡ terms_fit us
-parts_fit ts ms is us all h l same sum = let t = total_of_parts ts ms is us all h l same sum in
-    ap₂ fit_with t.structure t.fitting
+    → AreFit us (fit_with all.is_structure all.fits)
+parts_fit ts ms is us all h l same sum =
+    let t = total_of_parts ts ms is us all h l same sum in
+    record { structure = t.structure; fitting = λ u. t.fitting ∙ all_decided us u }
 
 pub measure_is : (ts : List Term) (ms : List Measure) (is : List ℕ) (d : code.Term) (t : Term) (all plain : Measure)
     (fit : Fit) → AreMeasures ts ms → All (λ i. i < length ms) is → terms_at ts is ≡ parts_of t → all ≡ total ms is
-    → node_term ts d ≡ t → plain ≡ node_measure all d → fit ≡ term_fit t → IsMeasure t (with_fit fit plain)
+    → node_term ts d ≡ t → plain ≡ node_measure all d → IsFit t fit → IsMeasure t (with_fit fit plain)
 measure_is ts ms is d t all plain fit h l same sum value made f =
     subst (λ m. IsMeasure t (with_fit fit m)) (sym made)
-    (subst (λ u. IsTotal (parts_of u) all → fit ≡ term_fit u → IsMeasure u (with_fit fit (node_measure all d))) value
+    (subst (λ u. IsTotal (parts_of u) all → IsFit u fit → IsMeasure u (with_fit fit (node_measure all d))) value
     (node_is ts d all fit) (total_of_parts ts ms is (parts_of t) all h l same sum) f)
 
 pub literal_is : (t : Term) (m : Measure) → IsMeasure t m
     → IsMeasure (literal_of t) (applied_measure symbol.str_to_re 1 (joined m no_measure))
 literal_is t m h =
     applied_is symbol.str_to_re (t ∷ []) 1 (joined m no_measure) (fit_with false false) refl
-    (total_more t [] m no_measure h of_none) refl
+    (total_more t [] m no_measure h of_none) (record { structure = refl; fitting = λ u. refl })
 
 -- One more measure.
 
@@ -296,6 +327,9 @@ pub measure_found : (ts : List Term) (ms : List Measure) (i n : ℕ) (m : Measur
 measure_found ts ms i n m h e l is =
     h.each i m (slice_get-get_or ms i m l ∙ ap Some (sym (is ∙ ap (λ k. get_or ms k m) e)))
 
+abbrev chosen_sides : ℕ → ℕ → Bool → Sides
+chosen_sides one other b = if b then record { word = other; other = one } else record { word = one; other = other }
+
 within_size : (n : ℕ) → nat_le (within_limit n) 1000000 ≡ nat_le n 1000000
 within_size n = grind (arith, nat_tests)
 
@@ -303,3 +337,8 @@ pub regular_is : (t : Term) (m : Measure) → IsMeasure t m → within m ≡ is_
 regular_is t m h =
     and_assoc m.is_ground m.is_short (nat_le m.size 1000000)
     ∙ ap₂ ◌&&◌ h.constants (ap₂ ◌&&◌ h.short (ap (λ n. nat_le n 1000000) h.size ∙ within_size (size_of t)))
+
+-- the sides of an equality, by whether the second one is a word
+pub sides_by : (ts : List Term) (one other : ℕ) (m : Measure) (b : Bool) → IsMeasure (term_at ts other) m
+    → m.is_text ≡ b → chosen_sides one other b ≡ sides_in ts one other
+sides_by ts one other m b h e = ap (chosen_sides one other) (sym e ∙ h.text)

@@ -1,16 +1,21 @@
 -- The first assertion outside the fragment, among all of them.
-use Rattle.std.proofs.Common.{◌≡◌, ℕ, zero, suc, ◌+◌, ◌<◌, true, false, ◌&&◌, ◌||◌, List, [], ◌∷◌, ◌++◌, length}
-use Rattle.std.proofs.Common.{get_or, map, take, refl, sym, ap, ◌∙◌, arith}
+use Rattle.std.proofs.Common.{◌≡◌, ℕ, zero, suc, ◌+◌, ◌<◌, Bool, true, false, not, ◌&&◌, ◌||◌, List, [], ◌∷◌, ◌++◌, length}
+use Rattle.std.proofs.Common.{get_or, map, take, refl, sym, ap, ap₂, ◌∙◌, arith}
 use Rattle.std.specs.List.{list_all, list_any}
 use Rattle.std.specs.Prelude.{Option, Some, None}
 use Rattle.std.proofs.lemmas.Bool.{and_parts, and_from, and_right, or_right}
 use Rattle.std.proofs.lemmas.List.{take_more}
 use Rattle.sb_meaning.specs.Terms.{Term}
-use Rattle.sb_script.specs.State.{Assertion}
+use Rattle.sb_script.specs.Brought.{is_structure, is_unjoined}
+use Rattle.sb_script.specs.Rules.{each_once, keeps, one_ground}
+use Rattle.sb_script.specs.State.{Assertion, asserted}
 use Rattle.sb_term.specs.declared.assertion.Assertion as code
+use Rattle.sb_fragment.specs.declared.measure.Measure.{Measure}
 use Rattle.sb_fragment.specs.declared.rules.Reason.{Reason}
-use Rattle.sb_script.specs.Fragment.{is_decided}
-use Rattle.sb_fragment.specs.Rules.{assertion_in, is_broken, IsBrokenBy}
+use Rattle.sb_fragment.specs.declared.rules.Reason.TheVariants.{NotBrought, TooLarge}
+use Rattle.sb_fragment.specs.Measures.{IsMeasure}
+use Rattle.sb_script.specs.Fragment.{fits, is_decided}
+use Rattle.sb_fragment.specs.Rules.{assertion_in, is_broken, keeps_both, IsBrokenBy}
 
 inside_more : (live : List Assertion) (a : Assertion) → list_all is_decided live ≡ true → is_decided a ≡ true
     → list_all is_decided (live ++ a ∷ []) ≡ true
@@ -28,7 +33,8 @@ pub one_more : (ts : List Term) (live : List code.Assertion) (k : ℕ) (a : code
     → list_all is_decided (map (assertion_in ts) (take k live)) ≡ true
     → list_all is_decided (map (assertion_in ts) (take (k + 1) live)) ≡ true
 one_more ts live k a found l is none h before =
-    ap (λ xs. list_all is_decided (map (assertion_in ts) xs)) (take_more live k a l ∙ ap (λ x. take k live ++ x ∷ []) (sym is))
+    ap (λ xs. list_all is_decided (map (assertion_in ts) xs))
+    (take_more live k a l ∙ ap (λ x. take k live ++ x ∷ []) (sym is))
     ∙ ap (list_all is_decided) (map_push ts (take k live) a)
     ∙ inside_more (map (assertion_in ts) (take k live)) (assertion_in ts a) before (rw none at h)
 
@@ -52,3 +58,32 @@ pub one_outside : (ts : List Term) (live : List code.Assertion) (k : ℕ) (a : c
     → (list_all is_decided (map (assertion_in ts) live) ≡ false)
     × (list_any (is_broken reason) (map (assertion_in ts) live) ≡ true)
 one_outside ts live k a found reason l is e h = outside_at ts live k a reason l is (rw e at h)
+
+-- Which rule a term breaks.
+
+pub breaks : (kept keeps : Bool) → kept ≡ keeps → kept ≡ false → not keeps ≡ true
+breaks kept keeps e h = ap not (sym e ∙ h)
+
+pub keeps_both_by : (t : Term) (once ground_side : Bool) → once ≡ keeps each_once t → once ≡ true
+    → ground_side ≡ keeps one_ground t → ground_side ≡ true → keeps_both t ≡ true
+keeps_both_by t once ground_side e h f k =
+    ap₂ (λ a b. not (not a) && not (not b)) (sym e ∙ h) (sym f ∙ k)
+
+brought_by : (t : Term) (m : Measure) (b : Bool) → IsMeasure t m → b ≡ (m.is_structure && m.is_unjoined)
+    → (is_structure t && is_unjoined t) ≡ b
+brought_by t m b h e = sym (e ∙ ap₂ ◌&&◌ h.structure h.unjoined)
+
+pub is_too_large : (t : Term) (m : Measure) (b : Bool) → IsMeasure t m → b ≡ (m.is_structure && m.is_unjoined)
+    → b ≡ true → is_decided (asserted t) ≡ false → keeps_both t ≡ true → is_broken TooLarge (asserted t) ≡ true
+is_too_large t m b h e brought outside kept =
+    let inside = brought_by t m b h e ∙ brought in
+    and_from ((is_structure t && is_unjoined t) && not (fits t)) (keeps_both t)
+    (and_from (is_structure t && is_unjoined t) (not (fits t)) inside
+    (ap not (ap (λ x. x && fits t) (sym inside) ∙ outside)))
+    kept
+
+pub is_not_brought : (t : Term) (m : Measure) (b : Bool) → IsMeasure t m → b ≡ (m.is_structure && m.is_unjoined)
+    → b ≡ false → keeps_both t ≡ true → is_broken NotBrought (asserted t) ≡ true
+is_not_brought t m b h e other kept =
+    and_from (not (is_structure t && is_unjoined t)) (keeps_both t)
+    (ap not (brought_by t m b h e ∙ other)) kept

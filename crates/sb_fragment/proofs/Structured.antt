@@ -1,24 +1,21 @@
 -- Terms of Boolean structure by their shapes.
-use Rattle.std.proofs.Common.{◌≡◌, ℕ, suc, ◌-◌, ◌<◌, ◌≤◌, ◌==◌, Bool, true, false, ◌&&◌, if◌then◌else◌, List, [], ◌∷◌, length, take, drop, get_or, Some, refl, sym, ap, ◌∙◌, arith}
+use Rattle.std.proofs.Common.{◌≡◌, ℕ, suc, ◌-◌, ◌<◌, ◌≤◌, ◌==◌, Bool, true, false, ◌&&◌, List, [], ◌∷◌, length, take, drop, get_or, Some, refl, sym, ap, ◌∙◌, arith}
 use Rattle.std.specs.List.{list_all}
 use Rattle.std.proofs.lemmas.Bool.{false≢true}
 use Rattle.std.proofs.lemmas.Bool.Decides.{nat_tests}
 use Rattle.std.proofs.lemmas.List.{take_all}
-use Rattle.std.proofs.Math.Bool.{and-true, and-false}
 use Rattle.sb_meaning.specs.Terms.{Sort, boolean, integer, text, reglan, Symbol, Term, Terms, constant, word, numeral, apply, parameter, no_terms, with_term, terms_in, terms_of}
 use Rattle.sb_meaning.specs.Terms as symbol
 use Rattle.sb_meaning.specs.Sorts.{sort_of}
-use Rattle.sb_meaning.specs.Truth.{is_chain, are_pairs}
-use Rattle.sb_script.specs.Brought.{asked, is_regex, is_membership, is_pair, are_several, is_structure, are_structure}
+use Rattle.sb_script.specs.Brought.{asked, is_regex, is_membership, is_structure, are_structure}
 use Rattle.sb_script.specs.Fragment.{sort_of_first}
-use Rattle.sb_script.proofs.CallerLemmas.{IsAsking, a_membership, a_word_behind, a_word_in_front, asked_looks, membership_asks}
+use Rattle.sb_script.proofs.CallerLemmas.{IsAsking, a_membership, a_word_behind, a_word_in_front, asked_looks}
 use Rattle.sb_term.specs.Numbered.{term_at, terms_at}
 use Rattle.sb_fragment.specs.declared.shape.Connective.{Connective}
 use Rattle.sb_fragment.specs.declared.shape.Connective.TheVariants as connective
 use Rattle.sb_fragment.specs.declared.shape.Shape.TheVariants as shape
-use Rattle.sb_fragment.specs.Shapes.{IsApplied, IsComparison, IsConnected, IsShape, parts_of, truth_of, comparison_of, are_word_pairs}
+use Rattle.sb_fragment.specs.Shapes.{IsApplied, IsComparison, IsConnected, IsShape, parts_of, truth_of, comparison_of}
 use Rattle.sb_fragment.proofs.AskedFacts.{asked_membership}
-use Rattle.sb_fragment.proofs.ComparedPairs.{pairs_all_test}
 
 pub terms_in_of : (ts : List Term) → terms_in (terms_of ts) ≡ ts
 terms_in_of [] = refl
@@ -33,30 +30,21 @@ applied_with s terms = record { terms = terms; is = refl }
 
 -- Comparisons.
 
-abbrev pub each_two : Bool → (Term → Term → Bool) → List Term → Bool
-each_two distinct test ts = if distinct then are_pairs test ts else is_chain test ts
-
-each_two_all : (distinct : Bool) (ts : List Term) → each_two distinct is_pair ts ≡ are_word_pairs distinct ts
-each_two_all true ts = pairs_all_test is_pair ts
-each_two_all false ts = refl
-
 -- by the sort of the first
-abbrev by_sort : Sort → Bool → List Term → Bool → Bool
-by_sort k distinct ts each_is = elim k [
+abbrev by_sort : Sort → Bool → Bool
+by_sort k each_is = elim k [
   | boolean ↦ each_is
   | integer ↦ false
-  | text ↦ are_several ts && each_two distinct is_pair ts
+  | text ↦ true
   | reglan ↦ false
 ]
 
 structure_by : (distinct : Bool) (terms : Terms) (k : Sort) → sort_of_first (terms_in terms) ≡ k
-    → is_structure (apply (comparison_of distinct) terms) ≡ by_sort k distinct (terms_in terms) (are_structure terms)
-structure_by true no_terms k e = ap (λ s. by_sort s true [] true) e
-structure_by false no_terms k e = ap (λ s. by_sort s false [] true) e
-structure_by true (with_term t terms) k e =
-    ap (λ s. by_sort s true (t ∷ terms_in terms) (are_structure (with_term t terms))) e
-structure_by false (with_term t terms) k e =
-    ap (λ s. by_sort s false (t ∷ terms_in terms) (are_structure (with_term t terms))) e
+    → is_structure (apply (comparison_of distinct) terms) ≡ by_sort k (are_structure terms)
+structure_by true no_terms k e = ap (λ s. by_sort s true) e
+structure_by false no_terms k e = ap (λ s. by_sort s true) e
+structure_by true (with_term t terms) k e = ap (λ s. by_sort s (are_structure (with_term t terms))) e
+structure_by false (with_term t terms) k e = ap (λ s. by_sort s (are_structure (with_term t terms))) e
 
 compared_structure : (t : Term) (distinct : Bool) → IsComparison t distinct boolean
     → is_structure t ≡ list_all is_structure (parts_of t)
@@ -83,23 +71,9 @@ connected_structure t connective.Xor h = rw h.is (structure_of_all h.terms)
 connected_structure t connective.Ite h = rw h.is (structure_of_all h.terms)
 connected_structure t (connective.Compare distinct) h = compared_structure t distinct h.0
 
-several : (ts : List Term) → 2 ≤ length ts → are_several ts ≡ true
-several [] h = absurd (omega (arith, h))
-several (t ∷ []) h = absurd (omega (arith, h))
-several (t ∷ u ∷ ts) h = refl
-
-words_by : (distinct : Bool) (terms : Terms) → sort_of_first (terms_in terms) ≡ text → 2 ≤ length (terms_in terms)
-    → is_structure (apply (comparison_of distinct) terms) ≡ are_word_pairs distinct (terms_in terms)
-words_by distinct terms first more =
-    structure_by distinct terms text first
-    ∙ ap (λ b. b && each_two distinct is_pair (terms_in terms)) (several (terms_in terms) more)
-    ∙ each_two_all distinct (terms_in terms)
-
-pub words_structure : (t : Term) (distinct : Bool) → IsShape t (shape.Words distinct)
-    → is_structure t ≡ are_word_pairs distinct (parts_of t)
-words_structure t distinct h =
-    let c = h.0 in
-    rw c.is (words_by distinct c.terms c.first (rw c.is at h.1))
+pub words_structure : (t : Term) (distinct : Bool) → IsShape t (shape.Words distinct) → is_structure t ≡ true
+words_structure t true h = rw h.is (structure_by true h.terms text h.first)
+words_structure t false h = rw h.is (structure_by false h.terms text h.first)
 
 -- Comparisons of terms by number.
 
@@ -159,30 +133,25 @@ some_compared distinct ts is first le e sort more =
 
 pub words_compared : (distinct : Bool) (ts : List Term) (is : List ℕ) (first : ℕ) → 1 ≤ length is
     → first ≡ get_or is 0 first → sort_of (term_at ts first) ≡ text
-    → false ≡ (length (take (length is - 1) (drop 1 is)) == 0)
     → IsShape (apply (comparison_of distinct) (terms_of (terms_at ts is))) (shape.Words distinct)
-words_compared distinct ts is first le e sort more =
-    let l = length_at ts is in
-    let m = two_up is le more in
-    (first_sort distinct text (terms_at ts is) (numbered_first ts is first text le e sort), omega (arith, l, m))
+words_compared distinct ts is first le e sort =
+    first_sort distinct text (terms_at ts is) (numbered_first ts is first text le e sort)
 
-few_alone : (ts : List Term) → length ts < 2 → are_several ts ≡ false
-few_alone [] h = refl
-few_alone (t ∷ []) h = refl
-few_alone (t ∷ u ∷ ts) h = absurd (omega (arith, h))
+-- Memberships.
 
--- one String alone
-pub word_alone : (distinct : Bool) (ts : List Term) (is : List ℕ) (first : ℕ) → 1 ≤ length is
-    → first ≡ get_or is 0 first → sort_of (term_at ts first) ≡ text
-    → true ≡ (length (take (length is - 1) (drop 1 is)) == 0)
-    → is_structure (apply (comparison_of distinct) (terms_of (terms_at ts is))) ≡ false
-word_alone distinct ts is first le e sort few =
-    let l = length_at ts is in
-    let m = one_up is le few in
-    let us = terms_in (terms_of (terms_at ts is)) in
-    structure_by distinct (terms_of (terms_at ts is)) text
-    (ap sort_of_first (terms_in_of (terms_at ts is)) ∙ numbered_first ts is first text le e sort)
-    ∙ ap (λ b. b && each_two distinct is_pair us) (few_alone us (omega (arith, l, m)))
+pub member_of_two : (ts : List Term) (is : List ℕ) → length is ≡ 2
+    → IsShape (apply symbol.str_in_re (terms_of (terms_at ts is))) shape.Member
+member_of_two ts [] e = absurd (omega (arith, e))
+member_of_two ts (i ∷ []) e = absurd (omega (arith, e))
+member_of_two ts (i ∷ j ∷ []) e = refl
+member_of_two ts (i ∷ j ∷ k ∷ is) e = absurd (omega (arith, e))
+
+pub member_of_others : (ts : List Term) (is : List ℕ) → (length is ≡ 2 → ⊥)
+    → IsShape (apply symbol.str_in_re (terms_of (terms_at ts is))) shape.Other
+member_of_others ts [] other = refl
+member_of_others ts (i ∷ []) other = refl
+member_of_others ts (i ∷ j ∷ []) other = absurd (other refl)
+member_of_others ts (i ∷ j ∷ k ∷ is) other = refl
 
 -- Sorts of Boolean structure, and of what is compared in it.
 
@@ -207,44 +176,6 @@ structure_sort (apply symbol.core_distinct terms) h = refl
 structure_sort (apply symbol.str_in_re terms) h = refl
 structure_sort (apply _ terms) h = absurd (false≢true h)
 
-pub pair_sort : (t u : Term) → is_pair t u ≡ true → sort_of t ≡ text
-pair_sort (constant n text) (word w) h = refl
-pair_sort (word w) (constant n text) h = refl
-pair_sort _ _ h = absurd (false≢true h)
-
--- of three terms each two are not a constant and a literal
-never_three : (t u w : Term) → (is_pair t u && (is_pair t w && is_pair u w)) ≡ false
-never_three (constant n text) (word v) (word w) = refl
-never_three (constant n text) (word v) (constant m sort) = refl
-never_three (constant n text) (word v) (apply s terms) = refl
-never_three (word v) (constant n text) (constant m text) = refl
-never_three (word v) (constant n text) (word w) = refl
-never_three (word v) (constant n text) (apply s terms) = refl
-never_three _ _ _ = refl
-
-three_apart : (t u w : Term) (b c d : Bool)
-    → ((is_pair t u && (is_pair t w && b)) && ((is_pair u w && c) && d)) ≡ false
-three_apart t u w b c d =
-    step (is_pair t u) (is_pair t w) (is_pair u w) (never_three t u w)
-  where
-    step : (p q r : Bool) → (p && (q && r)) ≡ false → ((p && (q && b)) && ((r && c) && d)) ≡ false
-    step false q r h = refl
-    step true false r h = refl
-    step true true false h = and-false b
-    step true true true h = absurd (false≢true (sym h))
-
-pub too_many : (distinct : Bool) (ts us : List Term) (is : List ℕ) → distinct ≡ true → terms_at ts is ≡ us
-    → 2 < length is → false ≡ are_word_pairs distinct us
-too_many distinct ts us is on same many = rw on (sym (step is many) ∙ ap (are_word_pairs true) same)
-  where
-    step : (js : List ℕ) → 2 < length js → are_word_pairs true (terms_at ts js) ≡ false
-    step [] l = absurd (omega (arith, l))
-    step (i ∷ []) l = absurd (omega (arith, l))
-    step (i ∷ j ∷ []) l = absurd (omega (arith, l))
-    step (i ∷ j ∷ k ∷ js) l =
-        sym (pairs_all_test is_pair (terms_at ts (i ∷ j ∷ k ∷ js)))
-        ∙ three_apart (term_at ts i) (term_at ts j) (term_at ts k) _ _ _
-
 -- What asks something of one constant's word.
 
 pub asked_structure : (t : Term) (serial : ℕ) (R : Term) → asked t ≡ Some (serial, R) → is_structure t ≡ is_regex R
@@ -252,15 +183,5 @@ asked_structure t serial R h = step (asked_looks t serial R h) ∙ asked_members
   where
     step : IsAsking serial t R → is_structure t ≡ is_membership t
     step (a_membership is) = ap is_structure is ∙ sym (ap is_membership is)
-    step (a_word_behind w is S) =
-        ap is_structure is
-        ∙ and-true (is_pair (constant serial text) (word w))
-        ∙ sym (ap is_membership is)
-    step (a_word_in_front w is S) =
-        ap is_structure is
-        ∙ and-true (is_pair (word w) (constant serial text))
-        ∙ sym (ap is_membership is)
-
-pub membership_structure : (t : Term) → is_membership t ≡ true → is_structure t ≡ true
-membership_structure t h =
-    membership_asks t h (λ serial R is kind. asked_structure t serial R is ∙ kind)
+    step (a_word_behind w is S) = ap is_structure is ∙ sym (ap is_membership is)
+    step (a_word_in_front w is S) = ap is_structure is ∙ sym (ap is_membership is)

@@ -1,19 +1,39 @@
--- A check is decided exactly where each of its live assertions is: Boolean structure asks for no bounds.
-use Rattle.std.proofs.Common.{◌≡◌, ℕ, Bool, true, false, ◌&&◌, List, [], ◌∷◌, ◌++◌, refl, sym, ap, ap₂, ◌∙◌}
+-- A check is decided exactly where each of its live assertions is: Boolean structure that fits asks for no bounds.
+use Rattle.std.proofs.Common.{◌≡◌, ℕ, suc, ◌<◌, Bool, true, false, ◌&&◌, List, [], ◌∷◌, ◌++◌, length, get_or, if◌then◌else◌, Option, Some, None, option_map, refl, sym, ap, ap₂, ◌∙◌, arith}
+use Rattle.std.specs.Prelude.{is_some}
 use Rattle.std.specs.List.{list_all, flat_map}
 use Rattle.std.proofs.lemmas.Bool.{and_parts, false≢true}
+use Rattle.std.proofs.lemmas.Option.{none-some}
 use Rattle.std.proofs.Math.Bool.{and-false}
-use Rattle.sb_meaning.specs.Terms.{Sort, boolean, integer, reglan, Term, Terms, text, constant, word, apply, no_terms, with_term, terms_in}
+use Rattle.sb_facts.proofs.CallerLemmas.{after_map, then_some}
+use Rattle.sb_meaning.specs.Terms.{Sort, boolean, integer, reglan, Term, Terms, text, constant, word, apply, parameter, no_terms, with_term, terms_in}
 use Rattle.sb_meaning.specs.Terms as symbol
-use Rattle.sb_meaning.specs.Sorts.{sort_of}
+use Rattle.sb_meaning.specs.Sorts.{sort_of, is_same_sort}
 use Rattle.sb_meaning.specs.Truth.{is_chain, are_pairs}
-use Rattle.sb_script.specs.Brought.{is_regex, are_regexes, is_membership, is_pair, are_several, is_structure, are_structure}
+use Rattle.sb_script.specs.Brought.{is_regex, are_regexes, is_text, are_texts, is_structure, are_structure, is_unjoined, are_unjoined}
 use Rattle.sb_script.specs.Sums.{Variable}
-use Rattle.sb_script.specs.Fragment.{variables_in, variables_in_each, are_bounded, is_unmarked, fits, is_decided}
+use Rattle.sb_script.specs.Fragment.{variables_in, variables_in_each, are_bounded, is_unmarked, fits, each_fits, is_word_pair, is_linear_pair, is_decided}
 use Rattle.sb_script.specs.Fragment.{are_inside, are_in_fragment}
+use Rattle.sb_script.specs.Pieces.{Piece, concatenation, word_of, if_short, are_single, pieces_of, all_pieces, single_pieces, ground_word}
+use Rattle.sb_script.specs.Sizes.{is_regular}
 use Rattle.sb_script.specs.State.{Assertion, asserted, a_mark, live, terms_in as asserted_terms}
-use Rattle.sb_script.proofs.CallerLemmas.{IsAsking, a_membership, a_word_behind, a_word_in_front, asked_looks, membership_asks}
+use Rattle.sb_problem.proofs.CallerLemmas.{after_then}
+use Rattle.sb_fragment.specs.Compared.{each_two}
 use Rattle.sb_fragment.specs.Rules.{FragmentIsOfEach}
+use Rattle.sb_fragment.proofs.ComparedPairs.{two_all}
+
+-- Words and regular expressions.
+
+mutual
+  text_free : (t : Term) → is_text t ≡ true → variables_in t ≡ []
+  text_free (word w) h = refl
+  text_free (apply symbol.str_concat terms) h = texts_free terms h
+  text_free _ h = absurd (false≢true h)
+
+  texts_free : (ts : Terms) → are_texts ts ≡ true → variables_in_each ts ≡ []
+  texts_free no_terms h = refl
+  texts_free (with_term t ts) h = let parts = and_parts (is_text t) (are_texts ts) h in
+      ap₂ (λ xs ys. xs ++ ys) (text_free t parts.0) (texts_free ts parts.1)
 
 joined : (R : Term) (Rs : Terms) → (is_regex R && are_regexes Rs) ≡ true → (is_regex R ≡ true → variables_in R ≡ [])
     → (are_regexes Rs ≡ true → variables_in_each Rs ≡ []) → variables_in_each (with_term R Rs) ≡ []
@@ -22,8 +42,10 @@ joined R Rs h one rest = let parts = and_parts (is_regex R) (are_regexes Rs) h i
 
 mutual
   no_variables : (R : Term) → is_regex R ≡ true → variables_in R ≡ []
-  no_variables (apply symbol.str_to_re (with_term (word w) no_terms)) h = refl
-  no_variables (apply symbol.re_range (with_term (word s) (with_term (word t) no_terms))) h = refl
+  no_variables (apply symbol.str_to_re (with_term t no_terms)) h = ap (λ xs. xs ++ []) (text_free t h)
+  no_variables (apply symbol.re_range (with_term s (with_term t no_terms))) h =
+      let both = and_parts (is_text s) (is_text t) h in
+      ap₂ (λ xs ys. xs ++ (ys ++ [])) (text_free s both.0) (text_free t both.1)
   no_variables (apply symbol.re_concat (with_term R Rs)) h = joined R Rs h (no_variables R) (no_variables_in_each Rs)
   no_variables (apply symbol.re_union (with_term R Rs)) h = joined R Rs h (no_variables R) (no_variables_in_each Rs)
   no_variables (apply symbol.re_none no_terms) h = refl
@@ -43,100 +65,143 @@ mutual
   no_variables_in_each no_terms h = refl
   no_variables_in_each (with_term R Rs) h = joined R Rs h (no_variables R) (no_variables_in_each Rs)
 
-of_membership : (t : Term) → is_membership t ≡ true → variables_in t ≡ []
-of_membership t h = membership_asks t h (λ serial R is kind. step serial R kind (asked_looks t serial R is))
+-- String terms that have pieces.
+
+mutual
+  piece_free : (t : Term) (ps : List Piece) → pieces_of t ≡ Some ps → variables_in t ≡ []
+  piece_free (constant serial text) ps e = refl
+  piece_free (word w) ps e = refl
+  piece_free (apply symbol.str_concat terms) ps e =
+      after_then (λ pss. if_short (concatenation pss)) (all_pieces terms) ps e (λ pss all short.
+      pieces_free terms pss all)
+  piece_free _ ps e = absurd (none-some ps e)
+
+  pieces_free : (ts : Terms) (pss : List (List Piece)) → all_pieces ts ≡ Some pss → variables_in_each ts ≡ []
+  pieces_free no_terms pss e = refl
+  pieces_free (with_term t ts) pss e =
+      after_then (λ ps. option_map (λ qss. ps ∷ qss) (all_pieces ts)) (pieces_of t) pss e (λ ps first rest.
+      after_map (λ qss. ps ∷ qss) (all_pieces ts) pss rest (λ qss others is.
+      ap₂ (λ xs ys. xs ++ ys) (piece_free t ps first) (pieces_free ts qss others)))
+
+some_free : (t : Term) → is_some (pieces_of t) ≡ true → variables_in t ≡ []
+some_free t h = step (pieces_of t) refl h
   where
-    step : (serial : ℕ) (R : Term) → is_regex R ≡ true → IsAsking serial t R → variables_in t ≡ []
-    step serial R kind (a_membership e) = ap variables_in e ∙ ap (λ xs. xs ++ []) (no_variables R kind)
-    step serial R kind (a_word_behind w e S) = ap variables_in e
-    step serial R kind (a_word_in_front w e S) = ap variables_in e
+    step : (o : Option (List Piece)) → pieces_of t ≡ o → is_some o ≡ true → variables_in t ≡ []
+    step None e h = absurd (false≢true h)
+    step (Some ps) e h = piece_free t ps e
+
+single_free : (t : Term) → is_some (single_pieces t) ≡ true → variables_in t ≡ []
+single_free t h = some_free t (then_some (λ ps. if are_single ps then Some ps else None) (pieces_of t) h)
+
+ground_free : (t : Term) → is_some (ground_word t) ≡ true → variables_in t ≡ []
+ground_free t h = some_free t (then_some word_of (pieces_of t) h)
 
 -- What is compared.
 
-pair_free : (t u : Term) → is_pair t u ≡ true → (variables_in t ≡ []) × (variables_in u ≡ [])
-pair_free (constant n text) (word w) h = (refl, refl)
-pair_free (word w) (constant n text) h = (refl, refl)
-pair_free _ _ h = absurd (false≢true h)
+pair_free : (t u : Term) → is_word_pair t u ≡ true → (variables_in t ≡ []) × (variables_in u ≡ [])
+pair_free t u h = step (ground_word u) refl h
+  where
+    step : (o : Option (List ℕ)) → ground_word u ≡ o
+        → elim o as (λ _. Bool) [
+          | Some w ↦ is_some (single_pieces t)
+          | None ↦ is_some (ground_word t) && is_some (single_pieces u)
+        ] ≡ true → (variables_in t ≡ []) × (variables_in u ≡ [])
+    step (Some w) e h = (single_free t h, ground_free u (ap is_some e))
+    step None e h =
+        let parts = and_parts (is_some (ground_word t)) (is_some (single_pieces u)) h in
+        (ground_free t parts.0, single_free u parts.1)
 
-chain_free : (t : Term) (ts : Terms) → (are_several (t ∷ terms_in ts) && is_chain is_pair (t ∷ terms_in ts)) ≡ true
-    → variables_in_each (with_term t ts) ≡ []
-chain_free t no_terms h = absurd (false≢true h)
-chain_free t (with_term u no_terms) h =
-    let two = pair_free t u (and_parts (is_pair t u) true h).0 in
-    ap₂ (λ xs ys. xs ++ (ys ++ [])) two.0 two.1
-chain_free t (with_term u (with_term w ts)) h =
-    let parts = and_parts (is_pair t u) (is_chain is_pair (u ∷ w ∷ terms_in ts)) h in
-    ap₂ (λ xs ys. xs ++ ys) (pair_free t u parts.0).0 (chain_free u (with_term w ts) parts.1)
+each_free : (ts : Terms)
+    → ((k : ℕ) (d : Term) → k < length (terms_in ts) → variables_in (get_or (terms_in ts) k d) ≡ [])
+    → variables_in_each ts ≡ []
+each_free no_terms h = refl
+each_free (with_term t ts) h =
+    ap₂ (λ xs ys. xs ++ ys) (h 0 t (omega arith)) (each_free ts (λ k d l. h (suc k) d (omega (arith, l))))
 
-row_free : (t : Term) (ts : Terms) → list_all (is_pair t) (terms_in ts) ≡ true → variables_in_each ts ≡ []
-row_free t no_terms h = refl
-row_free t (with_term u ts) h =
-    let parts = and_parts (is_pair t u) (list_all (is_pair t) (terms_in ts)) h in
-    ap₂ (λ xs ys. xs ++ ys) (pair_free t u parts.0).1 (row_free t ts parts.1)
+-- one String term alone
+alone_free : (t : Term) → is_same_sort text (sort_of t) ≡ true → is_unjoined t ≡ true → variables_in t ≡ []
+alone_free (constant serial text) h u = refl
+alone_free (word w) h u = refl
+alone_free (apply symbol.str_concat terms) h u = texts_free terms u
+alone_free (parameter place sort) h u = refl
+alone_free _ h u = absurd (false≢true h)
 
-pairs_free : (t : Term) (ts : Terms) → (are_several (t ∷ terms_in ts) && are_pairs is_pair (t ∷ terms_in ts)) ≡ true
-    → variables_in_each (with_term t ts) ≡ []
-pairs_free t no_terms h = absurd (false≢true h)
-pairs_free t (with_term u ts) h =
-    let row = (and_parts (list_all (is_pair t) (u ∷ terms_in ts)) (are_pairs is_pair (u ∷ terms_in ts)) h).0 in
-    ap₂ (λ xs ys. xs ++ ys) (pair_free t u (and_parts (is_pair t u) (list_all (is_pair t) (terms_in ts)) row).0).0
-    (row_free t (with_term u ts) row)
+words_free : (distinct : Bool) (t : Term) (ts : Terms) → sort_of t ≡ text → are_unjoined (with_term t ts) ≡ true
+    → each_two distinct is_word_pair (t ∷ terms_in ts) ≡ true → variables_in_each (with_term t ts) ≡ []
+words_free distinct t no_terms sort u h =
+    ap (λ xs. xs ++ []) (alone_free t (ap (is_same_sort text) sort) (and_parts (is_unjoined t) true u).0)
+words_free distinct t (with_term v ts) sort u h =
+    let all = two_all distinct is_word_pair (λ x. variables_in x ≡ []) t v (terms_in ts) pair_free h in
+    ap₂ (λ xs ys. xs ++ ys) all.0 (ap₂ (λ xs ys. xs ++ ys) all.1.0 (each_free ts all.1.1))
 
-by_sort : (k : Sort) (truths words : Bool) (vs : List Variable)
-    → elim k as (λ _. Bool) [ boolean ↦ truths | integer ↦ false | text ↦ words | reglan ↦ false ] ≡ true
-    → (truths ≡ true → vs ≡ []) → (words ≡ true → vs ≡ []) → vs ≡ []
-by_sort boolean truths words vs h f g = f h
-by_sort integer truths words vs h f g = absurd (false≢true h)
-by_sort text truths words vs h f g = g h
-by_sort reglan truths words vs h f g = absurd (false≢true h)
+by_sort : (k : Sort) (truths fit sums words : Bool) (vs : List Variable)
+    → elim k as (λ _. Bool) [ boolean ↦ truths | integer ↦ false | text ↦ true | reglan ↦ false ] ≡ true
+    → elim k as (λ _. Bool) [ boolean ↦ fit | integer ↦ sums | text ↦ words | reglan ↦ false ] ≡ true
+    → (truths ≡ true → fit ≡ true → vs ≡ []) → (k ≡ text → words ≡ true → vs ≡ []) → vs ≡ []
+by_sort boolean truths fit sums words vs h k f g = f h k
+by_sort integer truths fit sums words vs h k f g = absurd (false≢true h)
+by_sort text truths fit sums words vs h k f g = g refl k
+by_sort reglan truths fit sums words vs h k f g = absurd (false≢true h)
 
 mutual
-  of_structure : (t : Term) → is_structure t ≡ true → variables_in t ≡ []
-  of_structure (constant serial boolean) h = refl
-  of_structure (apply symbol.core_true terms) h = of_each terms h
-  of_structure (apply symbol.core_false terms) h = of_each terms h
-  of_structure (apply symbol.core_not terms) h = of_each terms h
-  of_structure (apply symbol.core_and terms) h = of_each terms h
-  of_structure (apply symbol.core_or terms) h = of_each terms h
-  of_structure (apply symbol.core_implies terms) h = of_each terms h
-  of_structure (apply symbol.core_xor terms) h = of_each terms h
-  of_structure (apply symbol.core_ite terms) h = of_each terms h
-  of_structure (apply symbol.core_equal no_terms) h = refl
-  of_structure (apply symbol.core_equal (with_term t ts)) h =
-      by_sort (sort_of t) (are_structure (with_term t ts))
-      (are_several (t ∷ terms_in ts) && is_chain is_pair (t ∷ terms_in ts)) (variables_in_each (with_term t ts)) h
-      (of_each (with_term t ts)) (chain_free t ts)
-  of_structure (apply symbol.core_distinct no_terms) h = refl
-  of_structure (apply symbol.core_distinct (with_term t ts)) h =
-      by_sort (sort_of t) (are_structure (with_term t ts))
-      (are_several (t ∷ terms_in ts) && are_pairs is_pair (t ∷ terms_in ts)) (variables_in_each (with_term t ts)) h
-      (of_each (with_term t ts)) (pairs_free t ts)
-  of_structure (apply symbol.str_in_re terms) h = of_membership (apply symbol.str_in_re terms) h
-  of_structure _ h = absurd (false≢true h)
+  of_structure : (t : Term) → is_structure t ≡ true → is_unjoined t ≡ true → fits t ≡ true → variables_in t ≡ []
+  of_structure (constant serial boolean) h u f = refl
+  of_structure (apply symbol.core_true terms) h u f = of_each terms h u f
+  of_structure (apply symbol.core_false terms) h u f = of_each terms h u f
+  of_structure (apply symbol.core_not terms) h u f = of_each terms h u f
+  of_structure (apply symbol.core_and terms) h u f = of_each terms h u f
+  of_structure (apply symbol.core_or terms) h u f = of_each terms h u f
+  of_structure (apply symbol.core_implies terms) h u f = of_each terms h u f
+  of_structure (apply symbol.core_xor terms) h u f = of_each terms h u f
+  of_structure (apply symbol.core_ite terms) h u f = of_each terms h u f
+  of_structure (apply symbol.core_equal no_terms) h u f = refl
+  of_structure (apply symbol.core_equal (with_term t ts)) h u f =
+      by_sort (sort_of t) (are_structure (with_term t ts)) (each_fits (with_term t ts))
+      (is_chain is_linear_pair (t ∷ terms_in ts)) (is_chain is_word_pair (t ∷ terms_in ts))
+      (variables_in_each (with_term t ts)) h f (λ s g. of_each (with_term t ts) s u g)
+      (λ k w. words_free false t ts k u w)
+  of_structure (apply symbol.core_distinct no_terms) h u f = refl
+  of_structure (apply symbol.core_distinct (with_term t ts)) h u f =
+      by_sort (sort_of t) (are_structure (with_term t ts)) (each_fits (with_term t ts))
+      (are_pairs is_linear_pair (t ∷ terms_in ts)) (are_pairs is_word_pair (t ∷ terms_in ts))
+      (variables_in_each (with_term t ts)) h f (λ s g. of_each (with_term t ts) s u g)
+      (λ k w. words_free true t ts k u w)
+  of_structure (apply symbol.str_in_re (with_term t (with_term R no_terms))) h u f =
+      let parts = and_parts (is_some (single_pieces t)) (is_regular R) f in
+      ap₂ (λ xs ys. xs ++ (ys ++ [])) (single_free t parts.0) (no_variables R h)
+  of_structure _ h u f = absurd (false≢true h)
 
-  of_each : (ts : Terms) → are_structure ts ≡ true → variables_in_each ts ≡ []
-  of_each no_terms h = refl
-  of_each (with_term t ts) h =
-      let parts = and_parts (is_structure t) (are_structure ts) h in
-      ap₂ (λ xs ys. xs ++ ys) (of_structure t parts.0) (of_each ts parts.1)
+  of_each : (ts : Terms) → are_structure ts ≡ true → are_unjoined ts ≡ true → each_fits ts ≡ true
+      → variables_in_each ts ≡ []
+  of_each no_terms h u f = refl
+  of_each (with_term t ts) h u f =
+      let structure = and_parts (is_structure t) (are_structure ts) h in
+      let apart = and_parts (is_unjoined t) (are_unjoined ts) u in
+      let within = and_parts (fits t) (each_fits ts) f in
+      ap₂ (λ xs ys. xs ++ ys) (of_structure t structure.0 apart.0 within.0)
+      (of_each ts structure.1 apart.1 within.1)
 
 -- All assertions.
 
-no_bounds : (all : List Assertion) → are_inside all ≡ true → flat_map variables_in (asserted_terms all) ≡ []
-no_bounds [] h = refl
-no_bounds (asserted t ∷ all) h = let parts = and_parts (is_structure t) (are_inside all) h in
-    ap₂ (λ xs ys. xs ++ ys) (of_structure t parts.0) (no_bounds all parts.1)
-no_bounds (a_mark ∷ all) h = absurd (false≢true h)
+no_bounds : (all : List Assertion) → are_inside all ≡ true → list_all fits (asserted_terms all) ≡ true
+    → flat_map variables_in (asserted_terms all) ≡ []
+no_bounds [] h f = refl
+no_bounds (asserted t ∷ all) h f =
+    let parts = and_parts (is_structure t && is_unjoined t) (are_inside all) h in
+    let both = and_parts (is_structure t) (is_unjoined t) parts.0 in
+    let within = and_parts (fits t) (list_all fits (asserted_terms all)) f in
+    ap₂ (λ xs ys. xs ++ ys) (of_structure t both.0 both.1 within.0) (no_bounds all parts.1 within.1)
+no_bounds (a_mark ∷ all) h f = absurd (false≢true h)
 
 unmarked : (all : List Assertion) → are_inside all ≡ true → list_all is_unmarked all ≡ true
 unmarked [] h = refl
-unmarked (asserted t ∷ all) h = unmarked all (and_parts (is_structure t) (are_inside all) h).1
+unmarked (asserted t ∷ all) h = unmarked all (and_parts (is_structure t && is_unjoined t) (are_inside all) h).1
 unmarked (a_mark ∷ all) h = absurd (false≢true h)
 
 fits_of_each : (all : List Assertion) → are_inside all ≡ true
     → list_all fits (asserted_terms all) ≡ list_all is_decided all
 fits_of_each [] h = refl
-fits_of_each (asserted t ∷ all) h = let parts = and_parts (is_structure t) (are_inside all) h in
+fits_of_each (asserted t ∷ all) h = let parts = and_parts (is_structure t && is_unjoined t) (are_inside all) h in
     ap (λ b. fits t && b) (fits_of_each all parts.1)
     ∙ ap (λ b. (b && fits t) && list_all is_decided all) (sym parts.0)
 fits_of_each (a_mark ∷ all) h = absurd (false≢true h)
@@ -149,16 +214,18 @@ outside false f b d h k = refl
 none_decided : (all : List Assertion) → are_inside all ≡ false → list_all is_decided all ≡ false
 none_decided [] h = absurd (false≢true (sym h))
 none_decided (asserted t ∷ all) h =
-    outside (is_structure t) (fits t) (are_inside all) (list_all is_decided all) h (none_decided all)
+    outside (is_structure t && is_unjoined t) (fits t) (are_inside all) (list_all is_decided all) h (none_decided all)
 none_decided (a_mark ∷ all) h = refl
 
-of_three : (u f b d : Bool) → u ≡ true → f ≡ d → b ≡ true → ((u && (f && b)) && true) ≡ d
-of_three u f true true p q r = rw (p, q) refl
-of_three u f true false p q r = rw (p, q) refl
-of_three u f false d p q r = absurd (false≢true r)
+of_three : (u f b d : Bool) → u ≡ true → f ≡ d → (f ≡ true → b ≡ true) → ((u && (f && b)) && true) ≡ d
+of_three true true true d p q r = q
+of_three true true false d p q r = absurd (false≢true (r refl))
+of_three true false b d p q r = q
+of_three false f b d p q r = absurd (false≢true p)
 
-bounded : (all : List Assertion) → are_inside all ≡ true → are_bounded (asserted_terms all) ≡ true
-bounded all h = rw (no_bounds all h) refl
+bounded : (all : List Assertion) → are_inside all ≡ true → list_all fits (asserted_terms all) ≡ true
+    → are_bounded (asserted_terms all) ≡ true
+bounded all h f = rw (no_bounds all h f) refl
 
 all_of : (all : List Assertion) → (are_in_fragment all && are_inside all) ≡ list_all is_decided all
 all_of all = step (are_inside all) refl

@@ -1,6 +1,6 @@
 -- Computed examples of Boolean structure within the limits on sizes.
 use Rattle.std.specs.Prelude.{◌≡◌, ℕ, Bool, true, false, ◌&&◌, [], ◌∷◌, codes, refl}
-use Rattle.sb_meaning.specs.Terms.{Term, boolean, text, constant, word, apply, no_terms, terms_of}
+use Rattle.sb_meaning.specs.Terms.{Term, boolean, text, constant, word, apply, terms_of}
 use Rattle.sb_meaning.specs.Terms as symbol
 use Rattle.sb_meaning.specs.Examples.{one, two, x}
 use Rattle.sb_script.specs.Brought.{is_structure}
@@ -35,15 +35,22 @@ bools_apart = refl
 two_apart : is_fit (two symbol.core_distinct a x) ≡ true
 two_apart = refl
 
--- of three Strings each two are not a constant and a literal
+-- two words and a constant are compared two by two, two constants are not
+words_apart : is_fit (apply symbol.core_distinct (terms_of (x ∷ a ∷ word (codes "b") ∷ []))) ≡ true
+words_apart = refl
+
 three_apart : is_fit (apply symbol.core_distinct (terms_of (x ∷ a ∷ y ∷ []))) ≡ false
 three_apart = refl
 
 -- one String alone is not compared
-one_alone : is_fit (apply symbol.core_equal (terms_of (x ∷ []))) ≡ false
+one_alone : is_fit (apply symbol.core_equal (terms_of (x ∷ []))) ≡ true
 one_alone = refl
 
--- two constants fit, and are no structure so far
+-- two words are compared, a word that is concatenated among them
+two_words : is_fit (two symbol.core_equal (two symbol.str_concat a a) (word (codes "aa"))) ≡ true
+two_words = refl
+
+-- two constants are Boolean structure, and do not fit
 two_constants : is_fit (two symbol.core_or p (two symbol.core_equal x y)) ≡ false
 two_constants = refl
 

@@ -6,4 +6,5 @@ pub mod Measured
 pub mod Compared
 pub mod Shapes
 pub mod Fitting
+pub mod Ruled
 pub mod FittingExamples

@@ -10,23 +10,31 @@ use Rattle.sb_fragment.specs.declared.measure.Measure.{Measure}
 use Rattle.sb_fragment.specs.declared.fitting.Fit.{Fit}
 use Rattle.sb_fragment.specs.Measures.{within_limit}
 
+abbrev pub is_text_by : Symbol → Bool → Bool
+is_text_by symbol.str_concat texts = texts
+is_text_by _ texts = false
+
+abbrev pub is_unjoined_by : Symbol → Bool → Bool → Bool
+is_unjoined_by symbol.str_concat texts unjoined = texts
+is_unjoined_by _ texts unjoined = unjoined
+
 abbrev pub is_regex_by : Symbol → ℕ → Bool → Bool → Bool
-is_regex_by symbol.str_to_re n words regexes = (n == 1) && words
-is_regex_by symbol.re_range n words regexes = (n == 2) && words
-is_regex_by symbol.re_none n words regexes = n == 0
-is_regex_by symbol.re_all n words regexes = n == 0
-is_regex_by symbol.re_allchar n words regexes = n == 0
-is_regex_by symbol.re_concat n words regexes = not (n == 0) && regexes
-is_regex_by symbol.re_union n words regexes = not (n == 0) && regexes
-is_regex_by symbol.re_inter n words regexes = not (n == 0) && regexes
-is_regex_by symbol.re_diff n words regexes = not (n == 0) && regexes
-is_regex_by symbol.re_star n words regexes = (n == 1) && regexes
-is_regex_by symbol.re_plus n words regexes = (n == 1) && regexes
-is_regex_by symbol.re_opt n words regexes = (n == 1) && regexes
-is_regex_by symbol.re_comp n words regexes = (n == 1) && regexes
-is_regex_by (symbol.re_power k) n words regexes = (n == 1) && regexes
-is_regex_by (symbol.re_loop k l) n words regexes = (n == 1) && regexes
-is_regex_by _ n words regexes = false
+is_regex_by symbol.str_to_re n texts regexes = (n == 1) && texts
+is_regex_by symbol.re_range n texts regexes = (n == 2) && texts
+is_regex_by symbol.re_none n texts regexes = n == 0
+is_regex_by symbol.re_all n texts regexes = n == 0
+is_regex_by symbol.re_allchar n texts regexes = n == 0
+is_regex_by symbol.re_concat n texts regexes = not (n == 0) && regexes
+is_regex_by symbol.re_union n texts regexes = not (n == 0) && regexes
+is_regex_by symbol.re_inter n texts regexes = not (n == 0) && regexes
+is_regex_by symbol.re_diff n texts regexes = not (n == 0) && regexes
+is_regex_by symbol.re_star n texts regexes = (n == 1) && regexes
+is_regex_by symbol.re_plus n texts regexes = (n == 1) && regexes
+is_regex_by symbol.re_opt n texts regexes = (n == 1) && regexes
+is_regex_by symbol.re_comp n texts regexes = (n == 1) && regexes
+is_regex_by (symbol.re_power k) n texts regexes = (n == 1) && regexes
+is_regex_by (symbol.re_loop k l) n texts regexes = (n == 1) && regexes
+is_regex_by _ n texts regexes = false
 
 abbrev pub is_short_by : Symbol → Bool → ℕ → Bool
 is_short_by symbol.str_concat short size = nat_le size 65535
@@ -38,7 +46,8 @@ size_by _ size = within_limit (1 + size)
 
 abbrev pub joined : Measure → Measure → Measure
 joined a b = record {
-  is_word = a.is_word && b.is_word;
+  is_text = a.is_text && b.is_text;
+  is_unjoined = a.is_unjoined && b.is_unjoined;
   is_ground = a.is_ground && b.is_ground;
   is_regex = a.is_regex && b.is_regex;
   is_short = a.is_short && b.is_short;
@@ -50,7 +59,8 @@ joined a b = record {
 -- of no term
 abbrev pub no_measure : Measure
 no_measure = record {
-  is_word = true;
+  is_text = true;
+  is_unjoined = true;
   is_ground = true;
   is_regex = true;
   is_short = true;
@@ -66,9 +76,10 @@ total ms (i ∷ is) = joined (get_or ms i no_measure) (total ms is)
 
 abbrev pub applied_measure : Symbol → ℕ → Measure → Measure
 applied_measure s n all = record {
-  is_word = false;
+  is_text = is_text_by s all.is_text;
+  is_unjoined = is_unjoined_by s all.is_text all.is_unjoined;
   is_ground = all.is_ground;
-  is_regex = is_regex_by s n all.is_word all.is_regex;
+  is_regex = is_regex_by s n all.is_text all.is_regex;
   is_short = is_short_by s all.is_short all.size;
   size = size_by s all.size;
   is_structure = false;
@@ -78,7 +89,8 @@ applied_measure s n all = record {
 -- but for Boolean structure, where this is the measure of its arguments together
 abbrev pub node_measure : Measure → code.Term → Measure
 node_measure all (node.Constant serial sort) = record {
-  is_word = false;
+  is_text = false;
+  is_unjoined = true;
   is_ground = false;
   is_regex = false;
   is_short = true;
@@ -87,7 +99,8 @@ node_measure all (node.Constant serial sort) = record {
   fits = false;
 }
 node_measure all (node.Word codes) = record {
-  is_word = true;
+  is_text = true;
+  is_unjoined = true;
   is_ground = true;
   is_regex = false;
   is_short = nat_le (length codes.items) 65535;
@@ -96,7 +109,8 @@ node_measure all (node.Word codes) = record {
   fits = false;
 }
 node_measure all (node.Numeral n) = record {
-  is_word = false;
+  is_text = false;
+  is_unjoined = true;
   is_ground = true;
   is_regex = false;
   is_short = true;
@@ -106,7 +120,8 @@ node_measure all (node.Numeral n) = record {
 }
 node_measure all (node.Apply s arguments) = applied_measure (symbol_in s) (length arguments.items) all
 node_measure all (node.Parameter place sort) = record {
-  is_word = false;
+  is_text = false;
+  is_unjoined = true;
   is_ground = false;
   is_regex = false;
   is_short = true;
@@ -117,7 +132,7 @@ node_measure all (node.Parameter place sort) = record {
 
 -- with what it says of Boolean structure
 abbrev pub with_fit : Fit → Measure → Measure
-with_fit fit m = record m { is_structure = fit.is_structure; fits = fit.fits }
+with_fit fit m = record m { is_structure = fit.is_structure; fits = fit.fits && m.is_unjoined }
 
 -- no constants, and sizes within the limits
 abbrev pub within : Measure → Bool

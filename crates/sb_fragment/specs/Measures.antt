@@ -1,10 +1,11 @@
 -- What the rules of the fragment ask of a term, as it is kept by the term's number.
-use Rattle.std.specs.Prelude.{◌≡◌, ℕ, ◌≤◌, Bool, true, false, ◌&&◌, nat_le, if◌then◌else◌, List, length, slice_get, Some}
+use Rattle.std.specs.Prelude.{◌≡◌, ℕ, ◌≤◌, Bool, true, false, nat_le, if◌then◌else◌, List, length, slice_get, Some}
 use Rattle.sb_meaning.specs.Terms.{Term, word}
-use Rattle.sb_script.specs.Brought.{is_regex, is_structure}
-use Rattle.sb_script.specs.Fragment.{fits}
+use Rattle.sb_script.specs.Brought.{is_regex, is_structure, is_text, is_unjoined}
+use Rattle.sb_script.specs.Fragment.{is_decided}
 use Rattle.sb_script.specs.Pieces.{is_ground}
 use Rattle.sb_script.specs.Sizes.{size_of, has_short_words}
+use Rattle.sb_script.specs.State.{asserted}
 use Rattle.sb_term.specs.Numbered.{term_at}
 use Rattle.sb_fragment.specs.declared.measure.Measure.{Measure}
 
@@ -17,13 +18,14 @@ abbrev pub within_limit : ℕ → ℕ
 within_limit n = if nat_le n 1000000 then n else 1000001
 
 pub record IsMeasure (t : Term) (m : Measure) : Type 0 where
-  pub word : m.is_word ≡ is_literal t
+  pub text : m.is_text ≡ is_text t
+  pub unjoined : m.is_unjoined ≡ is_unjoined t
   pub constants : m.is_ground ≡ is_ground t
   pub regex : m.is_regex ≡ is_regex t
   pub short : m.is_short ≡ has_short_words t
   pub size : m.size ≡ within_limit (size_of t)
   pub structure : m.is_structure ≡ is_structure t
-  pub fitting : m.fits ≡ (is_structure t && fits t)
+  pub fitting : m.fits ≡ is_decided (asserted t)
 
 -- the measures of the first terms of a table, by number
 pub record AreMeasures (ts : List Term) (ms : List Measure) : Type 0 where

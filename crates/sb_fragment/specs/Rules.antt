@@ -1,18 +1,17 @@
 -- The rules of the fragment that assertions break, as far as it is decided so far.
 use Rattle.std.specs.Prelude.{◌≡◌, ℕ, ◌<◌, Bool, true, false, not, ◌&&◌, List, Option, Some, None, IfSome}
 use Rattle.std.specs.List.{list_all, list_any}
-use Rattle.sb_meaning.specs.Terms.{Term, apply, no_terms, with_term}
-use Rattle.sb_meaning.specs.Terms as symbol
-use Rattle.sb_script.specs.Brought.{is_structure}
+use Rattle.sb_meaning.specs.Terms.{Term}
+use Rattle.sb_script.specs.Brought.{a_check_of, is_brought}
 use Rattle.sb_script.specs.Fragment.{fits, in_fragment, is_decided, is_unmarked}
-use Rattle.sb_script.specs.Pieces.{is_ground}
+use Rattle.sb_script.specs.Rules.{repeats_variable, lacks_ground}
 use Rattle.sb_script.specs.State.{State, Assertion, asserted, a_mark, live}
 use Rattle.sb_term.specs.declared.assertion.Assertion as code
 use Rattle.sb_term.specs.Numbered.{term_at}
 use Rattle.sb_fragment.specs.declared.rules.Standing.{Standing}
 use Rattle.sb_fragment.specs.declared.rules.Standing.TheVariants.{Inside, Outside}
 use Rattle.sb_fragment.specs.declared.rules.Reason.{Reason}
-use Rattle.sb_fragment.specs.declared.rules.Reason.TheVariants.{Marked, NotGround, NotBrought, TooLarge}
+use Rattle.sb_fragment.specs.declared.rules.Reason.TheVariants.{Marked, RepeatedVariable, NotGround, NotBrought, TooLarge}
 
 -- the assertion, among the terms of a table
 abbrev pub assertion_in : List Term → code.Assertion → Assertion
@@ -25,17 +24,17 @@ HasNumberBelow n a = IfSome a.term (λ id. id < n)
 abbrev pub FragmentIsOfEach : Type 0
 FragmentIsOfEach = (s : State) → in_fragment s ≡ list_all is_decided (live s)
 
--- a membership in a regular expression in which a constant stands
-abbrev pub is_over_constants : Term → Bool
-is_over_constants (apply symbol.str_in_re (with_term t (with_term R no_terms))) = not (is_ground R)
-is_over_constants _ = false
+-- the term keeps the two rules that it may break by its form
+abbrev pub keeps_both : Term → Bool
+keeps_both t = not (repeats_variable t) && not (lacks_ground t)
 
 -- the assertion breaks the rule
 abbrev pub is_broken : Reason → Assertion → Bool
 is_broken Marked a = not (is_unmarked a)
-is_broken NotGround (asserted t) = is_over_constants t
-is_broken NotBrought (asserted t) = not (is_structure t) && not (is_over_constants t)
-is_broken TooLarge (asserted t) = is_structure t && not (fits t)
+is_broken RepeatedVariable (asserted t) = repeats_variable t
+is_broken NotGround (asserted t) = lacks_ground t
+is_broken NotBrought (asserted t) = not (is_brought (a_check_of t)) && keeps_both t
+is_broken TooLarge (asserted t) = (is_brought (a_check_of t) && not (fits t)) && keeps_both t
 is_broken _ a_mark = false
 
 -- the rule that an assertion breaks, and none where it is decided

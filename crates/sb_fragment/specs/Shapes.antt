@@ -1,18 +1,17 @@
 -- The shapes of terms of Boolean structure (SMT-LIB 2.6, theory Core).
-use Rattle.std.specs.Prelude.{◌≡◌, ℕ, ◌<◌, ◌≤◌, Bool, true, false, ◌&&◌, nat_lt, if◌then◌else◌, List, [], length, map, Some}
+use Rattle.std.specs.Prelude.{◌≡◌, ℕ, ◌<◌, ◌≤◌, Bool, true, false, ◌&&◌, nat_lt, if◌then◌else◌, List, [], length, map}
 use Rattle.std.specs.List.{list_all}
 use Rattle.sb_meaning.specs.Terms.{Sort, Symbol, boolean, text, Term, Terms, constant, apply, terms_in}
 use Rattle.sb_meaning.specs.Terms as symbol
-use Rattle.sb_script.specs.Brought.{asked, is_pair, is_regex, is_structure}
+use Rattle.sb_script.specs.Brought.{is_structure, is_text}
 use Rattle.sb_script.specs.Fragment.{sort_of_first}
 use Rattle.sb_term.specs.Numbered.{term_at}
-use Rattle.sb_problem.specs.Patterns.{literal_of}
-use Rattle.sb_fragment.specs.Compared.{compared}
-use Rattle.sb_fragment.specs.Memberships.{equality}
+use Rattle.sb_fragment.specs.Memberships.{is_in_re}
 use Rattle.sb_fragment.specs.declared.shape.Connective.{Connective}
 use Rattle.sb_fragment.specs.declared.shape.Connective.TheVariants as connective
 use Rattle.sb_fragment.specs.declared.shape.Shape.{Shape}
 use Rattle.sb_fragment.specs.declared.shape.Shape.TheVariants as shape
+use Rattle.sb_fragment.specs.declared.measures.Sides.{Sides}
 
 abbrev pub truth_of : Bool → Symbol
 truth_of truth = if truth then symbol.core_true else symbol.core_false
@@ -52,18 +51,15 @@ IsShape t (shape.Constant serial) = t ≡ constant serial.0 boolean
 IsShape t (shape.Always truth) = IsApplied t (truth_of truth)
 IsShape t shape.Alone = (distinct : Bool) × IsComparison t distinct boolean × (length (parts_of t) < 2)
 IsShape t (shape.Connected c) = IsConnected t c
-IsShape t (shape.Words distinct) = IsComparison t distinct text × (2 ≤ length (parts_of t))
+IsShape t shape.Member = is_in_re t ≡ true
+IsShape t (shape.Words distinct) = IsComparison t distinct text
 IsShape t shape.Other = is_structure t ≡ false
 
--- the equality of the two terms asks for the word of this literal
-pub record IsPair (ts : List Term) (one other serial word : ℕ) : Type 0 where
-  pub number : word < length ts
-  pub asks : asked (equality (term_at ts one) (term_at ts other)) ≡ Some (serial, literal_of (term_at ts word))
-  pub kind : is_regex (literal_of (term_at ts word)) ≡ true
-
--- of each two String terms that are compared one is a constant, and the other one a literal
-abbrev pub are_word_pairs : Bool → List Term → Bool
-are_word_pairs distinct ts = list_all (λ p. is_pair p.0 p.1) (compared distinct ts)
+-- the sides of an equality of two String terms: the one that is to be a word, which is the second where it is one, and
+-- the other one
+abbrev pub sides_in : List Term → ℕ → ℕ → Sides
+sides_in ts one other =
+    if is_text (term_at ts other) then record { word = other; other = one } else record { word = one; other = other }
 
 -- the terms of pairs of numbers
 abbrev pub terms_of_pairs : List Term → List (ℕ × ℕ) → List (Term × Term)

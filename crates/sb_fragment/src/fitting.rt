@@ -1,18 +1,20 @@
 //! Which terms are Boolean structure, and which of them are within the limits on sizes, by what is known of their
 //! arguments.
 
-ghost use Rattle.std.specs.Prelude.{◌≡◌, ◌<◌, ◌≤◌, List, length, All};
+ghost use Rattle.std.specs.Prelude.{◌≡◌, ◌<◌, ◌≤◌, true, List, length};
 ghost use Rattle.sb_meaning.specs.Terms.{Term};
-ghost use Rattle.sb_term.specs.Numbered.{term_at, terms_at};
+ghost use Rattle.sb_term.specs.Numbered.{term_at};
 ghost use Rattle.sb_problem.specs.Patterns.{number_of, pattern_in};
 ghost use Rattle.sb_fragment.specs.Measures.{AreMeasures};
 ghost use Rattle.sb_fragment.specs.Measured.{within};
+ghost use Rattle.sb_fragment.specs.Memberships.{is_in_re};
 ghost use Rattle.sb_fragment.specs.Shapes.{parts_of};
-ghost use Rattle.sb_fragment.specs.Fitting.{fit_by, both_fit, term_fit, terms_fit, regex_fit, pair_fit, neighbours_fit, words_fit};
+ghost use Rattle.sb_fragment.specs.Fitting.{AreFit, IsFit, fit_by, regex_fit};
 
 use crate::measure::{Measure, is_within, literal_of};
-use crate::memberships::membership;
-use crate::shape::{Shape, arguments_of, pair_of, shape_of};
+use crate::memberships::{membership, term_and_regex};
+use crate::shape::{Shape, arguments_of, shape_of};
+use crate::sides::{fit_words, side_of};
 use sb_problem::Pattern;
 use sb_term::{Table, TermId};
 
@@ -21,7 +23,7 @@ use sb_term::{Table, TermId};
 pub(crate) struct Fit {
     /// It is Boolean structure, whatever the sizes are.
     pub(crate) is_structure: bool,
-    /// It is Boolean structure within the limits on sizes.
+    /// It is Boolean structure within the limits on sizes, where no constants are joined in it.
     pub(crate) fits: bool,
 }
 
@@ -36,16 +38,6 @@ const OUTSIDE: Fit = Fit {
     is_structure: false,
     fits: false,
 };
-
-/// What two are together.
-fn both(first: Fit, rest: Fit) -> Fit
-    ensures { result ≡ both_fit first rest }
-{
-    Fit {
-        is_structure: first.is_structure && rest.is_structure,
-        fits: first.fits && rest.fits,
-    }
-}
 
 /// What the demand for a word of a regular expression is, by what is known of the expression.
 fn fit_regex(measure: Measure) -> Fit
@@ -68,48 +60,23 @@ fn fit_pattern(measures: &[Measure], pattern: Pattern) -> Fit
     }
 }
 
-/// What the comparison of two String terms is: it is structure where one is a constant, and the other one a literal.
-fn fit_pair(table: &Table, measures: &[Measure], one: TermId, other: TermId) -> Fit
-    requires one { one < length measures.now }
-    requires other { other < length measures.now }
+/// What the membership of a String term in a regular expression is.
+fn fit_member(table: &Table, measures: &[Measure], id: TermId) -> Fit
+    requires number { id < length table.now }
+    requires reached { id ≤ length measures.now }
     requires right { AreMeasures table.now measures.now }
-    ensures { result ≡ pair_fit (term_at table.now one) (term_at table.now other) }
+    requires member { is_in_re (term_at table.now id) ≡ true }
+    ensures { IsFit (term_at table.now id) result }
 {
-    let Some(pair) = pair_of(table, one, other) else {
+    let Some(pair) = term_and_regex(table, id) else {
         return OUTSIDE;
     };
-    fit_pattern(measures, Pattern::Word(pair.1))
-}
-
-/// What the comparisons of each two neighbours are together.
-fn fit_neighbours(table: &Table, measures: &[Measure], arguments: &[TermId]) -> Fit
-    requires numbers { All (λ i. i < length measures.now) arguments.now }
-    requires right { AreMeasures table.now measures.now }
-    ensures { result ≡ neighbours_fit (terms_at table.now arguments.now) }
-{
-    let mut left = arguments.len();
-    let mut all = INSIDE;
-    while left > 1 {
-        left -= 1;
-        let pair = fit_pair(table, measures, arguments[left - 1], arguments[left]);
-        all = both(pair, all);
+    let side = side_of(table, measures, pair.0);
+    let fit = fit_regex(measures[pair.1.number()]);
+    Fit {
+        is_structure: fit.is_structure,
+        fits: fit.fits & (side.is_short | side.is_constant),
     }
-    all
-}
-
-/// What the comparison of String terms is. Of three that are to be distinct each two are not a constant and a literal.
-fn fit_words(table: &Table, measures: &[Measure], distinct: bool, arguments: &[TermId]) -> Fit
-    requires numbers { All (λ i. i < length measures.now) arguments.now }
-    requires right { AreMeasures table.now measures.now }
-    ensures { result ≡ words_fit distinct (terms_at table.now arguments.now) }
-{
-    if !distinct {
-        return fit_neighbours(table, measures, arguments);
-    }
-    if arguments.len() > 2 {
-        return OUTSIDE;
-    }
-    fit_neighbours(table, measures, arguments)
 }
 
 /// What a term is, where the measures of the terms before it are there, and each of its arguments is `parts`. Linear in
@@ -118,21 +85,22 @@ pub(crate) fn fit_of(table: &Table, measures: &[Measure], id: TermId, parts: Fit
     requires number { id < length table.now }
     requires reached { id ≤ length measures.now }
     requires right { AreMeasures table.now measures.now }
-    requires each { parts ≡ terms_fit (parts_of (term_at table.now id)) }
-    ensures { result ≡ term_fit (term_at table.now id) }
+    requires each { AreFit (parts_of (term_at table.now id)) parts }
+    ensures { IsFit (term_at table.now id) result }
 {
     if let Some((_, pattern)) = membership(table, id) {
         return fit_pattern(measures, pattern);
     }
     match shape_of(table, id) {
         Shape::Constant(_) => INSIDE,
-        Shape::Always(_) => Fit {
-            is_structure: parts.is_structure,
-            fits: parts.is_structure,
-        },
+        Shape::Always(_) => parts,
         Shape::Alone => parts,
         Shape::Connected(_) => parts,
-        Shape::Words(distinct) => fit_words(table, measures, distinct, arguments_of(table, id)),
+        Shape::Member => fit_member(table, measures, id),
+        Shape::Words(distinct) => Fit {
+            is_structure: true,
+            fits: fit_words(table, measures, distinct, arguments_of(table, id)),
+        },
         Shape::Other => OUTSIDE,
     }
 }

@@ -25,9 +25,9 @@ impl Fragment {
         Fragment { inside: 0 }
     }
 
-    /// Whether live assertions are inside the fragment, and where not, which rule the first of them outside breaks. Linear
-    /// in the number of the assertions behind those that are known, up to that one, but that terms are measured which
-    /// were not yet. `AllocError` only for want of memory.
+    /// Whether live assertions are inside the fragment, and where not, which rule the first of them outside breaks.
+    /// Linear in the number of the assertions behind those that are known, up to that one, but that terms are measured
+    /// which were not yet. `AllocError` only for want of memory.
     pub fn stand(
         &mut self,
         measures: &mut Measures,
@@ -51,7 +51,8 @@ impl Fragment {
         Ok(Standing::Inside(Problem))
     }
 
-    /// Takes back what is known to so many assertions, those that are still there where levels were left. Constant time.
+    /// Takes back what is known to so many assertions, those that are still there where levels were left. Constant
+    /// time.
     pub fn leave(&mut self, count: usize)
         ensures { self.new.inside ≡ min self.old.inside count }
     {

@@ -5,7 +5,7 @@
 //! that is shared is measured once, and there is no recursion on a term's tree. The layers above ask
 //! [`Fragment::stand`] of all live assertions, which keeps what it knows of them from one check to the next, and
 //! [`Measures::fits_structure`] of one. They take an assertion about one constant apart by [`membership`], and Boolean
-//! structure over such assertions by [`shape_of`].
+//! structure over memberships and comparisons by [`shape_of`].
 #![tactic(auto)]
 
 mod fitting;
@@ -14,13 +14,16 @@ mod measure;
 mod measures;
 mod memberships;
 mod pairs;
+mod repeated;
+mod ruled;
 mod rules;
 mod shape;
+mod sides;
 
 pub use keeper::Fragment;
 pub use measure::Measure;
-pub use measures::Measures;
-pub use memberships::membership;
+pub use measures::{Measures, Sides};
+pub use memberships::{membership, term_and_regex};
 pub use pairs::compared;
 pub use rules::{Problem, Reason, Standing, fragment_is_of_each};
-pub use shape::{Connective, Shape, arguments_of, pair_of, shape_of};
+pub use shape::{Connective, Shape, arguments_of, shape_of};

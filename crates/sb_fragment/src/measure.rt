@@ -4,7 +4,7 @@ ghost use Rattle.std.specs.Prelude.{◌≡◌, ◌<◌, ◌+◌, ◌&&◌, lengt
 ghost use Rattle.sb_meaning.specs.Terms.{str_to_re};
 ghost use Rattle.sb_term.specs.Symbols.{symbol_in};
 ghost use Rattle.sb_fragment.specs.Measures.{within_limit};
-ghost use Rattle.sb_fragment.specs.Measured.{is_regex_by, is_short_by, size_by, joined, no_measure, total, within, node_measure};
+ghost use Rattle.sb_fragment.specs.Measured.{is_text_by, is_unjoined_by, is_regex_by, is_short_by, size_by, joined, no_measure, total, within, node_measure};
 ghost use Rattle.sb_fragment.specs.Measured.{applied_measure};
 
 use sb_term::{Symbol, Term, TermId};
@@ -12,20 +12,22 @@ use sb_term::{Symbol, Term, TermId};
 /// What the rules of the fragment ask of a term.
 #[derive(Clone, Copy, PartialEq, Eq)]
 pub struct Measure {
-    /// The term is the word of a literal.
-    pub is_word: bool,
+    /// The term is a word: a literal, or a concatenation of such.
+    pub is_text: bool,
+    /// No constants are joined in the term: each concatenation in it is a word.
+    pub is_unjoined: bool,
     /// No constant stands in the term.
     pub is_ground: bool,
-    /// The term is a regular expression over literals: made by every symbol of that sort, with words as strings.
+    /// The term is a regular expression over words: made by every symbol of that sort, with words as strings.
     pub is_regex: bool,
     /// No String term within, as a word, has more than 65,535 characters.
     pub is_short: bool,
     /// One for each application of sort RegLan in it and one for each character of its words, up to 1,000,001.
     pub size: u32,
-    /// The term is Boolean structure, whatever the sizes are: made of Bool constants, of memberships of one String
-    /// constant in a regular expression over literals, and of equalities of one with a literal.
+    /// The term is Boolean structure, whatever the sizes are: made of Bool constants, of memberships in regular
+    /// expressions over words, and of comparisons of String terms.
     pub is_structure: bool,
-    /// The term is Boolean structure within the limits on sizes.
+    /// The term is Boolean structure in which no constants are joined, within the limits on sizes.
     pub fits: bool,
 }
 
@@ -34,7 +36,8 @@ const SIZE_LIMIT: u32 = 1_000_000;
 
 /// What is known of no terms together.
 const NOTHING: Measure = Measure {
-    is_word: true,
+    is_text: true,
+    is_unjoined: true,
     is_ground: true,
     is_regex: true,
     is_short: true,
@@ -71,7 +74,8 @@ fn join(first: Measure, rest: Measure) -> Measure
     ensures { result ≡ joined first rest }
 {
     Measure {
-        is_word: first.is_word && rest.is_word,
+        is_text: first.is_text && rest.is_text,
+        is_unjoined: first.is_unjoined && rest.is_unjoined,
         is_ground: first.is_ground && rest.is_ground,
         is_regex: first.is_regex && rest.is_regex,
         is_short: first.is_short && rest.is_short,
@@ -95,13 +99,33 @@ pub(crate) fn total_of(measures: &[Measure], arguments: &[TermId]) -> Measure
     all
 }
 
-/// Whether a symbol makes a regular expression over literals of so many arguments.
-fn makes_regex(symbol: Symbol, count: usize, words: bool, regexes: bool) -> bool
-    ensures { result ≡ is_regex_by (symbol_in symbol) count words regexes }
+/// Whether a symbol makes a word of arguments that are words, or are not.
+fn makes_text(symbol: Symbol, texts: bool) -> bool
+    ensures { result ≡ is_text_by (symbol_in symbol) texts }
 {
     match symbol {
-        Symbol::StrToRe => count == 1 && words,
-        Symbol::ReRange => count == 2 && words,
+        Symbol::StrConcat => texts,
+        _ => false,
+    }
+}
+
+/// Whether no constants are joined, where they are words, and none are joined in them, or it is otherwise.
+fn is_unjoined_with(symbol: Symbol, texts: bool, unjoined: bool) -> bool
+    ensures { result ≡ is_unjoined_by (symbol_in symbol) texts unjoined }
+{
+    match symbol {
+        Symbol::StrConcat => texts,
+        _ => unjoined,
+    }
+}
+
+/// Whether a symbol makes a regular expression over words of so many arguments.
+fn makes_regex(symbol: Symbol, count: usize, texts: bool, regexes: bool) -> bool
+    ensures { result ≡ is_regex_by (symbol_in symbol) count texts regexes }
+{
+    match symbol {
+        Symbol::StrToRe => count == 1 && texts,
+        Symbol::ReRange => count == 2 && texts,
         Symbol::ReNone | Symbol::ReAll | Symbol::ReAllChar => count == 0,
         Symbol::ReConcat | Symbol::ReUnion | Symbol::ReInter | Symbol::ReDiff => {
             count != 0 && regexes
@@ -137,9 +161,10 @@ fn applied(symbol: Symbol, count: usize, all: Measure) -> Measure
     ensures { result ≡ applied_measure (symbol_in symbol) count all }
 {
     Measure {
-        is_word: false,
+        is_text: makes_text(symbol, all.is_text),
+        is_unjoined: is_unjoined_with(symbol, all.is_text, all.is_unjoined),
         is_ground: all.is_ground,
-        is_regex: makes_regex(symbol, count, all.is_word, all.is_regex),
+        is_regex: makes_regex(symbol, count, all.is_text, all.is_regex),
         is_short: short_with(symbol, all.is_short, all.size),
         size: size_with(symbol, all.size),
         is_structure: false,
@@ -147,7 +172,7 @@ fn applied(symbol: Symbol, count: usize, all: Measure) -> Measure
     }
 }
 
-/// What is known of the regular expression of a literal, where what is known of the literal is this.
+/// What is known of the regular expression of a word, where what is known of the word is this.
 pub(crate) fn literal_of(measure: Measure) -> Measure
     ensures { result ≡ applied_measure str_to_re 1 (joined measure no_measure) }
 {
@@ -160,7 +185,8 @@ pub(crate) fn plain_of(node: &Term, all: Measure) -> Measure
 {
     match node {
         Term::Constant(..) | Term::Parameter(..) => Measure {
-            is_word: false,
+            is_text: false,
+            is_unjoined: true,
             is_ground: false,
             is_regex: false,
             is_short: true,
@@ -169,7 +195,8 @@ pub(crate) fn plain_of(node: &Term, all: Measure) -> Measure
             fits: false,
         },
         Term::Word(codes) => Measure {
-            is_word: true,
+            is_text: true,
+            is_unjoined: true,
             is_ground: true,
             is_regex: false,
             is_short: codes.len() <= 65_535,
@@ -178,7 +205,8 @@ pub(crate) fn plain_of(node: &Term, all: Measure) -> Measure
             fits: false,
         },
         Term::Numeral(_) => Measure {
-            is_word: false,
+            is_text: false,
+            is_unjoined: true,
             is_ground: true,
             is_regex: false,
             is_short: true,

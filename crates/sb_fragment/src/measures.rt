@@ -7,6 +7,7 @@ ghost use Rattle.sb_script.specs.State.{asserted};
 ghost use Rattle.sb_term.specs.Numbered.{term_at};
 ghost use Rattle.sb_problem.specs.Patterns.{number_of, pattern_in};
 ghost use Rattle.sb_fragment.specs.Measures.{IsMeasure, AreMeasures};
+ghost use Rattle.sb_fragment.specs.Shapes.{sides_in};
 ghost use Rattle.sb_script.specs.Fragment.{is_decided};
 
 use crate::fitting::{Fit, fit_of};
@@ -32,6 +33,15 @@ impl Model for Measures {
     ghost view = { λ measures. measures.measures.items };
 }
 
+/// The sides of an equality of two String terms.
+#[derive(Clone, Copy, PartialEq, Eq)]
+pub struct Sides {
+    /// The one that is to be a word, by the rules of the fragment.
+    pub word: TermId,
+    /// The other one.
+    pub other: TermId,
+}
+
 /// What is known of a term, where the measures of the terms before it are there.
 fn measure_of(table: &Table, measures: &[Measure], id: TermId) -> Measure
     requires number { id < length table.now }
@@ -45,10 +55,11 @@ fn measure_of(table: &Table, measures: &[Measure], id: TermId) -> Measure
         fits: all.fits,
     };
     let fit = fit_of(table, measures, id, parts);
+    let plain = plain_of(table.term(id), all);
     Measure {
         is_structure: fit.is_structure,
-        fits: fit.fits,
-        ..plain_of(table.term(id), all)
+        fits: fit.fits & plain.is_unjoined,
+        ..plain
     }
 }
 
@@ -89,7 +100,7 @@ impl Measures {
         Ok(self.measures[id.number()])
     }
 
-    /// The measure of a pattern, as a regular expression: that of a literal has one node and its word. Its cost and its
+    /// The measure of a pattern, as a regular expression: that of a word has one node and the word. Its cost and its
     /// error are those of [`Measures::measure`].
     pub fn pattern(&mut self, table: &Table, pattern: Pattern) -> Result<Measure, AllocError>
         requires number { number_of pattern < length table.now }
@@ -129,10 +140,9 @@ impl Measures {
         Ok(self.measure(table, id)?.is_structure)
     }
 
-    /// Whether a term is decided as an assertion: whether it is Boolean structure over memberships of one String constant
-    /// in a regular expression over literals, over equalities of one with a literal, and over Bool constants, within the
-    /// limits on sizes. Of more than two Strings that are to be distinct none are. Its cost and its error are those of
-    /// [`Measures::measure`].
+    /// Whether a term is decided as an assertion: whether it is Boolean structure over memberships, over comparisons of
+    /// String terms, and over Bool constants, in which no constants are joined, within the limits on sizes. Its cost
+    /// and its error are those of [`Measures::measure`].
     pub fn fits_structure(&mut self, table: &Table, id: TermId) -> Result<bool, AllocError>
         requires number { id < length table.now }
         requires right { AreMeasures table.now self.old }
@@ -140,5 +150,35 @@ impl Measures {
         ensures right { AreMeasures table.now self.new }
     {
         Ok(self.measure(table, id)?.fits)
+    }
+
+    /// Which side of an equality of two String terms is to be a word: the second one where it is one, else the first.
+    /// Its cost and its error are those of [`Measures::measure`].
+    pub fn sides_of_pair(
+        &mut self,
+        table: &Table,
+        one: TermId,
+        other: TermId,
+    ) -> Result<Sides, AllocError>
+        requires one { one < length table.now }
+        requires other { other < length table.now }
+        requires right { AreMeasures table.now self.old }
+        ensures ok { IfOk result (λ sides. sides ≡ sides_in table.now one other) }
+        ensures right { AreMeasures table.now self.new }
+    {
+        let measure = self.measure(table, other)?;
+        if measure.is_text {
+            Ok(Sides {
+                word: other,
+                other: one,
+            })
+        } else {
+            Ok(Sides { word: one, other })
+        }
+    }
+
+    /// The allocator of the measures.
+    pub(crate) fn allocator(&self) -> Global {
+        *self.measures.allocator()
     }
 }

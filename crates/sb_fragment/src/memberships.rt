@@ -10,8 +10,8 @@ ghost use Rattle.sb_fragment.specs.Measures as meaning;
 use sb_problem::{Pattern, constant_of};
 use sb_term::{Serial, Symbol, Table, Term, TermId};
 
-/// The two arguments of a term that is `str.in_re` of them.
-pub(crate) fn term_and_regex(table: &Table, id: TermId) -> Option<(TermId, TermId)>
+/// The two arguments of a term that is `str.in_re` of them. Takes constant time and no memory.
+pub fn term_and_regex(table: &Table, id: TermId) -> Option<(TermId, TermId)>
     requires { id < length table.now }
     ensures parts { MatchOption result (is_in_re (term_at table.now id) ≡ false)
         (λ p. term_at table.now id ≡ in_re (term_at table.now p.0) (term_at table.now p.1)) }
@@ -49,7 +49,7 @@ fn sides_of(table: &Table, id: TermId) -> Option<(TermId, TermId)>
 }
 
 /// Whether a term is the word of a literal.
-pub(crate) fn is_literal(table: &Table, id: TermId) -> bool
+fn is_literal(table: &Table, id: TermId) -> bool
     requires { id < length table.now }
     ensures { result ≡ meaning.is_literal (term_at table.now id) }
 {

@@ -8,7 +8,7 @@ ghost use Rattle.sb_script.specs.Fragment.{is_decided};
 ghost use Rattle.sb_fragment.specs.Rules.{assertion_in, HasNumberBelow, IsBrokenBy, is_broken, FragmentIsOfEach};
 
 use crate::measures::Measures;
-use crate::memberships::term_and_regex;
+use crate::ruled::{Law, keeps};
 use sb_term::{Assertion, Table, TermId};
 use std::alloc::AllocError;
 
@@ -17,10 +17,13 @@ use std::alloc::AllocError;
 pub enum Reason {
     /// An assertion was left out.
     Marked,
-    /// The assertion is a membership in whose regular expression a constant stands.
+    /// A constant stands twice in the String term of a membership, or on a side of an equality.
+    RepeatedVariable,
+    /// A constant stands in the regular expression of a membership, or on both sides of an equality of String terms.
     NotGround,
-    /// The assertion is of another form than those that are decided so far: Boolean structure over memberships of one
-    /// String constant in a regular expression over literals, equalities of one with a literal, and Bool constants.
+    /// The assertion is of another form than those that are decided so far: Boolean structure over memberships in
+    /// regular expressions over words, comparisons of String terms, and Bool constants, in which no constants are
+    /// joined.
     NotBrought,
     /// The assertion is of that form, but a word or a regular expression in it is past the limits on sizes.
     TooLarge,
@@ -46,16 +49,20 @@ fn rule_of(measures: &mut Measures, table: &Table, id: TermId) -> Result<Reason,
     ensures ok { IfOk result (λ reason. is_broken reason (asserted (term_at table.now id)) ≡ true) }
     ensures right { AreMeasures table.now measures.new }
 {
-    if measures.is_structure(table, id)? {
-        return Ok(Reason::TooLarge);
+    let once = keeps(measures, table, Law::EachOnce, id)?;
+    if !once {
+        return Ok(Reason::RepeatedVariable);
     }
-    let Some((_, regex)) = term_and_regex(table, id) else {
-        return Ok(Reason::NotBrought);
-    };
-    if measures.measure(table, regex)?.is_ground {
-        Ok(Reason::NotBrought)
+    let one_side = keeps(measures, table, Law::OneGround, id)?;
+    if !one_side {
+        return Ok(Reason::NotGround);
+    }
+    let measure = measures.measure(table, id)?;
+    let brought = measure.is_structure & measure.is_unjoined;
+    if brought {
+        Ok(Reason::TooLarge)
     } else {
-        Ok(Reason::NotGround)
+        Ok(Reason::NotBrought)
     }
 }
 

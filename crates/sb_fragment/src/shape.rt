@@ -1,15 +1,13 @@
 //! The shapes of terms of Boolean structure.
 
-ghost use Rattle.std.specs.Prelude.{◌≡◌, ℕ, ◌<◌, false, None, length, All, MatchOption, IfSome};
-ghost use Rattle.sb_meaning.specs.Terms.{apply, terms_of};
+ghost use Rattle.std.specs.Prelude.{◌≡◌, ◌<◌, None, List, length, All};
+ghost use Rattle.sb_meaning.specs.Terms.{apply, str_in_re, terms_of};
 ghost use Rattle.sb_meaning.specs.Terms as meaning;
-ghost use Rattle.sb_script.specs.Brought.{asked, is_pair};
+ghost use Rattle.sb_script.specs.Brought.{asked};
 ghost use Rattle.sb_term.specs.Numbered.{term_at, terms_at, AllNumbers};
 ghost use Rattle.sb_term.specs.Symbols.{sort_in, symbol_in};
-ghost use Rattle.sb_fragment.specs.Shapes.{IsShape, IsPair, comparison_of, parts_of};
+ghost use Rattle.sb_fragment.specs.Shapes.{IsShape, comparison_of, parts_of};
 
-use crate::memberships::is_literal;
-use sb_problem::constant_of;
 use sb_term::{Serial, Sort, Symbol, Table, Term, TermId};
 
 /// A symbol that makes a truth value of truth values.
@@ -36,8 +34,10 @@ pub enum Shape {
     Alone,
     /// A connective of its arguments. What is compared are two terms or more, of which the first is of sort Bool.
     Connected(Connective),
-    /// Its arguments, two or more of which the first is of sort String, are all equal, or where they are to be distinct,
-    /// each two differ.
+    /// It is the membership of its first argument in its second one, of two.
+    Member,
+    /// Its arguments, of which the first is of sort String, are all equal, or where they are to be distinct, each two
+    /// differ.
     Words(bool),
     /// None of these.
     Other,
@@ -84,12 +84,25 @@ fn applied(table: &Table, symbol: Symbol, arguments: &[TermId]) -> Shape
         Symbol::Ite => Shape::Connected(Connective::Ite),
         Symbol::Equal => comparison(table, false, arguments),
         Symbol::Distinct => comparison(table, true, arguments),
+        Symbol::StrInRe => member(arguments),
         _ => Shape::Other,
     }
 }
 
-/// The shape of a comparison, by the sort of what is compared. One term alone is not compared, and none neither; where
-/// it is no Bool, that is no shape.
+/// The shape of `str.in_re` with its arguments.
+fn member(arguments: &[TermId]) -> Shape
+    ensures { (terms : List meaning.Term)
+        → IsShape (apply str_in_re (terms_of (terms_at terms arguments.now))) result }
+{
+    if arguments.len() == 2 {
+        Shape::Member
+    } else {
+        Shape::Other
+    }
+}
+
+/// The shape of a comparison, by the sort of the first of what is compared. One Bool alone is not compared, and none
+/// neither.
 fn comparison(table: &Table, distinct: bool, arguments: &[TermId]) -> Shape
     requires { AllNumbers table.now arguments.now }
     ensures { IsShape (apply (comparison_of distinct) (terms_of (terms_at table.now arguments.now))) result }
@@ -100,7 +113,6 @@ fn comparison(table: &Table, distinct: bool, arguments: &[TermId]) -> Shape
     match table.sort(*first) {
         Sort::Bool if others.is_empty() => Shape::Alone,
         Sort::Bool => Shape::Connected(Connective::Compare(distinct)),
-        Sort::String if others.is_empty() => Shape::Other,
         Sort::String => Shape::Words(distinct),
         Sort::Int | Sort::RegLan => Shape::Other,
     }
@@ -115,29 +127,5 @@ pub fn arguments_of(table: &Table, id: TermId) -> &[TermId]
     match table.term(id) {
         Term::Apply(_, arguments) => arguments.as_slice(),
         _ => &[],
-    }
-}
-
-/// The constant and the literal of an equality of the two, in either order; none where one is no String constant, or the
-/// other one no literal. Takes constant time and no memory.
-pub fn pair_of(table: &Table, one: TermId, other: TermId) -> Option<(Serial, TermId)>
-    requires one { one < length table.now }
-    requires other { other < length table.now }
-    ensures parts { MatchOption result (is_pair (term_at table.now one) (term_at table.now other) ≡ false)
-        (λ p. IsPair table.now one other p.0.0 p.1) }
-    ensures below { (n : ℕ) → one < n → other < n → IfSome result (λ p. p.1 < n) }
-{
-    if let Some(serial) = constant_of(table, one) {
-        return if is_literal(table, other) {
-            Some((serial, other))
-        } else {
-            None
-        };
-    }
-    let serial = constant_of(table, other)?;
-    if is_literal(table, one) {
-        Some((serial, one))
-    } else {
-        None
     }
 }

@@ -1,13 +1,19 @@
-use Rattle.std.proofs.Common.{ap, ◌∙◌, arith}
-use Rattle.sb_term.specs.Numbered.{term_at}
+use Rattle.std.proofs.Common.{arith}
+use Rattle.sb_term.specs.Numbered.{term_at, terms_at}
 use Rattle.sb_problem.specs.Patterns.{pattern_in}
-use Rattle.sb_fragment.specs.declared.fitting.Fit.{Fit}
-use Rattle.sb_fragment.specs.Fitting.{words_fit}
-use Rattle.sb_fragment.proofs.FittingFacts.{asked_fit, constant_fit, always_fit, alone_fit, connected_fit, words_term, other_fit}
+use Rattle.sb_fragment.proofs.FittingFacts.{asked_fit, constant_fit, always_fit, alone_fit, connected_fit, words_fit, other_fit}
 use Rattle.sb_fragment.proofs.fitting.fit_of.Goals as goal
 
 pub fit_pattern-requires : goal.fit_pattern-requires
 fit_pattern-requires c = omega (arith, c.in-Some.ensures.smaller, c.requires.reached)
+
+pub fit_member-requires : goal.fit_member-requires
+fit_member-requires c = record {
+  number = c.requires.number;
+  reached = c.requires.reached;
+  right = c.requires.right;
+  member = rw c.in-Member.is at c.shape_of.ensures;
+}
 
 pub fit_words-requires : goal.fit_words-requires
 fit_words-requires c = record {
@@ -17,9 +23,9 @@ fit_words-requires c = record {
 
 pub returns-in-Some : goal.returns-in-Some
 returns-in-Some c =
-    c.fit_pattern.ensures c.args.table.now c.requires.right
-    ∙ asked_fit (term_at c.args.table.now c.args.id) c.in-Some.field-0-0.0
-    (pattern_in c.args.table.now c.in-Some.pattern) c.in-Some.ensures.parts
+    asked_fit (term_at c.args.table.now c.args.id) c.in-Some.field-0-0.0
+    (pattern_in c.args.table.now c.in-Some.pattern) c.fit_pattern.result c.in-Some.ensures.parts
+    (c.fit_pattern.ensures c.args.table.now c.requires.right)
 
 pub returns-in-Constant : goal.returns-in-Constant
 returns-in-Constant c =
@@ -27,26 +33,23 @@ returns-in-Constant c =
 
 pub returns-in-Always : goal.returns-in-Always
 returns-in-Always c =
-    let shape = rw c.in-Always.is at c.shape_of.ensures in
-    always_fit (term_at c.args.table.now c.args.id) _ c.args.parts.is_structure shape
-    (ap (λ (x : Fit). x.is_structure) c.requires.each)
+    always_fit (term_at c.args.table.now c.args.id) _ c.args.parts (rw c.in-Always.is at c.shape_of.ensures)
+    c.requires.each
 
 pub returns-in-Alone : goal.returns-in-Alone
 returns-in-Alone c =
-    let shape = rw c.in-Alone.is at c.shape_of.ensures in
-    c.requires.each ∙ alone_fit (term_at c.args.table.now c.args.id) shape
+    alone_fit (term_at c.args.table.now c.args.id) c.args.parts (rw c.in-Alone.is at c.shape_of.ensures) c.requires.each
 
 pub returns-in-Connected : goal.returns-in-Connected
 returns-in-Connected c =
-    let shape = rw c.in-Connected.is at c.shape_of.ensures in
-    c.requires.each ∙ connected_fit (term_at c.args.table.now c.args.id) _ shape
+    connected_fit (term_at c.args.table.now c.args.id) _ c.args.parts (rw c.in-Connected.is at c.shape_of.ensures)
+    c.requires.each
 
 pub returns-in-Words : goal.returns-in-Words
 returns-in-Words c =
-    let shape = rw c.in-Words.is at c.shape_of.ensures in
-    c.fit_words.ensures
-    ∙ ap (words_fit c.in-Words.distinct) c.arguments_of.ensures.terms
-    ∙ words_term (term_at c.args.table.now c.args.id) c.in-Words.distinct shape
+    words_fit (term_at c.args.table.now c.args.id) c.in-Words.distinct
+    (terms_at c.args.table.now c.arguments_of.result.now) c.fit_words.result (rw c.in-Words.is at c.shape_of.ensures)
+    c.arguments_of.ensures.terms c.fit_words.ensures
 
 pub returns-in-Other : goal.returns-in-Other
 returns-in-Other c = other_fit (term_at c.args.table.now c.args.id) (rw c.in-Other.is at c.shape_of.ensures)

@@ -21,6 +21,7 @@ fit_of-fit-requires c = record {
 pub returns : goal.returns
 returns c =
     measure_is c.args.table.now c.args.measures.now c.arguments_of.result.now c.term.result.now
-    (term_at c.args.table.now c.args.id) c.total_of-all.result c.plain_of.result c.fit_of-fit.result c.requires.right
-    (λ k d l. omega (arith, c.arguments_of.ensures.below k d l, c.requires.reached)) c.arguments_of.ensures.terms
-    c.total_of-all.ensures c.term.ensures.value c.plain_of.ensures c.fit_of-fit.ensures
+    (term_at c.args.table.now c.args.id) c.total_of-all.result c.plain_of-plain.result c.fit_of-fit.result
+    c.requires.right (λ k d l. omega (arith, c.arguments_of.ensures.below k d l, c.requires.reached))
+    c.arguments_of.ensures.terms c.total_of-all.ensures c.term.ensures.value c.plain_of-plain.ensures
+    c.fit_of-fit.ensures

@@ -26,3 +26,6 @@ returns-in-Xor c = rw c.in-Xor.is (applied_with _ (terms_of (terms_at c.args.tab
 
 pub returns-in-Ite : goal.returns-in-Ite
 returns-in-Ite c = rw c.in-Ite.is (applied_with _ (terms_of (terms_at c.args.table.now c.args.arguments.now)))
+
+pub returns-in-StrInRe : goal.returns-in-StrInRe
+returns-in-StrInRe c = rw c.in-StrInRe.is (c.member.ensures c.args.table.now)

@@ -1,5 +1,5 @@
 use Rattle.std.proofs.Common.{sym, ◌∙◌}
-use Rattle.sb_fragment.proofs.Structured.{none_alone, one_alone, some_compared, word_alone, words_compared}
+use Rattle.sb_fragment.proofs.Structured.{none_alone, one_alone, some_compared, words_compared}
 use Rattle.sb_fragment.proofs.shape.comparison.Goals as goal
 
 pub returns-in_default : goal.returns-in_default
@@ -18,10 +18,5 @@ returns-in-Bool-2 c =
 
 pub returns-in-String : goal.returns-in-String
 returns-in-String c =
-    word_alone c.args.distinct c.args.table.now c.args.arguments.now c.first-item.result c.in-len1-up.len_at_least
-    c.first-item.is (sym c.in-String.ensures) (sym c.if-is_empty-2.true ∙ c.is_empty-in-String-1.ensures)
-
-pub returns-in-String-2 : goal.returns-in-String-2
-returns-in-String-2 c =
     words_compared c.args.distinct c.args.table.now c.args.arguments.now c.first-item.result c.in-len1-up.len_at_least
-    c.first-item.is (sym c.in-String-2.ensures) (sym c.if-is_empty-2.false ∙ c.is_empty-in-String-1.ensures)
+    c.first-item.is (sym c.in-String.ensures)

@@ -1,0 +1,13 @@
+use Rattle.std.proofs.Common.{◌≤◌, length, drop}
+use Rattle.sb_term.specs.Numbered.{terms_at}
+use Rattle.sb_fragment.specs.Measures.{AreMeasures}
+use Rattle.sb_fragment.proofs.RuledFacts.{AreRuled}
+use Rattle.sb_fragment.proofs.ruled.keep_words.Given as goal
+
+abbrev pub invariant-loop-left : goal.invariant-loop-left
+invariant-loop-left l = (l.left ≤ length l.fn.arguments)
+    × AreMeasures l.fn.table l.measures
+    × AreRuled l.fn.law l.fn.distinct (terms_at l.fn.table (drop l.left l.fn.arguments)) l.all l.behind l.none
+
+abbrev pub decreases-loop-left : goal.decreases-loop-left
+decreases-loop-left l = l.left
