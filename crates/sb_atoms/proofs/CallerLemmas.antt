@@ -15,7 +15,7 @@ pub use Rattle.sb_atoms.proofs.Translating.{over_one}
 -- literals in order ascend, and are of atoms below a number where all are, as their negations
 pub use Rattle.sb_atoms.proofs.Ordered.{order_ascends, below_in_order, below_negations}
 -- words give the values of a term that asks something of one constant's word
-pub use Rattle.sb_atoms.proofs.GivenValues.{asked_given, asked_value, membership_given}
+pub use Rattle.sb_atoms.proofs.GivenValues.{asked_given, asked_value}
 -- together the clauses of a gate say what the atom does
 pub use Rattle.sb_atoms.proofs.Saying.{all_say}
 -- the clauses of an atom are the same over the regexes

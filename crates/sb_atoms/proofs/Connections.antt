@@ -3,9 +3,9 @@ use Rattle.std.proofs.Common.{◌≡◌, ℕ, ◌<◌, ◌≤◌, Bool, true, fa
 use Rattle.std.specs.List.{list_all}
 use Rattle.std.proofs.lemmas.Bool.{and_parts, false≢true}
 use Rattle.std.proofs.Math.Bool.{and-false}
-use Rattle.sb_meaning.specs.Terms.{Sort, boolean, integer, text, reglan, Term, Terms, constant, word, numeral, apply, parameter, terms_in}
+use Rattle.sb_meaning.specs.Terms.{Sort, boolean, integer, text, reglan, Term, Terms, apply, no_terms, with_term, terms_in}
 use Rattle.sb_meaning.specs.Terms as symbol
-use Rattle.sb_script.specs.Brought.{asked, are_several, is_structure}
+use Rattle.sb_script.specs.Brought.{asked, is_structure}
 use Rattle.sb_script.specs.Fragment.{sort_of_first}
 use Rattle.sb_script.proofs.CallerLemmas.{IsAsking, a_membership, a_word_behind, a_word_in_front, asked_looks}
 use Rattle.sb_term.specs.Descending.{GoesDown}
@@ -13,11 +13,12 @@ use Rattle.sb_fragment.specs.declared.shape.Connective.{Connective}
 use Rattle.sb_fragment.specs.declared.shape.Connective.TheVariants as connective
 use Rattle.sb_fragment.specs.declared.shape.Shape.{Shape}
 use Rattle.sb_fragment.specs.declared.shape.Shape.TheVariants as shape
+use Rattle.sb_fragment.specs.Memberships.{is_in_re}
 use Rattle.sb_fragment.specs.Shapes.{IsComparison, IsConnected, IsShape, parts_of, comparison_of}
 use Rattle.sb_fragment.proofs.CallerLemmas.{connected_structure}
-use Rattle.sb_atoms.specs.Translated.{has_declared}
-use Rattle.sb_atoms.specs.Reaching.{is_connective, is_boolean, are_truths, is_connection, connected_parts}
-use Rattle.sb_atoms.proofs.Found.{declared_parts}
+use Rattle.sb_atoms.specs.Growing.{Demand, meets}
+use Rattle.sb_atoms.specs.Reaching.{is_connective, is_boolean, are_several, are_truths, is_connection, connected_parts}
+use Rattle.sb_atoms.proofs.Found.{met_parts}
 
 few : (ts : List Term) → length ts < 2 → are_several ts ≡ false
 few [] h = refl
@@ -67,6 +68,11 @@ connected_is t (connective.Compare distinct) h =
 pub connected_parts_are : (t : Term) (c : Connective) → IsConnected t c → parts_of t ≡ connected_parts t
 connected_parts_are t c h = sym (ap (λ (b : Bool). if b then parts_of t else []) (connected_is t c h))
 
+-- a membership is none
+member_is : (t : Term) → is_in_re t ≡ true → false ≡ is_connection t
+member_is (apply symbol.str_in_re (with_term u (with_term R no_terms))) h = refl
+member_is _ h = absurd (false≢true h)
+
 pub shape_is : (t : Term) (s : Shape) → IsShape t s → is_structure t ≡ true → is_connective s ≡ is_connection t
 shape_is t (shape.Constant serial) h structure = sym (ap is_connection h)
 shape_is t (shape.Always true) h structure = sym (ap is_connection h.is)
@@ -74,8 +80,9 @@ shape_is t (shape.Always false) h structure = sym (ap is_connection h.is)
 shape_is t shape.Alone h structure =
     sym (compared_is t h.0 boolean h.1 ∙ ap (λ b. b && true) (few (parts_of t) h.2))
 shape_is t (shape.Connected c) h structure = sym (connected_is t c h)
+shape_is t shape.Member h structure = member_is t h
 shape_is t (shape.Words distinct) h structure =
-    sym (compared_is t distinct text h.0 ∙ and-false (are_several (parts_of t)))
+    sym (compared_is t distinct text h ∙ and-false (are_several (parts_of t)))
 shape_is t shape.Other h structure = absurd (false≢true (sym h ∙ structure))
 
 pub asked_is : (t : Term) (serial : ℕ) (R : Term) → asked t ≡ Some (serial, R) → false ≡ is_connection t
@@ -87,7 +94,7 @@ asked_is t serial R h = step (asked_looks t serial R h)
     step (a_word_in_front w is S) = sym (ap is_connection is)
 
 -- Which connective it is.
-applied : (t : Term) → is_connection t ≡ true → (c : Connective) × IsConnected t c
+pub applied : (t : Term) → is_connection t ≡ true → (c : Connective) × IsConnected t c
 applied (apply symbol.core_not terms) h = (connective.Not, record { terms = terms; is = refl })
 applied (apply symbol.core_and terms) h = (connective.And, record { terms = terms; is = refl })
 applied (apply symbol.core_or terms) h = (connective.Or, record { terms = terms; is = refl })
@@ -114,7 +121,7 @@ applied _ h = absurd (false≢true h)
 
 -- What goes down.
 
-parts_pass : (test : Term → Bool) (t : Term) (b : Bool) → (b ≡ true → list_all test (parts_of t) ≡ true)
+pub parts_pass : (test : Term → Bool) (t : Term) (b : Bool) → (b ≡ true → list_all test (parts_of t) ≡ true)
     → list_all test (if b then parts_of t else []) ≡ true
 parts_pass test t true h = h refl
 parts_pass test t false h = refl
@@ -123,5 +130,5 @@ pub structure_down : GoesDown connected_parts is_structure
 structure_down t h = parts_pass is_structure t (is_connection t) (λ is.
     let c = applied t is in sym (connected_structure t c.0 c.1) ∙ h)
 
-pub declared_down : (sorts : List Sort) → GoesDown connected_parts (has_declared sorts)
-declared_down sorts t h = parts_pass (has_declared sorts) t (is_connection t) (λ is. declared_parts sorts t h)
+pub met_down : (demand : Demand) → GoesDown connected_parts (meets demand)
+met_down demand t h = parts_pass (meets demand) t (is_connection t) (λ is. met_parts demand t h)

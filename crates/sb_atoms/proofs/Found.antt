@@ -1,25 +1,25 @@
 -- What is found of terms, over an arena and a table of atoms that grow.
-use Rattle.std.proofs.Common.{◌≡◌, ℕ, suc, ◌+◌, ◌<◌, ◌≤◌, Bool, true, false, ◌&&◌, if◌then◌else◌, List, [], ◌∷◌, ◌++◌, ◌⊎◌, inl, inr, length, map, take, get_or, Option, Some, None, IfSome, option_map, option_and_then, refl, sym, ap, ◌∙◌, arith}
+use Rattle.std.proofs.Common.{◌≡◌, ℕ, suc, ◌+◌, ◌<◌, ◌≤◌, Bool, true, false, ◌&&◌, if◌then◌else◌, List, [], ◌∷◌, ◌++◌, length, map, take, get_or, Option, Some, None, IfSome, option_map, option_and_then, refl, sym, ap, ◌∙◌, arith}
 use Rattle.std.specs.List.{list_all}
 use Rattle.std.proofs.lemmas.Bool.{and_parts, and_from}
 use Rattle.std.proofs.lemmas.Bool.Decides.{nat_tests}
 use Rattle.std.proofs.lemmas.List.{take_all}
-use Rattle.std.proofs.lemmas.List.Folds.{list_all-append}
 use Rattle.std.proofs.lemmas.Option.{slice_get_within, same_Some}
 use Rattle.sb_facts.proofs.CallerLemmas.{some_then, some-none}
 use Rattle.sb_lang.specs.Regex.{Regex}
 use Rattle.sb_lang.specs.Normal.{normal}
 use Rattle.sb_lit.specs.declared.clause.Lit.{Lit}
 use Rattle.sb_meaning.specs.Terms.{Sort, boolean, text, Term, Terms, constant, word, numeral, apply, parameter, no_terms, with_term, terms_in}
+use Rattle.sb_meaning.specs.Terms as symbol
 use Rattle.sb_meaning.specs.Truth.{meaning_of}
 use Rattle.sb_regex.specs.Numbered.{regex_at}
 use Rattle.sb_regex.specs.Numbered as regex
 use Rattle.sb_regex.proofs.CallerLemmas.{names_at, names_below, long_kept}
-use Rattle.sb_script.specs.Brought.{asked, is_pair, is_structure}
-use Rattle.sb_script.specs.Pieces.{constant_piece}
+use Rattle.sb_script.specs.Brought.{asked, is_regex, is_structure, is_unjoined, are_unjoined}
+use Rattle.sb_script.specs.Pieces.{Piece, constant_piece}
 use Rattle.sb_script.specs.Sizes.{is_regular}
 use Rattle.sb_script.proofs.CallerLemmas.{IsAsking, a_membership, a_word_behind, a_word_in_front, asked_looks}
-use Rattle.sb_rulebook.specs.Atoms.{Atom, AtomOver, bool_atom, in_atom}
+use Rattle.sb_rulebook.specs.Atoms.{Atom, AtomOver, bool_atom, in_atom, are_pieces}
 use Rattle.sb_rulebook.specs.AtomRules.{is_declared}
 use Rattle.sb_rulebook.specs.Parts.{together, regex_meant, regex_of}
 use Rattle.sb_rulebook.specs.Translation.{translation, membership, positive, negated, word_equality}
@@ -30,20 +30,20 @@ use Rattle.sb_problem.specs.declared.normals.Known.{Known}
 use Rattle.sb_fragment.specs.declared.measure.Measure.{Measure}
 use Rattle.sb_fragment.specs.Measures.{AreMeasures}
 use Rattle.sb_atoms.specs.Numbered.{Names, over, atoms_in, HasRegexBelow, HaveRegexesBelow}
-use Rattle.sb_atoms.specs.Translated.{brought_translation, is_member, are_members, has_declared, have_declared, IsAdded}
+use Rattle.sb_atoms.specs.Translated.{brought_translation, has_declared, have_declared}
 use Rattle.sb_fragment.specs.Compared.{compared}
 use Rattle.sb_atoms.specs.Connecting.{signed, with_sign}
-use Rattle.sb_atoms.specs.Growing.{is_below, are_below, Grown, GrownByGates, GrownByOne, Gives, GivesLike, IsLiteralOf, Finds, AreReady, Moves}
-use Rattle.sb_fragment.specs.Memberships.{equality}
+use Rattle.sb_atoms.specs.Growing.{Demand, of_sorts, of_pieces, meets, pieces_meet, is_below, are_below, Grown, GrownByGates, GrownByOne, Gives, GivesLike, IsLiteralOf, Finds, AreReady, Moves}
+use Rattle.sb_fragment.specs.Memberships.{in_re}
 use Rattle.sb_fragment.specs.Shapes.{parts_of}
-use Rattle.sb_atoms.specs.Shapes.{IsAtomOf, have_declared_pairs}
+use Rattle.sb_atoms.specs.Shapes.{IsAtomOf, meet_pairs, member_literal}
 use Rattle.sb_atoms.proofs.CallerLemmas.{atoms_more}
 pub use Rattle.sb_fragment.proofs.CallerLemmas.{all_at}
 use Rattle.sb_fragment.proofs.CallerLemmas.{compared_all}
 use Rattle.sb_atoms.proofs.Growth.{grown_one, grown_longer, moves_both, moves_given, moves_none, moved, grown_regexes}
 use Rattle.sb_atoms.proofs.Connected.{all_push, all_stop, all_stay, all_below_more, below_push}
-use Rattle.sb_fragment.proofs.CallerLemmas.{pair_sort}
-use Rattle.sb_atoms.proofs.Structured.{equality_of_sort, of_one}
+use Rattle.sb_atoms.proofs.Structured.{signed_none}
+use Rattle.sb_atoms.proofs.TextFacts.{texts_unjoined, membership_some}
 use Rattle.sb_atoms.proofs.Translating.{apart_in, apart_bool}
 
 named_below : (new : List (AtomOver ℕ)) (l : Lit) (a : AtomOver ℕ) → Names new l.atom a
@@ -75,10 +75,6 @@ pub finds_given : {A : Type 0} {known : ℕ → A → Bool} (adds : Bool) (rs : 
 finds_given adds rs new make found g =
     record { is = g.is rs; none = λ on e. absurd (g.sure on e); below = g.below }
 
-signed_none : (distinct : Bool) → signed distinct None ≡ None
-signed_none true = refl
-signed_none false = refl
-
 pub finds_signed : (distinct adds : Bool) (rs : List Regex) (new : List (AtomOver ℕ))
     (make : List Atom → Option Lit) (found : Option Lit) → Finds is_below adds rs new make found
     → Finds is_below adds rs new (λ atoms. signed distinct (make atoms)) (signed distinct found)
@@ -109,58 +105,51 @@ signed_is false found l e = e
 pub signed_nothing : (distinct : Bool) (found : Option Lit) → found ≡ None → signed distinct found ≡ None
 signed_nothing distinct found e = ap (signed distinct) e ∙ signed_none distinct
 
--- What asks something of one constant's word.
+-- What is in a regular expression.
 
-asked_is : (rs : List Regex) (t : Term) (serial id : ℕ) (R : Term) → asked t ≡ Some (serial, R)
-    → is_regular R ≡ true → IsRegexOf rs R id → (atoms : List Atom)
-    → translation atoms t ≡ positive atoms (in_atom (constant_piece serial ∷ []) (regex_at rs id))
-asked_is rs t serial id R h within r atoms =
-    asked_translation t serial R h atoms ∙ ap (membership atoms (constant serial text)) regex
+member_is : (rs : List Regex) (ps : List Piece) (R : Term) (id : ℕ) → is_regular R ≡ true → IsRegexOf rs R id
+    → (atoms : List Atom) → member_literal atoms ps R ≡ positive atoms (in_atom ps (regex_at rs id))
+member_is rs ps R id within r atoms = ap (option_and_then (λ s. positive atoms (in_atom ps s))) regex
   where
     regex : regex_of R ≡ Some (regex_at rs id)
     regex = ap (λ (m : Bool). if m then regex_meant (meaning_of [] R) else None) within
         ∙ ap regex_meant (r.means [])
         ∙ ap Some (sym (names_at rs id (normal r.reglan) r.names))
 
-its_regex : (rs : List Regex) (serial : ℕ) (R : Term) (a : AtomOver ℕ) → IsAtomOf rs serial R (Some a)
+its_regex : (rs : List Regex) (ps : List Piece) (R : Term) (a : AtomOver ℕ) → IsAtomOf rs ps R (Some a)
     → HasRegexBelow (length rs) a
-its_regex rs serial R a of = rw of.1 (names_below rs of.0 _ of.3.names)
+its_regex rs ps R a of = rw of.1 (names_below rs of.0 _ of.3.names)
 
-pub member_finds : (adds : Bool) (rs : List Regex) (new : List (AtomOver ℕ)) (serial : ℕ) (R : Term) (a : AtomOver ℕ)
-    (found : Option Lit) → IsAtomOf rs serial R (Some a) → regex.AreDistinct rs → HaveRegexesBelow (length rs) new
-    → IsLiteralOf adds new a found → (t : Term) → asked t ≡ Some (serial, R)
-    → Finds is_below adds rs new (λ atoms. translation atoms t) found
-member_finds adds rs new serial R a found of once below h t asks = record {
-  is = h.is rs (apart_in rs new a once below (its_regex rs serial R a of))
+pub member_finds : (adds : Bool) (rs : List Regex) (new : List (AtomOver ℕ)) (ps : List Piece) (R : Term)
+    (a : AtomOver ℕ) (found : Option Lit) → IsAtomOf rs ps R (Some a) → regex.AreDistinct rs
+    → HaveRegexesBelow (length rs) new → IsLiteralOf adds new a found
+    → Finds is_below adds rs new (λ atoms. member_literal atoms ps R) found
+member_finds adds rs new ps R a found of once below h = record {
+  is = h.is rs (apart_in rs new a once below (its_regex rs ps R a of))
       ∙ ap (λ b. positive (atoms_in rs new) (over rs b)) of.1
-      ∙ sym (asked_is rs t serial of.0 R asks of.2 of.3 (atoms_in rs new));
+      ∙ sym (member_is rs ps R of.0 of.2 of.3 (atoms_in rs new));
   none = λ on e. absurd (h.sure on e);
   below = λ l e. named_below new l a (h.names l e).0;
 }
 
-pub member_moves : (adds : Bool) (rs more : List Regex) (old new : List (AtomOver ℕ)) (serial : ℕ) (R : Term)
-    (a : AtomOver ℕ) → regex.Extends rs more → IsAtomOf more serial R (Some a) → GrownByOne adds old new a
-    → Moves adds (λ sorts. is_declared sorts text serial) rs more old new
-member_moves adds rs more old new serial R a e of g = record {
+-- past the limits on sizes there is none
+pub member_past : (adds : Bool) (rs : List Regex) (new : List (AtomOver ℕ)) (ps : List Piece) (R : Term)
+    → is_regular R ≡ false → Finds is_below adds rs new (λ atoms. member_literal atoms ps R) None
+member_past adds rs new ps R past =
+    finds_none adds rs new (λ atoms. member_literal atoms ps R)
+    (λ atoms. ap (λ (m : Bool). option_and_then (λ r. positive atoms (in_atom ps r))
+    (if m then regex_meant (meaning_of [] R) else None)) past)
+
+pub member_moves : (adds : Bool) (rs more : List Regex) (old new : List (AtomOver ℕ)) (ps : List Piece) (R : Term)
+    (a : AtomOver ℕ) → regex.Extends rs more → IsAtomOf more ps R (Some a) → are_pieces ps ≡ true
+    → GrownByOne adds old new a → Moves adds (λ demand. pieces_meet demand ps) rs more old new
+member_moves adds rs more old new ps R a e of formed g = record {
   arena = e;
-  atoms = grown_one adds (length more) (λ sorts. is_declared sorts text serial) old new a g
-      (its_regex more serial R a of) (rw of.1 refl) (λ rs. rw of.1 refl)
-      (λ sorts is before l. rw of.1 (and_from (is_declared sorts text serial) true is refl));
+  atoms = grown_one adds (length more) (λ demand. pieces_meet demand ps) old new a g (its_regex more ps R a of)
+      (rw of.1 formed) (λ rs. rw of.1 refl) (λ sorts is before l. rw of.1 is) (λ is. rw of.1 is);
 }
 
-pub member_added : (adds : Bool) (rs : List Regex) (old new : List (AtomOver ℕ)) (serial : ℕ) (R : Term)
-    (a : AtomOver ℕ) (found : Option Lit) → IsAtomOf rs serial R (Some a) → GrownByOne adds old new a
-    → IsLiteralOf adds new a found → adds ≡ true → IsAdded old new found
-member_added adds rs old new serial R a None of g h on = absurd (h.sure on refl)
-member_added adds rs old new serial R a (Some l) of g h on = (
-  serial,
-  of.0,
-  rw (← of.1) g.one,
-  rw (← of.1) ((h.names l refl).0),
-  (h.names l refl).1,
-)
-
-pub ready_moved : {adds : Bool} {given : List Sort → Bool} (ts : List Term) (ms : List Measure) (ks : List Known)
+pub ready_moved : {adds : Bool} {given : Demand → Bool} (ts : List Term) (ms : List Measure) (ks : List Known)
     (rs more : List Regex) (old new : List (AtomOver ℕ)) → AreMeasures ts ms → AreNormals ts more ks
     → HaveRegexesBelow (length rs) old → Moves adds given rs more old new → AreReady ts ms ks more new
 ready_moved ts ms ks rs more old new right normals below m = record {
@@ -169,75 +158,107 @@ ready_moved ts ms ks rs more old new right normals below m = record {
   regexes = grown_regexes (length rs) (length more) old new (long_kept rs more m.arena) below m.atoms;
 }
 
--- Constants that are declared.
+-- What is asked of terms.
 
-pub declared_asked : (sorts : List Sort) (t : Term) (serial : ℕ) (R : Term) → asked t ≡ Some (serial, R)
+declared_asked : (sorts : List Sort) (t : Term) (serial : ℕ) (R : Term) → asked t ≡ Some (serial, R)
     → has_declared sorts t ≡ true → is_declared sorts text serial ≡ true
 declared_asked sorts t serial R h d = step (asked_looks t serial R h)
   where
     step : IsAsking serial t R → is_declared sorts text serial ≡ true
     step (a_membership is) =
-        (and_parts (is_declared sorts text serial) (has_declared sorts R && true) (ap (has_declared sorts) (sym is) ∙ d)).0
+        (and_parts (is_declared sorts text serial) (has_declared sorts R && true)
+        (ap (has_declared sorts) (sym is) ∙ d)).0
     step (a_word_behind w is S) =
         (and_parts (is_declared sorts text serial) true (ap (has_declared sorts) (sym is) ∙ d)).0
     step (a_word_in_front w is S) =
         (and_parts (is_declared sorts text serial) true (ap (has_declared sorts) (sym is) ∙ d)).0
 
-pub declared_parts : (sorts : List Sort) (t : Term) → has_declared sorts t ≡ true
+-- of one constant's word
+pub met_asked : (demand : Demand) (t : Term) (serial : ℕ) (R : Term) → asked t ≡ Some (serial, R)
+    → meets demand t ≡ true → pieces_meet demand (constant_piece serial ∷ []) ≡ true
+met_asked (of_sorts sorts) t serial R h d =
+    and_from (is_declared sorts text serial) true (declared_asked sorts t serial R h d) refl
+met_asked of_pieces t serial R h u = refl
+
+declared_each : (sorts : List Sort) (us : Terms) → have_declared sorts us ≡ true
+    → list_all (has_declared sorts) (terms_in us) ≡ true
+declared_each sorts no_terms h = refl
+declared_each sorts (with_term u us) h =
+    let p = and_parts (has_declared sorts u) (have_declared sorts us) h in
+    and_from (has_declared sorts u) (list_all (has_declared sorts) (terms_in us)) p.0 (declared_each sorts us p.1)
+
+declared_parts : (sorts : List Sort) (t : Term) → has_declared sorts t ≡ true
     → list_all (has_declared sorts) (parts_of t) ≡ true
 declared_parts sorts (constant serial sort) h = refl
 declared_parts sorts (word w) h = refl
 declared_parts sorts (numeral n) h = refl
-declared_parts sorts (apply s terms) h = each terms h
-  where
-    each : (us : Terms) → have_declared sorts us ≡ true → list_all (has_declared sorts) (terms_in us) ≡ true
-    each no_terms h = refl
-    each (with_term u us) h =
-        let p = and_parts (has_declared sorts u) (have_declared sorts us) h in
-        and_from (has_declared sorts u) (list_all (has_declared sorts) (terms_in us)) p.0 (each us p.1)
+declared_parts sorts (apply s terms) h = declared_each sorts terms h
 declared_parts sorts (parameter place sort) h = refl
 
-pub declared_compared : (sorts : List Sort) (distinct : Bool) (t : Term) → has_declared sorts t ≡ true
-    → have_declared_pairs sorts (compared distinct (parts_of t)) ≡ true
-declared_compared sorts distinct t h =
-    compared_all (has_declared sorts) distinct (parts_of t) (declared_parts sorts t h)
+unjoined_each : (us : Terms) → are_unjoined us ≡ true → list_all is_unjoined (terms_in us) ≡ true
+unjoined_each no_terms h = refl
+unjoined_each (with_term u us) h =
+    let p = and_parts (is_unjoined u) (are_unjoined us) h in
+    and_from (is_unjoined u) (list_all is_unjoined (terms_in us)) p.0 (unjoined_each us p.1)
 
--- An equality of a String constant and a literal.
+unjoined_parts : (t : Term) → is_unjoined t ≡ true → list_all is_unjoined (parts_of t) ≡ true
+unjoined_parts (constant serial sort) h = refl
+unjoined_parts (word w) h = refl
+unjoined_parts (numeral n) h = refl
+unjoined_parts (parameter place sort) h = refl
+unjoined_parts (apply symbol.str_concat terms) h = unjoined_each terms (texts_unjoined terms h)
+unjoined_parts (apply _ terms) h = unjoined_each terms h
 
-pub pair_equality : (t u : Term) → is_pair t u ≡ true → (atoms : List Atom)
-    → translation atoms (equality t u) ≡ word_equality atoms t u
-pair_equality t u h atoms =
-    of_one atoms _ ∙ equality_of_sort atoms t u text (pair_sort t u h)
+pub met_parts : (demand : Demand) (t : Term) → meets demand t ≡ true
+    → list_all (meets demand) (parts_of t) ≡ true
+met_parts (of_sorts sorts) t h = declared_parts sorts t h
+met_parts of_pieces t h = unjoined_parts t h
 
-pub declared_pair : (sorts : List Sort) (t u : Term) (serial : ℕ) (R : Term)
-    → asked (equality t u) ≡ Some (serial, R) → (has_declared sorts t && has_declared sorts u) ≡ true
-    → is_declared sorts text serial ≡ true
-declared_pair sorts t u serial R h d =
-    let p = and_parts (has_declared sorts t) (has_declared sorts u) d in
-    declared_asked sorts (equality t u) serial R h
-    (and_from (has_declared sorts t) (has_declared sorts u && true) p.0
-    (and_from (has_declared sorts u) true p.1 refl))
+pub met_compared : (demand : Demand) (distinct : Bool) (t : Term) → meets demand t ≡ true
+    → meet_pairs demand (compared distinct (parts_of t)) ≡ true
+met_compared demand distinct t h = compared_all (meets demand) distinct (parts_of t) (met_parts demand t h)
+
+-- of a membership, by its String term
+pub met_text : (demand : Demand) (t u R : Term) → t ≡ in_re u R → meets demand t ≡ true → meets demand u ≡ true
+met_text demand t u R is h =
+    (and_parts (meets demand u) (meets demand R && true)
+    (met_parts demand (in_re u R) (ap (meets demand) (sym is) ∙ h))).0
+
+-- A membership, by what it is asked of.
+
+pub asked_member : (t : Term) (serial : ℕ) (R : Term) → asked t ≡ Some (serial, R) → (atoms : List Atom)
+    → member_literal atoms (constant_piece serial ∷ []) R ≡ translation atoms t
+asked_member t serial R h atoms =
+    membership_some (constant serial text) (constant_piece serial ∷ []) R refl atoms
+    ∙ sym (asked_translation t serial R h atoms)
+
+pub text_member : (t u R : Term) → t ≡ in_re u R → (atoms : List Atom)
+    → membership atoms u (regex_of R) ≡ translation atoms t
+text_member t u R is atoms = sym (ap (translation atoms) is)
+
+pub text_regex_of : (t u R : Term) → t ≡ in_re u R → is_structure t ≡ true → is_regex R ≡ true
+text_regex_of t u R is h = ap is_structure (sym is) ∙ h
 
 -- What is found of a list, one by one.
 
-pub record Collected {X : Type 0} (f : List Atom → X → Option Lit) (adds : Bool) (given : List Sort → Bool)
+pub record Collected {X : Type 0} (f : List Atom → X → Option Lit) (adds : Bool) (given : Demand → Bool)
     (rs more : List Regex) (old new : List (AtomOver ℕ)) (xs : List X) (ls : List Lit) : Type 0
   where
     pub is : Some ls ≡ together (map (f (atoms_in more new)) xs)
     pub below : are_below (length new) ls ≡ true
     pub moves : Moves adds given rs more old new
 
-pub collected_start : {X : Type 0} (f : List Atom → X → Option Lit) (adds : Bool) (given : List Sort → Bool)
+pub collected_start : {X : Type 0} (f : List Atom → X → Option Lit) (adds : Bool) (given : Demand → Bool)
     (rs : List Regex) (old : List (AtomOver ℕ)) (ls : List Lit) → ls ≡ [] → Collected f adds given rs rs old old [] ls
 collected_start f adds given rs old ls e =
     rw e (record { is = refl; below = refl; moves = moves_none adds given rs old })
 
 pub collected_step : {X : Type 0} (f : List Atom → X → Option Lit) → ((x : X) → Stays (λ atoms. f atoms x))
-    → (adds : Bool) (given own : List Sort → Bool) (rs ss us : List Regex) (old mid new : List (AtomOver ℕ))
+    → (adds : Bool) (given own : Demand → Bool) (rs ss us : List Regex) (old mid new : List (AtomOver ℕ))
     (xs : List X) (i : ℕ) (x : X) (ls all : List Lit) (l : Lit) (found : Option Lit)
     → Collected f adds given rs ss old mid (take i xs) ls → i < length xs → x ≡ get_or xs i x
     → HaveRegexesBelow (length ss) mid → found ≡ Some l → Finds is_below adds us new (λ atoms. f atoms x) found
-    → ((sorts : List Sort) → given sorts ≡ true → own sorts ≡ true) → Moves adds own ss us mid new
+    → ((demand : Demand) → given demand ≡ true → own demand ≡ true) → Moves adds own ss us mid new
     → all ≡ ls ++ l ∷ [] → Collected f adds given rs us old new (take (i + 1) xs) all
 collected_step f s adds given own rs ss us old mid new xs i x ls all l found h within is below some g wider m e = rw e (record {
   is = all_push (f (atoms_in us new)) xs i x ls l within is
@@ -258,7 +279,7 @@ collected_stop f adds us new xs i x found within is none g = record {
   below = λ ls e. absurd (some-none ls (sym e));
 }
 
-pub collected_end : {X : Type 0} (f : List Atom → X → Option Lit) (adds : Bool) (given : List Sort → Bool)
+pub collected_end : {X : Type 0} (f : List Atom → X → Option Lit) (adds : Bool) (given : Demand → Bool)
     (rs more : List Regex) (old new : List (AtomOver ℕ)) (xs : List X) (i : ℕ) (ls : List Lit)
     → Collected f adds given rs more old new (take i xs) ls → length xs ≤ i
     → Finds are_below adds more new (λ atoms. together (map (f atoms) xs)) (Some ls)
@@ -338,12 +359,12 @@ constant_finds adds rs new t serial a found is e h = record {
 
 pub constant_moves : (adds : Bool) (rs : List Regex) (old new : List (AtomOver ℕ)) (t : Term) (serial : ℕ)
     (a : AtomOver ℕ) → t ≡ constant serial boolean → a ≡ bool_atom serial → GrownByOne adds old new a
-    → regex.Extends rs rs → Moves adds (λ sorts. has_declared sorts t) rs rs old new
+    → regex.Extends rs rs → Moves adds (λ demand. meets demand t) rs rs old new
 constant_moves adds rs old new t serial a is e g same = record {
   arena = same;
-  atoms = grown_one adds (length rs) (λ sorts. has_declared sorts t) old new a g (rw e tt) (rw e refl)
+  atoms = grown_one adds (length rs) (λ demand. meets demand t) old new a g (rw e tt) (rw e refl)
       (λ rs. rw e refl)
-      (λ sorts d before l. rw e (ap (has_declared sorts) (sym is) ∙ d));
+      (λ sorts d before l. rw e (ap (has_declared sorts) (sym is) ∙ d)) (λ d. rw e refl);
 }
 
 -- The literals of parts.
@@ -369,16 +390,3 @@ pub finds_known : (adds : Bool) (rs : List Regex) (new : List (AtomOver ℕ)) (m
     (found : Option Lit) → Finds is_below adds rs new make found → IfSome found (λ l. l.atom < length new)
 finds_known adds rs new make None h = tt
 finds_known adds rs new make (Some l) h = let below = h.below l refl in grind (arith, nat_tests)
-
--- all are memberships of constants
-
-pub members_added : {adds : Bool} (rs : List Regex) (old new : List (AtomOver ℕ)) (serial : ℕ) (R : Term)
-    (a : AtomOver ℕ) → IsAtomOf rs serial R (Some a) → GrownByOne adds old new a → are_members old ≡ true
-    → are_members new ≡ true
-members_added rs old new serial R a of g h = step g.one
-  where
-    step : (new ≡ old) ⊎ (new ≡ old ++ a ∷ []) → are_members new ≡ true
-    step (inl e) = ap are_members e ∙ h
-    step (inr e) =
-        ap are_members e ∙ list_all-append is_member old (a ∷ [])
-        ∙ and_from (are_members old) (is_member a && true) h (ap (λ b. is_member b && true) of.1)

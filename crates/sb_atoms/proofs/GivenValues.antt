@@ -4,16 +4,33 @@ use Rattle.std.proofs.lemmas.Bool.{and_parts, false≢true}
 use Rattle.sb_meaning.specs.Terms.{Term, Terms, text, word, apply, no_terms, with_term}
 use Rattle.sb_meaning.specs.Terms as symbol
 use Rattle.sb_meaning.specs.Values.{Valuation, Text, value_in}
-use Rattle.sb_script.specs.Brought.{asked, is_regex, are_regexes, is_membership}
-use Rattle.sb_script.proofs.CallerLemmas.{IsAsking, a_membership, a_word_behind, a_word_in_front, asked_looks, membership_asks}
-use Rattle.sb_atoms.specs.Given.{GivesWords, GivesValues, GivesEach}
+use Rattle.sb_script.specs.Brought.{asked, is_text, are_texts, is_regex, are_regexes}
+use Rattle.sb_script.proofs.CallerLemmas.{IsAsking, a_membership, a_word_behind, a_word_in_front, asked_looks}
+use Rattle.sb_atoms.specs.Given.{GivesValues, GivesEach}
 
--- no constant stands in a regular expression over literals
+-- no constant stands in a word
+mutual
+  text_given : (ws : List (List ℕ)) (bs : List Bool) (v : Valuation) (t : Term) → is_text t ≡ true
+      → GivesValues ws bs v t
+  text_given ws bs v (word w) h = tt
+  text_given ws bs v (apply symbol.str_concat terms) h = texts_given ws bs v terms h
+  text_given ws bs v _ h = absurd (false≢true h)
+
+  texts_given : (ws : List (List ℕ)) (bs : List Bool) (v : Valuation) (terms : Terms) → are_texts terms ≡ true
+      → GivesEach ws bs v terms
+  texts_given ws bs v no_terms h = tt
+  texts_given ws bs v (with_term t terms) h =
+      let parts = and_parts (is_text t) (are_texts terms) h in
+      (text_given ws bs v t parts.0, texts_given ws bs v terms parts.1)
+
+-- nor in a regular expression over words
 mutual
   regex_given : (ws : List (List ℕ)) (bs : List Bool) (v : Valuation) (R : Term) → is_regex R ≡ true
       → GivesValues ws bs v R
-  regex_given ws bs v (apply symbol.str_to_re (with_term (word w) no_terms)) h = (tt, tt)
-  regex_given ws bs v (apply symbol.re_range (with_term (word s) (with_term (word t) no_terms))) h = (tt, (tt, tt))
+  regex_given ws bs v (apply symbol.str_to_re (with_term t no_terms)) h = (text_given ws bs v t h, tt)
+  regex_given ws bs v (apply symbol.re_range (with_term s (with_term t no_terms))) h =
+      let parts = and_parts (is_text s) (is_text t) h in
+      (text_given ws bs v s parts.0, (text_given ws bs v t parts.1, tt))
   regex_given ws bs v (apply symbol.re_none no_terms) h = tt
   regex_given ws bs v (apply symbol.re_all no_terms) h = tt
   regex_given ws bs v (apply symbol.re_allchar no_terms) h = tt
@@ -56,9 +73,3 @@ asked_value ws bs v t serial R asks gives = step (asked_looks t serial R asks)
     step (a_membership is) = (subst (GivesValues ws bs v) is gives).0
     step (a_word_behind w is S) = (subst (GivesValues ws bs v) is gives).0
     step (a_word_in_front w is S) = (subst (GivesValues ws bs v) is gives).1.0
-
--- the truths are of no matter to a membership
-pub membership_given : (ws : List (List ℕ)) (bs : List Bool) (v : Valuation) (t : Term) → is_membership t ≡ true
-    → GivesWords ws v → GivesValues ws bs v t
-membership_given ws bs v t h gives =
-    membership_asks t h (λ serial R is kind. asked_given ws bs v t serial R is kind (gives serial))

@@ -9,6 +9,9 @@ pub mod Connected
 pub mod Structured
 pub mod Found
 pub mod GivenValues
+pub mod PieceFacts
+pub mod TextFacts
+pub mod FitFacts
 pub mod TruthFacts
 pub mod Meanings
 pub mod ConnectiveTruths

@@ -6,7 +6,7 @@ use Rattle.std.proofs.lemmas.Bool.{and_parts, and_from, false≢true}
 use Rattle.std.proofs.lemmas.List.Folds.{list_all-map}
 use Rattle.std.proofs.Math.Bool.{and-true}
 use Rattle.sb_facts.proofs.CallerLemmas.{all_same}
-use Rattle.sb_meaning.specs.Terms.{Sort, boolean, integer, text, reglan, Term, Terms, constant, word, numeral, apply, parameter, no_terms, with_term, terms_in}
+use Rattle.sb_meaning.specs.Terms.{boolean, integer, text, reglan, Term, Terms, constant, word, numeral, apply, parameter, no_terms, with_term, terms_in}
 use Rattle.sb_meaning.specs.Terms as symbol
 use Rattle.sb_meaning.specs.Values.{Valuation}
 use Rattle.sb_meaning.specs.Truth.{Meaning, means_word, means_number, means_truth, means_reglan, meaning_of_value, truth_in, all_true, some_true, implied, xor_of, differs, are_equal, is_chain, are_pairs, chosen, meaning_of, meanings_of, holds}

@@ -1,13 +1,17 @@
 -- The literals of terms of Boolean structure, by their shapes.
 use Rattle.std.proofs.Common.{◌≡◌, ◌<◌, ◌≤◌, Bool, true, false, ◌&&◌, if◌then◌else◌, List, [], ◌∷◌, ◌++◌, length, map, Option, Some, None, option_map, option_and_then, refl, sym, ap, ◌∙◌, arith}
 use Rattle.std.specs.List.{list_all}
-use Rattle.std.proofs.lemmas.Bool.{and_parts}
+use Rattle.std.proofs.lemmas.Bool.{and_parts, and_from, false≢true}
 use Rattle.std.proofs.lemmas.Option.{same_Some}
 use Rattle.sb_facts.proofs.CallerLemmas.{some-none}
 use Rattle.sb_lit.specs.declared.clause.Lit.{Lit}
-use Rattle.sb_meaning.specs.Terms.{Sort, boolean, integer, text, reglan, Term, Terms, apply, no_terms, with_term, terms_in}
-use Rattle.sb_meaning.specs.Sorts.{sort_of}
-use Rattle.sb_script.specs.Brought.{is_pair, is_structure}
+use Rattle.sb_meaning.specs.Terms.{Sort, boolean, integer, text, reglan, Term, Terms, constant, word, numeral, apply, parameter, no_terms, with_term, terms_in}
+use Rattle.sb_meaning.specs.Terms as symbol
+use Rattle.sb_meaning.specs.Sorts.{sort_of, is_same_sort}
+use Rattle.sb_script.specs.Brought.{is_structure}
+use Rattle.sb_script.specs.Fragment.{sort_of_first}
+use Rattle.sb_script.specs.Pieces.{pieces_of}
+use Rattle.sb_script.proofs.CallerLemmas.{same_sort}
 use Rattle.sb_rulebook.specs.Atoms.{Atom}
 use Rattle.sb_rulebook.specs.Parts.{together}
 use Rattle.sb_rulebook.specs.Translation.{translation, arguments_of, negated, conjunction, equivalence, truth_equality, word_equality, number_equality, Argument, equality, of_neighbours, of_pairs, all_true, only_one, of_literals}
@@ -16,11 +20,12 @@ use Rattle.sb_fragment.specs.declared.shape.Connective.{Connective}
 use Rattle.sb_fragment.specs.declared.shape.Connective.TheVariants as connective
 use Rattle.sb_fragment.specs.declared.shape.Shape.TheVariants as shape
 use Rattle.sb_fragment.specs.Compared.{neighbours, pairs, compared}
-use Rattle.sb_fragment.specs.Shapes.{IsApplied, IsComparison, IsConnected, IsShape, parts_of, truth_of, comparison_of, are_word_pairs}
-use Rattle.sb_fragment.proofs.CallerLemmas.{structure_sort, pair_sort, compared_all, compared_map, map-map, map_same}
+use Rattle.sb_fragment.specs.Shapes.{IsApplied, IsComparison, IsConnected, IsShape, parts_of, truth_of, comparison_of}
+use Rattle.sb_fragment.proofs.CallerLemmas.{structure_sort, compared_all, compared_map, map-map, map_same}
 use Rattle.sb_atoms.specs.Connecting.{signed, connected}
 use Rattle.sb_atoms.specs.Shapes.{literals_of, words_literal, connected_literal}
 use Rattle.sb_atoms.proofs.ComparedPairs.{neighbours_of, pairs_of}
+use Rattle.sb_atoms.proofs.TextFacts.{no_pieces}
 
 literals_are : (atoms : List Atom) (terms : Terms)
     → map (λ (a : Argument). a.1) (arguments_of atoms terms) ≡ map (translation atoms) (terms_in terms)
@@ -67,11 +72,6 @@ by_kind k atoms a b = elim k [
 pub equality_of_sort : (atoms : List Atom) (t u : Term) (k : Sort) → sort_of t ≡ k
     → equality atoms (argument atoms t) (argument atoms u) ≡ by_kind k atoms (argument atoms t) (argument atoms u)
 equality_of_sort atoms t u k e = ap (λ s. by_kind s atoms (argument atoms t) (argument atoms u)) e
-
--- all of one
-pub of_one : (atoms : List Atom) (o : Option Lit) → option_and_then (conjunction atoms) (together (o ∷ [])) ≡ o
-of_one atoms None = refl
-of_one atoms (Some l) = refl
 
 -- all have a literal
 all_some : (os : List (Option Lit)) (ls : List Lit) → together os ≡ Some ls → os ≡ map Some ls
@@ -219,17 +219,112 @@ connected_translated t connective.Ite h all atoms = rw h.is (of_literals_are ato
 connected_translated t (connective.Compare distinct) h all atoms =
     rw h.0.is (truths_translated distinct h.0.terms (rw h.0.is at h.1) (rw h.0.is at all) atoms)
 
-pub words_translated : (t : Term) (distinct : Bool) → IsComparison t distinct text
-    → are_word_pairs distinct (parts_of t) ≡ true → (atoms : List Atom)
-    → translation atoms t ≡ words_literal atoms distinct (parts_of t)
-words_translated t distinct h all atoms = rw h.is (step (rw h.is at all))
+-- Of String terms.
+
+abbrev is_string : Term → Bool
+is_string t = is_same_sort text (sort_of t)
+
+other_pieces : (t : Term) → is_string t ≡ false → pieces_of t ≡ None
+other_pieces (constant serial text) h = absurd (false≢true (sym h))
+other_pieces (constant serial boolean) h = refl
+other_pieces (constant serial integer) h = refl
+other_pieces (constant serial reglan) h = refl
+other_pieces (word w) h = absurd (false≢true (sym h))
+other_pieces (numeral n) h = refl
+other_pieces (parameter place sort) h = refl
+other_pieces (apply symbol.str_concat terms) h = absurd (false≢true (sym h))
+other_pieces (apply _ terms) h = refl
+
+pub signed_none : (distinct : Bool) → signed distinct None ≡ None
+signed_none true = refl
+signed_none false = refl
+
+-- the literal of an equality of String terms, and of one of terms by their sort
+abbrev of_words : Bool → List Atom → Term × Term → Option Lit
+of_words distinct atoms p = signed distinct (word_equality atoms p.0 p.1)
+
+abbrev of_terms : Bool → List Atom → Term × Term → Option Lit
+of_terms distinct atoms p = signed distinct (equality atoms (argument atoms p.0) (argument atoms p.1))
+
+same_words : (distinct : Bool) (atoms : List Atom) (t u : Term) → is_string t ≡ true
+    → of_terms distinct atoms (t, u) ≡ of_words distinct atoms (t, u)
+same_words distinct atoms t u h =
+    ap (signed distinct) (equality_of_sort atoms t u text (same_sort text (sort_of t) h))
+
+-- with a term of another sort there is none
+abbrev HasNone : (Term × Term → Option Lit) → Type 0
+HasNone make = (t u : Term) → is_string t ≡ true → is_string u ≡ false → make (t, u) ≡ None
+
+words_none : (distinct : Bool) (atoms : List Atom) → HasNone (of_words distinct atoms)
+words_none distinct atoms t u h other =
+    ap (signed distinct) (no_pieces atoms t u (other_pieces u other)) ∙ signed_none distinct
+
+terms_none : (distinct : Bool) (atoms : List Atom) → HasNone (of_terms distinct atoms)
+terms_none distinct atoms t u h other = same_words distinct atoms t u h ∙ words_none distinct atoms t u h other
+
+neighbours_other : (make : Term × Term → Option Lit) → HasNone make → (t : Term) (ts : List Term)
+    → is_string t ≡ true → list_all is_string ts ≡ false → together (map make (neighbours (t ∷ ts))) ≡ None
+neighbours_other make none t [] h other = absurd (false≢true (sym other))
+neighbours_other make none t (u ∷ ts) h other =
+    step (is_string u) refl (λ is rest. neighbours_other make none u ts is rest)
   where
-    step : are_word_pairs distinct (terms_in h.terms) ≡ true
-        → translation atoms (apply (comparison_of distinct) h.terms)
-        ≡ words_literal atoms distinct (terms_in h.terms)
-    step each =
-        translated_by distinct atoms h.terms
-        ∙ ap (all_true atoms) (map_same (λ (p : Term × Term). is_pair p.0 p.1)
-        (λ p. signed distinct (equality atoms (argument atoms p.0) (argument atoms p.1)))
-        (λ p. signed distinct (word_equality atoms p.0 p.1)) (compared distinct (terms_in h.terms)) each
-        (λ p g. ap (signed distinct) (equality_of_sort atoms p.0 p.1 text (pair_sort p.0 p.1 g))))
+    step : (b : Bool) → is_string u ≡ b
+        → (is_string u ≡ true → list_all is_string ts ≡ false → together (map make (neighbours (u ∷ ts))) ≡ None)
+        → together (map make (neighbours (t ∷ u ∷ ts))) ≡ None
+    step true is rest =
+        none_behind (make (t, u)) (map make (neighbours (u ∷ ts)))
+        (rest is (sym (ap (λ b. b && list_all is_string ts) is) ∙ other))
+    step false is rest = front_none (make (t, u)) (map make (neighbours (u ∷ ts))) (none t u h is)
+
+with_each_other : (make : Term × Term → Option Lit) → HasNone make → (t : Term) (ts : List Term)
+    (ps : List (Term × Term)) → is_string t ≡ true → list_all is_string ts ≡ false
+    → together (map make (map (λ u. (t, u)) ts ++ ps)) ≡ None
+with_each_other make none t [] ps h other = absurd (false≢true (sym other))
+with_each_other make none t (u ∷ ts) ps h other =
+    step (is_string u) refl (λ rest. with_each_other make none t ts ps h rest)
+  where
+    step : (b : Bool) → is_string u ≡ b
+        → (list_all is_string ts ≡ false → together (map make (map (λ w. (t, w)) ts ++ ps)) ≡ None)
+        → together (map make (map (λ w. (t, w)) (u ∷ ts) ++ ps)) ≡ None
+    step true is rest =
+        none_behind (make (t, u)) (map make (map (λ w. (t, w)) ts ++ ps))
+        (rest (sym (ap (λ b. b && list_all is_string ts) is) ∙ other))
+    step false is rest = front_none (make (t, u)) (map make (map (λ w. (t, w)) ts ++ ps)) (none t u h is)
+
+compared_other : (distinct : Bool) (make : Term × Term → Option Lit) → HasNone make → (t : Term) (ts : List Term)
+    → is_string t ≡ true → list_all is_string ts ≡ false → together (map make (compared distinct (t ∷ ts))) ≡ None
+compared_other true make none t ts h other = with_each_other make none t ts (pairs ts) h other
+compared_other false make none t ts h other = neighbours_other make none t ts h other
+
+-- where the first is a String, all are compared as Strings
+words_same : (distinct : Bool) (atoms : List Atom) (ts : List Term) → sort_of_first ts ≡ text
+    → together (map (of_terms distinct atoms) (compared distinct ts))
+    ≡ together (map (of_words distinct atoms) (compared distinct ts))
+words_same distinct atoms [] e = absurd (Prim.cc (e))
+words_same distinct atoms (t ∷ ts) e = step (list_all is_string ts) refl
+  where
+    h : is_string t ≡ true
+    h = ap (is_same_sort text) e
+
+    step : (b : Bool) → list_all is_string ts ≡ b
+        → together (map (of_terms distinct atoms) (compared distinct (t ∷ ts)))
+        ≡ together (map (of_words distinct atoms) (compared distinct (t ∷ ts)))
+    step true all =
+        ap together (map_same (λ (p : Term × Term). is_string p.0 && is_string p.1) (of_terms distinct atoms)
+        (of_words distinct atoms) (compared distinct (t ∷ ts))
+        (compared_all is_string distinct (t ∷ ts) (and_from (is_string t) (list_all is_string ts) h all))
+        (λ p both. same_words distinct atoms p.0 p.1 (and_parts (is_string p.0) (is_string p.1) both).0))
+    step false other =
+        compared_other distinct (of_terms distinct atoms) (terms_none distinct atoms) t ts h other
+        ∙ sym (compared_other distinct (of_words distinct atoms) (words_none distinct atoms) t ts h other)
+
+pub words_translated : (t : Term) (distinct : Bool) → IsComparison t distinct text → (atoms : List Atom)
+    → translation atoms t ≡ words_literal atoms distinct (parts_of t)
+words_translated t distinct h atoms = rw h.is (step h.terms h.first)
+  where
+    step : (terms : Terms) → sort_of_first (terms_in terms) ≡ text
+        → translation atoms (apply (comparison_of distinct) terms)
+        ≡ words_literal atoms distinct (terms_in terms)
+    step terms first =
+        translated_by distinct atoms terms
+        ∙ ap (option_and_then (conjunction atoms)) (words_same distinct atoms (terms_in terms) first)

@@ -3,10 +3,6 @@ use Rattle.std.specs.Prelude.{◌≡◌, ℕ, Bool, false, List, [], slice_get, 
 use Rattle.sb_meaning.specs.Terms.{boolean, text, Term, Terms, constant, apply, no_terms, with_term}
 use Rattle.sb_meaning.specs.Values.{Valuation, Text, Truth, value_in}
 
--- each String constant has the word at its serial, the empty word past the last one
-abbrev pub GivesWords : List (List ℕ) → Valuation → Type 0
-GivesWords ws v = (serial : ℕ) → value_in v serial text ≡ Text (unwrap_or (slice_get ws serial) [])
-
 -- Of the constants in a term each String constant has the word at its serial, the empty word past the last one, and each
 -- Bool constant the truth at its serial, and past the last one it is false.
 abbrev mutual

@@ -1,8 +1,7 @@
 -- Private: the terms that a term of Boolean structure is made of by connectives.
-use Rattle.std.specs.Prelude.{Bool, true, false, ◌&&◌, if◌then◌else◌, List, []}
+use Rattle.std.specs.Prelude.{Bool, true, false, ◌&&◌, if◌then◌else◌, List, [], ◌∷◌}
 use Rattle.sb_meaning.specs.Terms.{Sort, boolean, Term, apply, terms_in}
 use Rattle.sb_meaning.specs.Terms as symbol
-use Rattle.sb_script.specs.Brought.{are_several}
 use Rattle.sb_script.specs.Fragment.{sort_of_first}
 use Rattle.sb_fragment.specs.declared.shape.Shape.{Shape}
 use Rattle.sb_fragment.specs.declared.shape.Shape.TheVariants as shape
@@ -15,6 +14,10 @@ is_connective _ = false
 abbrev pub is_boolean : Sort → Bool
 is_boolean boolean = true
 is_boolean _ = false
+
+abbrev pub are_several : List Term → Bool
+are_several (t ∷ u ∷ ts) = true
+are_several _ = false
 
 -- two terms or more, of which the first is of sort Bool
 abbrev pub are_truths : List Term → Bool

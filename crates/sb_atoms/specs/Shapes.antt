@@ -1,19 +1,19 @@
 -- Private: the literals of terms of Boolean structure, by their shapes.
-use Rattle.std.specs.Prelude.{◌≡◌, ℕ, Bool, true, false, ◌&&◌, List, [], ◌∷◌, map, Option, Some, None, option_and_then}
+use Rattle.std.specs.Prelude.{◌≡◌, ℕ, Bool, true, false, ◌&&◌, List, map, Option, Some, None, option_and_then}
 use Rattle.std.specs.List.{list_all}
 use Rattle.sb_lit.specs.declared.clause.Lit.{Lit}
 use Rattle.sb_lang.specs.Regex.{Regex}
-use Rattle.sb_meaning.specs.Terms.{Sort, Term}
+use Rattle.sb_meaning.specs.Terms.{Term}
 use Rattle.sb_problem.specs.Normals.{IsRegexOf}
-use Rattle.sb_script.specs.Pieces.{constant_piece}
+use Rattle.sb_script.specs.Pieces.{Piece, single_pieces}
 use Rattle.sb_script.specs.Sizes.{is_regular}
-use Rattle.sb_rulebook.specs.Atoms.{Atom, AtomOver, in_atom}
-use Rattle.sb_rulebook.specs.Parts.{together}
-use Rattle.sb_rulebook.specs.Translation.{translation, conjunction, word_equality}
+use Rattle.sb_rulebook.specs.Atoms.{Atom, AtomOver, in_atom, are_pieces}
+use Rattle.sb_rulebook.specs.Parts.{together, regex_of}
+use Rattle.sb_rulebook.specs.Translation.{translation, conjunction, positive, word_equality}
 use Rattle.sb_fragment.specs.declared.shape.Connective.{Connective}
 use Rattle.sb_fragment.specs.Compared.{compared}
 use Rattle.sb_atoms.specs.Connecting.{signed, connected}
-use Rattle.sb_atoms.specs.Translated.{has_declared}
+use Rattle.sb_atoms.specs.Growing.{Demand, meets}
 
 -- the literals of all of these
 abbrev pub literals_of : List Atom → List Term → Option (List Lit)
@@ -32,11 +32,19 @@ words_literal atoms distinct ts =
 abbrev pub connected_literal : List Atom → Connective → List Term → Option Lit
 connected_literal atoms c ts = option_and_then (connected c atoms) (literals_of atoms ts)
 
-abbrev pub have_declared_pairs : List Sort → List (Term × Term) → Bool
-have_declared_pairs sorts ps = list_all (λ p. has_declared sorts p.0 && has_declared sorts p.1) ps
+abbrev pub meet_pairs : Demand → List (Term × Term) → Bool
+meet_pairs demand ps = list_all (λ p. meets demand p.0 && meets demand p.1) ps
 
--- the atom that the constant's word is in the regular expression, and none of one past the limits on sizes
-abbrev pub IsAtomOf : List Regex → ℕ → Term → Option (AtomOver ℕ) → Type 0
-IsAtomOf rs serial R None = is_regular R ≡ false
-IsAtomOf rs serial R (Some atom) = (r : ℕ) × (atom ≡ in_atom (constant_piece serial ∷ []) r) × (is_regular R ≡ true)
-    × IsRegexOf rs R r
+-- the literal of the membership of the pieces in the regular expression
+abbrev pub member_literal : List Atom → List Piece → Term → Option Lit
+member_literal atoms ps R = option_and_then (λ r. positive atoms (in_atom ps r)) (regex_of R)
+
+-- the atom that the word of the pieces is in the regular expression, and none of one past the limits on sizes
+abbrev pub IsAtomOf : List Regex → List Piece → Term → Option (AtomOver ℕ) → Type 0
+IsAtomOf rs ps R None = is_regular R ≡ false
+IsAtomOf rs ps R (Some atom) = (r : ℕ) × (atom ≡ in_atom ps r) × (is_regular R ≡ true) × IsRegexOf rs R r
+
+-- the pieces of a String term in which each constant stands once at most, which are well formed; of another term none
+abbrev pub ArePiecesOf : Term → Option (List Piece) → Type 0
+ArePiecesOf t None = single_pieces t ≡ None
+ArePiecesOf t (Some ps) = (single_pieces t ≡ Some ps) × (are_pieces ps ≡ true)

@@ -1,14 +1,13 @@
--- The literal of a term that is decided so far, and the atoms that are added for it.
-use Rattle.std.specs.Prelude.{◌≡◌, ◌≤◌, ℕ, Bool, true, false, ◌&&◌, if◌then◌else◌, List, [], ◌∷◌, length, Option, Some, None}
-use Rattle.std.specs.List.{list_all}
+-- The literal of a term of Boolean structure, and the atoms that are added for it.
+use Rattle.std.specs.Prelude.{◌≡◌, ◌≤◌, ℕ, Bool, true, false, ◌&&◌, if◌then◌else◌, List, [], ◌∷◌, length, Option, None}
 use Rattle.sb_lit.specs.declared.clause.Lit.{Lit}
 use Rattle.sb_meaning.specs.Terms.{Sort, Term, Terms, constant, apply, no_terms, with_term}
 use Rattle.sb_rulebook.specs.Atoms.{Atom, AtomOver, in_atom, is_well_formed}
 use Rattle.sb_rulebook.specs.AtomRules.{is_declared, has_its_parts}
 use Rattle.sb_rulebook.specs.Translation.{translation}
 use Rattle.sb_script.specs.Brought.{is_structure}
-use Rattle.sb_script.specs.Pieces.{constant_piece}
-use Rattle.sb_atoms.specs.Numbered.{Names, IsWith}
+use Rattle.sb_script.specs.Pieces.{Piece}
+use Rattle.sb_atoms.specs.Numbered.{Names}
 
 -- The literal of a term of Boolean structure; of another there is none.
 abbrev pub brought_translation : List Atom → Term → Option Lit
@@ -18,20 +17,16 @@ brought_translation atoms t = if is_structure t then translation atoms t else No
 abbrev pub HasNoLiteral : Term → Type 0
 HasNoLiteral t = (atoms : List Atom) → brought_translation atoms t ≡ None
 
--- the literal's atom, of a constant's word, is added where it is missing, and nothing else is; where there is no
--- literal, nothing is
-abbrev pub IsAdded : List (AtomOver ℕ) → List (AtomOver ℕ) → Option Lit → Type 0
-IsAdded old new None = new ≡ old
-IsAdded old new (Some l) = (serial regex : ℕ) × IsWith old new (in_atom (constant_piece serial ∷ []) regex)
-    × Names new l.atom (in_atom (constant_piece serial ∷ []) regex) × (l.positive ≡ true)
+-- no constant stands beside another piece
+abbrev pub are_unjoined_pieces : List Piece → Bool
+are_unjoined_pieces [] = true
+are_unjoined_pieces (p ∷ []) = true
+are_unjoined_pieces (p ∷ q ∷ ps) = false
 
--- the atom is the membership of a constant
-abbrev pub is_member : AtomOver ℕ → Bool
-is_member (in_atom (constant_piece serial ∷ []) regex) = true
-is_member _ = false
-
-abbrev pub are_members : List (AtomOver ℕ) → Bool
-are_members atoms = list_all is_member atoms
+-- the atom is no membership of several pieces
+abbrev pub is_unjoined_atom : AtomOver ℕ → Bool
+is_unjoined_atom (in_atom ps r) = are_unjoined_pieces ps
+is_unjoined_atom _ = true
 
 -- each constant in the term is declared, with its sort
 abbrev mutual

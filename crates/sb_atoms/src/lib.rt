@@ -15,6 +15,7 @@ mod connect;
 mod connectives;
 mod gates;
 mod order;
+mod pieces;
 mod reached;
 mod table;
 mod translate;

@@ -17,8 +17,8 @@ fn is_connective(shape: Shape) -> bool
 {
     match shape {
         Shape::Connected(_) => true,
-        Shape::Constant(_) | Shape::Always(_) | Shape::Alone | Shape::Words(_) | Shape::Other =>
-            false,
+        Shape::Constant(_) | Shape::Always(_) | Shape::Alone => false,
+        Shape::Member | Shape::Words(_) | Shape::Other => false,
     }
 }
 

@@ -1,35 +1,33 @@
 //! The literals of terms.
 
-ghost use Rattle.std.specs.Prelude.{◌≡◌, ◌<◌, ◌&&◌, ◌∷◌, true, nat_lt, List, [], length, map, Option, Some, None, option_map, IfOk, OnOk, IfSome, MatchOption};
+ghost use Rattle.std.specs.Prelude.{◌≡◌, ◌<◌, ◌&&◌, ◌∷◌, true, nat_lt, [], length, map, None, option_map, IfOk, OnOk, IfSome, MatchOption};
 ghost use Rattle.std.specs.List.{list_all};
-ghost use Rattle.sb_meaning.specs.Terms.{Term, text};
 ghost use Rattle.sb_regex.specs.Numbered as regex;
 ghost use Rattle.sb_term.specs.Descending.{HaveParts, PartsAre, known_at, AreKnown};
 ghost use Rattle.sb_term.specs.Numbered.{term_at};
 ghost use Rattle.sb_script.specs.Pieces.{constant_piece};
-ghost use Rattle.sb_script.specs.Brought.{asked, is_pair, is_regex, is_structure};
+ghost use Rattle.sb_script.specs.Brought.{is_regex, is_structure, is_unjoined};
 ghost use Rattle.sb_problem.specs.Known.{AreNormals};
 ghost use Rattle.sb_problem.specs.Patterns.{number_of, pattern_in};
 ghost use Rattle.sb_fragment.specs.Measures.{AreMeasures};
-ghost use Rattle.sb_fragment.specs.Shapes.{are_numbers, are_word_pairs, parts_of, terms_of_pairs};
-ghost use Rattle.sb_rulebook.specs.AtomRules.{is_declared};
-ghost use Rattle.sb_rulebook.specs.Atoms.{in_atom};
-ghost use Rattle.sb_rulebook.specs.Parts.{together};
+ghost use Rattle.sb_fragment.specs.Memberships.{is_in_re};
+ghost use Rattle.sb_fragment.specs.Shapes.{are_numbers, parts_of, terms_of_pairs};
+ghost use Rattle.sb_rulebook.specs.Atoms.{are_pieces};
+ghost use Rattle.sb_rulebook.specs.Parts.{together, regex_of};
 ghost use Rattle.sb_rulebook.specs.Translation as rules;
 ghost use Rattle.sb_atoms.specs.Connecting as connecting;
-ghost use Rattle.sb_proof.specs.Lines.{atom_in};
+ghost use Rattle.sb_proof.specs.Lines.{atom_in, piece_in};
 ghost use Rattle.sb_atoms.specs.Numbered.{atoms_in, HaveRegexesBelow, Extends, NameEarlier};
-ghost use Rattle.sb_atoms.specs.Translated.{brought_translation, are_members, has_declared, IsAdded, AreDefined, HasNoLiteral};
-ghost use Rattle.sb_atoms.specs.Growing.{is_below, are_below, GivesLike, GrownByGates, Finds, AreReady, Moves};
+ghost use Rattle.sb_atoms.specs.Translated.{brought_translation, is_unjoined_atom, AreDefined, HasNoLiteral};
+ghost use Rattle.sb_atoms.specs.Growing.{is_below, are_below, meets, pieces_meet, GivesLike, GrownByGates, Finds, AreReady, Moves};
 ghost use Rattle.sb_atoms.specs.Reaching.{connected_parts};
-ghost use Rattle.sb_atoms.specs.Shapes.{IsAtomOf, have_declared_pairs, word_literals, words_literal};
+ghost use Rattle.sb_atoms.specs.Shapes.{IsAtomOf, meet_pairs, member_literal, word_literals, words_literal};
 
 use crate::connect::signed;
+use crate::pieces::{sides_of, single_pieces};
 use crate::reached::terms_reached;
 use crate::table::Atoms;
-use sb_fragment::{
-    Connective, Measures, Shape, arguments_of, compared, membership, pair_of, shape_of,
-};
+use sb_fragment::{Connective, Measures, Shape, arguments_of, compared, membership, shape_of};
 use sb_lit::Lit;
 use sb_problem::{Normals, Pattern};
 use sb_proof::{Atom, Piece};
@@ -40,22 +38,21 @@ use smallvec::SmallVec;
 use std::alloc::{AllocError, Global};
 use std::collections::BTreeMap;
 
-/// The atom that a constant's word is in a pattern, if the pattern is within the limits on sizes. Of another one no
+/// The atom that the word of pieces is in a pattern, if the pattern is within the limits on sizes. Of another one no
 /// normal regex is asked for.
 fn atom_of(
-    alloc: Global,
     measures: &mut Measures,
     normals: &mut Normals,
     table: &Table,
     arena: &mut Arena,
-    serial: Serial,
+    pieces: SmallVec<Piece, 1>,
     pattern: Pattern,
 ) -> Result<Option<Atom<RegexId>>, AllocError>
     requires number { number_of pattern < length table.now }
     requires kind { is_regex (pattern_in table.now pattern) ≡ true }
     requires right { AreMeasures table.now measures.old }
     requires normals { AreNormals table.now arena.old normals.old }
-    ensures ok { IfOk result (λ found. IsAtomOf arena.new serial.0 (pattern_in table.now pattern)
+    ensures ok { IfOk result (λ found. IsAtomOf arena.new (map piece_in pieces.items) (pattern_in table.now pattern)
         (option_map atom_in found)) }
     ensures right { AreMeasures table.now measures.new }
     ensures normals { AreNormals table.now arena.new normals.new }
@@ -65,17 +62,16 @@ fn atom_of(
         return Ok(None);
     }
     match normals.pattern(table, arena, pattern)? {
-        Some(regex) => Ok(Some(member_of(alloc, serial, regex))),
+        Some(regex) => Ok(Some(Atom::In(pieces, regex))),
         None => Ok(None),
     }
 }
 
-/// The atom that a constant's word is in a regex.
-fn member_of(alloc: Global, serial: Serial, regex: RegexId) -> Atom<RegexId>
-    ensures { atom_in result ≡ in_atom (constant_piece serial.0 ∷ []) regex }
+/// The piece of a constant alone.
+fn constant_alone(alloc: Global, serial: Serial) -> SmallVec<Piece, 1>
+    ensures { map piece_in result.items ≡ constant_piece serial.0 ∷ [] }
 {
-    let pieces = SmallVec::from_buf(alloc, [Piece::Constant(serial.0)]);
-    Atom::In(pieces, regex)
+    SmallVec::from_buf(alloc, [Piece::Constant(serial.0)])
 }
 
 /// The literal that is known of a term, none where none is.
@@ -108,7 +104,7 @@ fn literals_known(
 }
 
 impl Atoms {
-    /// The literal of what a term asks of one constant's word.
+    /// The literal that the word of pieces is in a pattern.
     fn member(
         &mut self,
         adds: bool,
@@ -116,36 +112,80 @@ impl Atoms {
         normals: &mut Normals,
         table: &Table,
         arena: &mut Arena,
-        serial: Serial,
+        pieces: SmallVec<Piece, 1>,
         pattern: Pattern,
     ) -> Result<Option<Lit>, AllocError>
         requires number { number_of pattern < length table.now }
         requires kind { is_regex (pattern_in table.now pattern) ≡ true }
+        requires formed { are_pieces (map piece_in pieces.items) ≡ true }
         requires ready { AreReady table.now measures.old normals.old arena.old self.old }
-        ensures ok { IfOk result (λ found. (t : Term) → asked t ≡ Some (serial.0, pattern_in table.now pattern)
-            → Finds is_below adds arena.new self.new (λ atoms. rules.translation atoms t) found) }
-        ensures added { IfOk result (λ found. adds ≡ true → IsAdded self.old self.new found) }
-        ensures members { are_members self.old ≡ true → are_members self.new ≡ true }
-        ensures moves { Moves adds (λ sorts. is_declared sorts text serial.0) arena.old arena.new self.old self.new }
+        ensures ok { IfOk result (λ found. Finds is_below adds arena.new self.new
+            (λ atoms. member_literal atoms (map piece_in pieces.items) (pattern_in table.now pattern)) found) }
+        ensures moves { Moves adds (λ demand. pieces_meet demand (map piece_in pieces.items))
+            arena.old arena.new self.old self.new }
         ensures ready { AreReady table.now measures.new normals.new arena.new self.new }
     {
-        let Some(atom) = atom_of(
-            self.allocator(),
-            measures,
-            normals,
-            table,
-            arena,
-            serial,
-            pattern,
-        )?
-        else {
+        let Some(atom) = atom_of(measures, normals, table, arena, pieces, pattern)? else {
             return Ok(None);
         };
         arena.normal_regexes_each_once();
         self.literal(adds, atom)
     }
 
-    /// The literal of an equality of a String constant and a literal.
+    /// The literal that the word of a String term is in a pattern.
+    fn joined(
+        &mut self,
+        adds: bool,
+        measures: &mut Measures,
+        normals: &mut Normals,
+        table: &Table,
+        arena: &mut Arena,
+        text: TermId,
+        pattern: Pattern,
+    ) -> Result<Option<Lit>, AllocError>
+        requires text { text < length table.now }
+        requires number { number_of pattern < length table.now }
+        requires kind { is_regex (pattern_in table.now pattern) ≡ true }
+        requires ready { AreReady table.now measures.old normals.old arena.old self.old }
+        ensures ok { IfOk result (λ found. Finds is_below adds arena.new self.new
+            (λ atoms. rules.membership atoms (term_at table.now text) (regex_of (pattern_in table.now pattern)))
+            found) }
+        ensures moves { Moves adds (λ demand. meets demand (term_at table.now text))
+            arena.old arena.new self.old self.new }
+        ensures ready { AreReady table.now measures.new normals.new arena.new self.new }
+    {
+        let Some(pieces) = single_pieces(self.allocator(), normals, table, arena, text)? else {
+            return Ok(None);
+        };
+        self.member(adds, measures, normals, table, arena, pieces, pattern)
+    }
+
+    /// The literal of the membership of a String term in a regular expression.
+    fn membership(
+        &mut self,
+        adds: bool,
+        measures: &mut Measures,
+        normals: &mut Normals,
+        table: &Table,
+        arena: &mut Arena,
+        id: TermId,
+    ) -> Result<Option<Lit>, AllocError>
+        requires number { id < length table.now }
+        requires member { is_in_re (term_at table.now id) ≡ true }
+        requires structure { is_structure (term_at table.now id) ≡ true }
+        requires ready { AreReady table.now measures.old normals.old arena.old self.old }
+        ensures ok { IfOk result (λ found. Finds is_below adds arena.new self.new
+            (λ atoms. rules.translation atoms (term_at table.now id)) found) }
+        ensures moves { Moves adds (λ demand. meets demand (term_at table.now id))
+            arena.old arena.new self.old self.new }
+        ensures ready { AreReady table.now measures.new normals.new arena.new self.new }
+    {
+        let sides = sides_of(table, id);
+        let pattern = Pattern::Expression(sides.1);
+        self.joined(adds, measures, normals, table, arena, sides.0, pattern)
+    }
+
+    /// The literal of an equality of two String terms. There is none where neither is a word.
     fn word_equality(
         &mut self,
         adds: bool,
@@ -158,21 +198,25 @@ impl Atoms {
     ) -> Result<Option<Lit>, AllocError>
         requires one { one < length table.now }
         requires other { other < length table.now }
-        requires pair { is_pair (term_at table.now one) (term_at table.now other) ≡ true }
         requires ready { AreReady table.now measures.old normals.old arena.old self.old }
         ensures ok { IfOk result (λ found. Finds is_below adds arena.new self.new
             (λ atoms. rules.word_equality atoms (term_at table.now one) (term_at table.now other)) found) }
         ensures moves { Moves adds
-            (λ sorts. has_declared sorts (term_at table.now one) && has_declared sorts (term_at table.now other))
+            (λ demand. meets demand (term_at table.now one) && meets demand (term_at table.now other))
             arena.old arena.new self.old self.new }
         ensures ready { AreReady table.now measures.new normals.new arena.new self.new }
     {
-        let (serial, word) = pair_of(table, one, other).unwrap();
-        let pattern = Pattern::Word(word);
-        self.member(adds, measures, normals, table, arena, serial, pattern)
+        let sides = measures.sides_of_pair(table, one, other)?;
+        let measure = measures.measure(table, sides.word)?;
+        let is_word = measure.is_text;
+        if !is_word {
+            return Ok(None);
+        }
+        let pattern = Pattern::Word(sides.word);
+        self.joined(adds, measures, normals, table, arena, sides.other, pattern)
     }
 
-    /// The literals of equalities of String constants and literals, or of their negations.
+    /// The literals of equalities of String terms, or of their negations.
     fn word_literals(
         &mut self,
         adds: bool,
@@ -184,11 +228,10 @@ impl Atoms {
         pairs: &[(TermId, TermId)],
     ) -> Result<Option<Vec<Lit>>, AllocError>
         requires numbers { are_numbers (length table.now) pairs.now ≡ true }
-        requires pairs { list_all (λ p. is_pair p.0 p.1) (terms_of_pairs table.now pairs.now) ≡ true }
         requires ready { AreReady table.now measures.old normals.old arena.old self.old }
         ensures ok { IfOk result (λ found. Finds are_below adds arena.new self.new
             (λ atoms. word_literals atoms distinct (terms_of_pairs table.now pairs.now)) (option_map (λ v. v.items) found)) }
-        ensures moves { Moves adds (λ sorts. have_declared_pairs sorts (terms_of_pairs table.now pairs.now))
+        ensures moves { Moves adds (λ demand. meet_pairs demand (terms_of_pairs table.now pairs.now))
             arena.old arena.new self.old self.new }
         ensures ready { AreReady table.now measures.new normals.new arena.new self.new }
     {
@@ -203,7 +246,7 @@ impl Atoms {
         Ok(Some(literals))
     }
 
-    /// The literal of a comparison of String constants with literals.
+    /// The literal of a comparison of String terms.
     fn words(
         &mut self,
         adds: bool,
@@ -215,11 +258,10 @@ impl Atoms {
         id: TermId,
     ) -> Result<Option<Lit>, AllocError>
         requires number { id < length table.now }
-        requires pairs { are_word_pairs distinct (parts_of (term_at table.now id)) ≡ true }
         requires ready { AreReady table.now measures.old normals.old arena.old self.old }
         ensures ok { IfOk result (λ found. Finds is_below adds arena.new self.new
             (λ atoms. words_literal atoms distinct (parts_of (term_at table.now id))) found) }
-        ensures moves { Moves adds (λ sorts. has_declared sorts (term_at table.now id))
+        ensures moves { Moves adds (λ demand. meets demand (term_at table.now id))
             arena.old arena.new self.old self.new }
         ensures ready { AreReady table.now measures.new normals.new arena.new self.new }
     {
@@ -266,12 +308,13 @@ impl Atoms {
             (λ atoms. rules.translation atoms (term_at table.now i)) (known_at None known.now.entries i)) id }
         ensures ok { IfOk result (λ found. Finds is_below adds arena.new self.new
             (λ atoms. rules.translation atoms (term_at table.now id)) found) }
-        ensures moves { Moves adds (λ sorts. has_declared sorts (term_at table.now id))
+        ensures moves { Moves adds (λ demand. meets demand (term_at table.now id))
             arena.old arena.new self.old self.new }
         ensures ready { AreReady table.now measures.new normals.new arena.new self.new }
     {
         if let Some((serial, pattern)) = membership(table, id) {
-            return self.member(adds, measures, normals, table, arena, serial, pattern);
+            let pieces = constant_alone(self.allocator(), serial);
+            return self.member(adds, measures, normals, table, arena, pieces, pattern);
         }
         match shape_of(table, id) {
             Shape::Constant(serial) => self.literal(adds, Atom::Bool(serial.0)),
@@ -281,6 +324,7 @@ impl Atoms {
                 let parts = literals_known(self.allocator(), known, arguments_of(table, id))?;
                 self.connection(adds, connective, parts)
             }
+            Shape::Member => self.membership(adds, measures, normals, table, arena, id),
             Shape::Words(distinct) => {
                 self.words(adds, measures, normals, table, arena, distinct, id)
             }
@@ -305,7 +349,7 @@ impl Atoms {
         requires ready { AreReady table.now measures.old normals.old arena.old self.old }
         ensures ok { OnOk result (AreKnown None (λ i found. Finds is_below adds arena.new self.new
             (λ atoms. rules.translation atoms (term_at table.now i)) found) known.new.entries ids.now) }
-        ensures moves { Moves adds (λ sorts. list_all (λ i. has_declared sorts (term_at table.now i)) ids.now)
+        ensures moves { Moves adds (λ demand. list_all (λ i. meets demand (term_at table.now i)) ids.now)
             arena.old arena.new self.old self.new }
         ensures ready { AreReady table.now measures.new normals.new arena.new self.new }
     {
@@ -334,7 +378,7 @@ impl Atoms {
         requires ready { AreReady table.now measures.old normals.old arena.old self.old }
         ensures ok { IfOk result (λ found. Finds is_below adds arena.new self.new
             (λ atoms. rules.translation atoms (term_at table.now id)) found) }
-        ensures moves { Moves adds (λ sorts. has_declared sorts (term_at table.now id))
+        ensures moves { Moves adds (λ demand. meets demand (term_at table.now id))
             arena.old arena.new self.old self.new }
         ensures ready { AreReady table.now measures.new normals.new arena.new self.new }
     {
@@ -358,7 +402,7 @@ impl Atoms {
         requires ready { AreReady table.now measures.old normals.old arena.old self.old }
         ensures ok { IfOk result (λ found. Finds is_below adds arena.new self.new
             (λ atoms. brought_translation atoms (term_at table.now id)) found) }
-        ensures moves { Moves adds (λ sorts. has_declared sorts (term_at table.now id))
+        ensures moves { Moves adds (λ demand. meets demand (term_at table.now id))
             arena.old arena.new self.old self.new }
         ensures ready { AreReady table.now measures.new normals.new arena.new self.new }
     {
@@ -369,15 +413,17 @@ impl Atoms {
         }
     }
 
-    /// The literal of a term, of which the atoms are added where they are missing. Terms are translated that are Boolean
-    /// structure over Bool constants, memberships of one String constant, and comparisons of such constants with
-    /// literals. There is no literal of others, and none of one in which a regular expression or a literal is past the
-    /// limits on sizes; some of its atoms may be added then.
+    /// The literal of a term, of which the atoms are added where they are missing. Terms are translated that are
+    /// Boolean structure over Bool constants, memberships of String terms, and comparisons of such terms. There is no
+    /// literal of others, and none of one in which a regular expression or a word is past the limits on sizes, a
+    /// constant stands twice in one String term, or two String terms are compared of which neither is a word; some of
+    /// its atoms may be added then.
     ///
     /// Linear in the terms that it is made of by connectives, each once however often it is an argument, and in their
-    /// arguments, times a logarithm, but that each two of what is distinct are compared, and that a regular expression,
-    /// or a literal, is measured, and its normal regex made, where they were not yet. The literals are found with no
-    /// recursion. `AllocError` only for want of memory; the arena may hold more regexes then, and the table more atoms.
+    /// arguments, times a logarithm, but that each two of what is distinct are compared, that the pieces of a String
+    /// term are gone over, and that a regular expression, or a word, is measured, and its normal regex made, where they
+    /// were not yet. The literals are found with no recursion. `AllocError` only for want of memory; the arena may hold
+    /// more regexes then, and the table more atoms.
     pub fn translate(
         &mut self,
         measures: &mut Measures,
@@ -397,6 +443,8 @@ impl Atoms {
         ensures extends { Extends self.old self.new }
         ensures defined { AreDefined self.old self.new (term_at table.now id) }
         ensures earlier { NameEarlier (length self.old) self.new }
+        ensures unjoined { is_unjoined (term_at table.now id) ≡ true → list_all is_unjoined_atom self.old ≡ true
+            → list_all is_unjoined_atom self.new ≡ true }
         ensures regexes { HaveRegexesBelow (length arena.new) self.new }
         ensures right { AreMeasures table.now measures.new }
         ensures normals { AreNormals table.now arena.new normals.new }

@@ -1,40 +1,43 @@
 //! The truth of a term.
 
-ghost use Rattle.std.specs.Prelude.{◌≡◌, ◌<◌, true, false, nat_lt, [], length, map, Some, slice_get, unwrap_or, IfOk, OnOk};
+ghost use Rattle.std.specs.Prelude.{◌≡◌, ◌<◌, true, false, nat_lt, [], length, map, Some, is_some, slice_get, unwrap_or, IfOk, OnOk};
 ghost use Rattle.std.specs.List.{list_all};
 ghost use Rattle.sb_meaning.specs.Terms.{Term};
 ghost use Rattle.sb_meaning.specs.Values.{Valuation};
 ghost use Rattle.sb_meaning.specs.Truth.{holds};
-ghost use Rattle.sb_script.specs.Brought.{asked, is_pair, is_regex, is_structure};
-ghost use Rattle.sb_regex.specs.Numbered.{Extends};
+ghost use Rattle.sb_script.specs.Brought.{asked, is_regex, is_structure, is_text};
+ghost use Rattle.sb_script.specs.Fragment.{fits, is_word_pair};
+ghost use Rattle.sb_script.specs.Pieces.{single_pieces};
+ghost use Rattle.sb_regex.specs.Numbered.{regex_at, Extends};
 ghost use Rattle.sb_term.specs.Descending.{HaveParts, PartsAre, known_at, AreKnown};
 ghost use Rattle.sb_term.specs.Numbered.{term_at};
 ghost use Rattle.sb_problem.specs.Known.{AreNormals};
-ghost use Rattle.sb_problem.specs.Normals.{IsRegexOf};
 ghost use Rattle.sb_problem.specs.Patterns.{number_of, pattern_in};
+ghost use Rattle.sb_problem.specs.Parts.{is_written, are_written, piece_in, parts_in};
 ghost use Rattle.sb_plain.specs.Memory.{IsRight};
 ghost use Rattle.sb_fragment.specs.Compared.{compared};
-ghost use Rattle.sb_fragment.specs.Memberships.{equality};
-ghost use Rattle.sb_fragment.specs.Shapes.{are_numbers, are_word_pairs, parts_of, terms_of_pairs};
+ghost use Rattle.sb_fragment.specs.Memberships.{equality, is_in_re};
+ghost use Rattle.sb_fragment.specs.Shapes.{are_numbers, parts_of, terms_of_pairs};
 ghost use Rattle.sb_atoms.specs.Given.{GivesValues};
-ghost use Rattle.sb_atoms.specs.Truths.{AreReady, IsTruthUnder, IsTruthOf, AreAsWanted};
+ghost use Rattle.sb_atoms.specs.Truths.{word_at, piece_word, joined_word, AreReady, IsIn, IsBehind, IsWithin, IsTruthUnder, IsTruthOf, AreEqualUnder, AreAsWanted};
 ghost use Rattle.sb_atoms.specs.Reaching.{connected_parts};
 
 use crate::connectives::connected;
+use crate::pieces::sides_of;
 use crate::reached::terms_reached;
-use sb_fragment::{Shape, arguments_of, compared, membership, pair_of, shape_of};
-use sb_lang::derivative::nullable_has_empty_word;
+use sb_fragment::{Shape, arguments_of, compared, membership, shape_of};
+use sb_lang::derivative::{derivative_along_has_rests, nullable_has_empty_word};
 use sb_lang::normal::normal_has_terms_words;
 use sb_plain::{Plain, right_stays};
-use sb_problem::{Normals, Pattern, normals_stay};
+use sb_problem::{Normals, Part, Pattern, constant_of, normals_stay};
 use sb_regex::{Arena, RegexId};
 use sb_term::{Serial, Table, TermId};
 use sb_word::Word;
 use std::alloc::{AllocError, Global};
 use std::collections::BTreeMap;
 
-/// Whether the word of a constant is what is asked for, where `regex` is the number of its normal regex.
-fn is_true_by(
+/// Whether the word of a constant is in the language of a regex.
+fn matched(
     plain: &mut Plain,
     arena: &mut Arena,
     serial: Serial,
@@ -43,12 +46,10 @@ fn is_true_by(
 ) -> Result<bool, AllocError>
     requires known { regex < length arena.old }
     requires right { IsRight arena.old plain.old }
-    ensures ok { IfOk result (λ truth. (t R : Term) → asked t ≡ Some (serial.0, R) → IsRegexOf arena.old R regex
-        → IsTruthUnder values.now t truth) }
+    ensures ok { IfOk result (IsIn (word_at values.now serial.0) (regex_at arena.old regex)) }
     ensures extends { Extends arena.old arena.new }
     ensures right { IsRight arena.new plain.new }
 {
-    normal_has_terms_words();
     nullable_has_empty_word();
     match values.get(serial.0 as usize) {
         Some(word) => {
@@ -56,6 +57,130 @@ fn is_true_by(
             plain.matches(arena, word, regex)
         }
         None => Ok(arena.nullable(regex)),
+    }
+}
+
+/// The regex that is left of one behind the word of a constant.
+fn behind_constant(
+    plain: &mut Plain,
+    arena: &mut Arena,
+    serial: Serial,
+    regex: RegexId,
+    values: &[Word],
+) -> Result<RegexId, AllocError>
+    requires known { regex < length arena.old }
+    requires right { IsRight arena.old plain.old }
+    ensures ok { IfOk result (IsBehind arena.new (regex_at arena.old regex) (word_at values.now serial.0)) }
+    ensures extends { Extends arena.old arena.new }
+    ensures right { IsRight arena.new plain.new }
+{
+    match values.get(serial.0 as usize) {
+        Some(word) => {
+            let codes = word.codes();
+            plain.along(arena, codes, regex)
+        }
+        None => Ok(regex),
+    }
+}
+
+/// The regex that is left of one behind a part of a String term.
+fn behind_part(
+    plain: &mut Plain,
+    arena: &mut Arena,
+    part: &Part,
+    regex: RegexId,
+    values: &[Word],
+) -> Result<RegexId, AllocError>
+    requires written { is_written (piece_in part.now) ≡ true }
+    requires known { regex < length arena.old }
+    requires right { IsRight arena.old plain.old }
+    ensures ok { IfOk result
+        (IsBehind arena.new (regex_at arena.old regex) (piece_word values.now (piece_in part.now))) }
+    ensures extends { Extends arena.old arena.new }
+    ensures right { IsRight arena.new plain.new }
+{
+    match part {
+        Part::Constant(serial) => behind_constant(plain, arena, *serial, regex, values),
+        Part::Word(codes) => plain.along(arena, codes, regex),
+    }
+}
+
+/// The regex that is left of one behind the parts of a String term.
+fn behind_parts(
+    plain: &mut Plain,
+    arena: &mut Arena,
+    parts: &[Part],
+    regex: RegexId,
+    values: &[Word],
+) -> Result<RegexId, AllocError>
+    requires written { are_written (parts_in parts.now) ≡ true }
+    requires known { regex < length arena.old }
+    requires right { IsRight arena.old plain.old }
+    ensures ok { IfOk result
+        (IsBehind arena.new (regex_at arena.old regex) (joined_word values.now (parts_in parts.now))) }
+    ensures extends { Extends arena.old arena.new }
+    ensures right { IsRight arena.new plain.new }
+{
+    let mut rest = regex;
+    for part in parts {
+        rest = behind_part(plain, arena, part, rest, values)?;
+    }
+    Ok(rest)
+}
+
+/// Whether the word of a String term, in which each constant stands once at most, is in the language of a regex. The
+/// word is not made: the regex is followed along one piece after the other.
+fn joined(
+    plain: &mut Plain,
+    normals: &mut Normals,
+    arena: &mut Arena,
+    table: &Table,
+    id: TermId,
+    regex: RegexId,
+    values: &[Word],
+) -> Result<bool, AllocError>
+    requires number { id < length table.now }
+    requires known { regex < length arena.old }
+    requires single { is_some (single_pieces (term_at table.now id)) ≡ true }
+    requires ready { AreReady table.now arena.old normals.old plain.old }
+    ensures ok { IfOk result (IsWithin values.now (term_at table.now id) (regex_at arena.old regex)) }
+    ensures extends { Extends arena.old arena.new }
+    ensures ready { AreReady table.now arena.new normals.new plain.new }
+{
+    derivative_along_has_rests();
+    nullable_has_empty_word();
+    right_stays();
+    normals_stay();
+    let Some(parts) = normals.single_pieces(table, arena, id)? else {
+        return Ok(false);
+    };
+    let rest = behind_parts(plain, arena, &parts, regex, values)?;
+    Ok(arena.nullable(rest))
+}
+
+/// Whether the word of a String term, in which each constant stands once at most, is in the language of a regex. The
+/// walk along the word of a constant alone is remembered.
+fn is_within(
+    plain: &mut Plain,
+    normals: &mut Normals,
+    arena: &mut Arena,
+    table: &Table,
+    id: TermId,
+    regex: RegexId,
+    values: &[Word],
+) -> Result<bool, AllocError>
+    requires number { id < length table.now }
+    requires known { regex < length arena.old }
+    requires single { is_some (single_pieces (term_at table.now id)) ≡ true }
+    requires ready { AreReady table.now arena.old normals.old plain.old }
+    ensures ok { IfOk result (IsWithin values.now (term_at table.now id) (regex_at arena.old regex)) }
+    ensures extends { Extends arena.old arena.new }
+    ensures ready { AreReady table.now arena.new normals.new plain.new }
+{
+    normals_stay();
+    match constant_of(table, id) {
+        Some(serial) => matched(plain, arena, serial, regex, values),
+        None => joined(plain, normals, arena, table, id, regex, values),
     }
 }
 
@@ -77,15 +202,71 @@ fn member(
     ensures extends { Extends arena.old arena.new }
     ensures ready { AreReady table.now arena.new normals.new plain.new }
 {
+    normal_has_terms_words();
     right_stays();
     normals_stay();
     let Some(regex) = normals.pattern(table, arena, pattern)? else {
         return Ok(false);
     };
-    is_true_by(plain, arena, serial, regex, values)
+    matched(plain, arena, serial, regex, values)
 }
 
-/// Whether a String constant and a literal are equal.
+/// Whether a term that is the membership of a String term in a regular expression is true.
+fn membership_holds(
+    plain: &mut Plain,
+    normals: &mut Normals,
+    arena: &mut Arena,
+    table: &Table,
+    id: TermId,
+    values: &[Word],
+) -> Result<bool, AllocError>
+    requires number { id < length table.now }
+    requires member { is_in_re (term_at table.now id) ≡ true }
+    requires structure { is_structure (term_at table.now id) ≡ true }
+    requires fits { fits (term_at table.now id) ≡ true }
+    requires ready { AreReady table.now arena.old normals.old plain.old }
+    ensures ok { IfOk result (IsTruthUnder values.now (term_at table.now id)) }
+    ensures extends { Extends arena.old arena.new }
+    ensures ready { AreReady table.now arena.new normals.new plain.new }
+{
+    normal_has_terms_words();
+    right_stays();
+    let sides = sides_of(table, id);
+    let Some(regex) = normals.normal(table, arena, sides.1)? else {
+        return Ok(false);
+    };
+    is_within(plain, normals, arena, table, sides.0, regex, values)
+}
+
+/// Whether a String term, in which each constant stands once at most, is equal to a word.
+fn equals_word(
+    plain: &mut Plain,
+    normals: &mut Normals,
+    arena: &mut Arena,
+    table: &Table,
+    text: TermId,
+    word: TermId,
+    values: &[Word],
+) -> Result<bool, AllocError>
+    requires text { text < length table.now }
+    requires word { word < length table.now }
+    requires kind { is_text (term_at table.now word) ≡ true }
+    requires single { is_some (single_pieces (term_at table.now text)) ≡ true }
+    requires ready { AreReady table.now arena.old normals.old plain.old }
+    ensures ok { IfOk result (AreEqualUnder values.now (term_at table.now text) (term_at table.now word)) }
+    ensures extends { Extends arena.old arena.new }
+    ensures ready { AreReady table.now arena.new normals.new plain.new }
+{
+    normal_has_terms_words();
+    right_stays();
+    let pattern = Pattern::Word(word);
+    let Some(regex) = normals.pattern(table, arena, pattern)? else {
+        return Ok(false);
+    };
+    is_within(plain, normals, arena, table, text, regex, values)
+}
+
+/// Whether two String terms are equal, of which one is a word.
 fn word_equality(
     plain: &mut Plain,
     normals: &mut Normals,
@@ -97,19 +278,23 @@ fn word_equality(
 ) -> Result<bool, AllocError>
     requires one { one < length table.now }
     requires other { other < length table.now }
-    requires pair { is_pair (term_at table.now one) (term_at table.now other) ≡ true }
+    requires pair { is_word_pair (term_at table.now one) (term_at table.now other) ≡ true }
     requires ready { AreReady table.now arena.old normals.old plain.old }
     ensures ok { IfOk result
         (IsTruthUnder values.now (equality (term_at table.now one) (term_at table.now other))) }
     ensures extends { Extends arena.old arena.new }
     ensures ready { AreReady table.now arena.new normals.new plain.new }
 {
-    let (serial, word) = pair_of(table, one, other).unwrap();
-    let pattern = Pattern::Word(word);
-    member(plain, normals, arena, table, serial, pattern, values)
+    right_stays();
+    let pattern = Pattern::Word(other);
+    let found = normals.pattern(table, arena, pattern)?;
+    match found {
+        Some(_) => equals_word(plain, normals, arena, table, one, other, values),
+        None => equals_word(plain, normals, arena, table, other, one, values),
+    }
 }
 
-/// Whether String constants and literals are equal, or where they are to be distinct, are not.
+/// Whether String terms are equal two by two, or where they are to be distinct, are not.
 fn word_pairs(
     plain: &mut Plain,
     normals: &mut Normals,
@@ -120,7 +305,7 @@ fn word_pairs(
     values: &[Word],
 ) -> Result<bool, AllocError>
     requires numbers { are_numbers (length table.now) pairs.now ≡ true }
-    requires pairs { list_all (λ p. is_pair p.0 p.1) (terms_of_pairs table.now pairs.now) ≡ true }
+    requires pairs { list_all (λ p. is_word_pair p.0 p.1) (terms_of_pairs table.now pairs.now) ≡ true }
     requires ready { AreReady table.now arena.old normals.old plain.old }
     ensures ok { IfOk result (AreAsWanted values.now distinct (terms_of_pairs table.now pairs.now)
         (terms_of_pairs table.now pairs.now)) }
@@ -136,7 +321,7 @@ fn word_pairs(
     Ok(true)
 }
 
-/// Whether a comparison of String constants with literals is true.
+/// Whether a comparison of String terms is true.
 fn words(
     plain: &mut Plain,
     normals: &mut Normals,
@@ -147,7 +332,8 @@ fn words(
     values: &[Word],
 ) -> Result<bool, AllocError>
     requires number { id < length table.now }
-    requires pairs { are_word_pairs distinct (parts_of (term_at table.now id)) ≡ true }
+    requires pairs { list_all (λ p. is_word_pair p.0 p.1)
+        (compared distinct (parts_of (term_at table.now id))) ≡ true }
     requires ready { AreReady table.now arena.old normals.old plain.old }
     ensures ok { IfOk result
         (AreAsWanted values.now distinct (compared distinct (parts_of (term_at table.now id)))
@@ -207,6 +393,7 @@ fn truth_of(
 ) -> Result<bool, AllocError>
     requires number { id < length table.now }
     requires structure { is_structure (term_at table.now id) ≡ true }
+    requires fits { fits (term_at table.now id) ≡ true }
     requires ready { AreReady table.now arena.old normals.old plain.old }
     requires parts { PartsAre connected_parts table.now (λ i. IsTruthOf values.now truths.now (term_at table.now i)
         (known_at false known.now.entries i)) id }
@@ -225,6 +412,7 @@ fn truth_of(
             let parts = truths_known(normals.allocator(), known, arguments_of(table, id))?;
             Ok(connected(connective, &parts))
         }
+        Shape::Member => membership_holds(plain, normals, arena, table, id, values),
         Shape::Words(distinct) => words(plain, normals, arena, table, distinct, id, values),
         Shape::Other => unreachable!(),
     }
@@ -243,6 +431,7 @@ fn find_truths(
 ) -> Result<(), AllocError>
     requires numbers { list_all (λ i. nat_lt i (length table.now)) ids.now ≡ true }
     requires structure { list_all (λ i. is_structure (term_at table.now i)) ids.now ≡ true }
+    requires fits { list_all (λ i. fits (term_at table.now i)) ids.now ≡ true }
     requires parts { HaveParts connected_parts table.now ids.now [] }
     requires ready { AreReady table.now arena.old normals.old plain.old }
     ensures ok { OnOk result (AreKnown false (λ i. IsTruthOf values.now truths.now (term_at table.now i))
@@ -260,13 +449,16 @@ fn find_truths(
     Ok(())
 }
 
-/// Whether a term of Boolean structure is true, where each String constant has the word at its serial, the empty word
-/// past the last one, and each Bool constant the truth at its serial, and is false past the last one.
+/// Whether a term of Boolean structure that keeps the rules of the fragment is true, where each String constant has the
+/// word at its serial, the empty word past the last one, and each Bool constant the truth at its serial, and is false
+/// past the last one.
 ///
 /// Each term that it is made of by connectives is looked at once, however often it is an argument, with no recursion.
-/// So its cost is linear in these terms and their arguments, times a logarithm, but for that of [`Plain::matches`] for
-/// each membership and each comparison of Strings, and that of [`Normals::pattern`] where the regular expression, or
-/// the literal, was not asked for yet. `AllocError` only for want of memory; the arena may hold more regexes then.
+/// So its cost is linear in these terms and their arguments, times a logarithm, but for that of each membership and
+/// each comparison of Strings, and that of [`Normals::pattern`] where the regular expression, or the word, was not
+/// asked for yet. A constant alone costs what [`Plain::matches`] does. Of another String term its pieces are gone over,
+/// with a derivative for each character of its word, and no word is made. `AllocError` only for want of memory; the
+/// arena may hold more regexes then.
 pub fn eval(
     plain: &mut Plain,
     normals: &mut Normals,
@@ -278,6 +470,7 @@ pub fn eval(
 ) -> Result<bool, AllocError>
     requires number { id < length table.now }
     requires structure { is_structure (term_at table.now id) ≡ true }
+    requires fits { fits (term_at table.now id) ≡ true }
     requires normals { AreNormals table.now arena.old normals.old }
     requires right { IsRight arena.old plain.old }
     ensures ok { IfOk result (λ truth. (v : Valuation) → GivesValues values.now truths.now v (term_at table.now id)

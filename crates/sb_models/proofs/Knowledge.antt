@@ -1,7 +1,7 @@
 -- What is known of assertions, one after the other, and as the state grows.
 use Rattle.std.proofs.Common.{◌≡◌, ℕ, zero, suc, ◌+◌, ◌<◌, ◌≤◌, Bool, true, false, ◌&&◌, List, [], ◌∷◌, ◌++◌, length, map, take, get_or, refl, sym, ap, ap₂, subst, ◌∙◌, arith, Some, None, slice_get}
 use Rattle.std.specs.List.{All, list_all}
-use Rattle.std.proofs.lemmas.Bool.{and_parts, false≢true}
+use Rattle.std.proofs.lemmas.Bool.{false≢true}
 use Rattle.std.proofs.lemmas.List.{take_more, take_all, take-map, take-append-le, map-append, length-map}
 use Rattle.std.proofs.lemmas.List.Elements.{All-take}
 use Rattle.sb_meaning.specs.Terms.{Term}
@@ -22,7 +22,7 @@ use Rattle.sb_models.specs.declared.models.Models.{Models}
 use Rattle.sb_stack.proofs.CallerLemmas.{live_laid}
 use Rattle.sb_models.specs.Knowing.{Knows, GiveAll, AreTrueBy, is_true_under, assertions_of, word_at, AreEmptyBut}
 use Rattle.sb_models.specs.Tried.{IsOfSame, MayPass}
-use Rattle.sb_models.proofs.Passing.{all_at}
+use Rattle.sb_models.proofs.Passing.{all_at, decided_structure, decided_fits}
 
 and_false : (b : Bool) → (b && false) ≡ false
 and_false true = refl
@@ -187,8 +187,13 @@ pub structure_at : (ts : List Term) (xs : List code.Assertion) (i : ℕ) (x : co
     → x ≡ get_or xs i x → x.term ≡ Some id → list_all is_decided (map (assertion_in ts) xs) ≡ true →
     is_structure (term_at ts id) ≡ true
 structure_at ts xs i x id low is some decided =
-    (and_parts (is_structure (term_at ts id)) (fits (term_at ts id))
-    (decided_at ts xs i x id low is some decided)).0
+    decided_structure (term_at ts id) (decided_at ts xs i x id low is some decided)
+
+pub fits_at : (ts : List Term) (xs : List code.Assertion) (i : ℕ) (x : code.Assertion) (id : ℕ) → i < length xs
+    → x ≡ get_or xs i x → x.term ≡ Some id → list_all is_decided (map (assertion_in ts) xs) ≡ true →
+    fits (term_at ts id) ≡ true
+fits_at ts xs i x id low is some decided =
+    decided_fits (term_at ts id) (decided_at ts xs i x id low is some decided)
 
 pub true_first : (words : List (List ℕ)) (truths : List Bool) (ts : List Term) (xs : List code.Assertion) (i : ℕ)
     → AreTrueBy words truths (take i (map (assertion_in ts) xs))

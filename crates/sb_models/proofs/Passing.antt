@@ -1,15 +1,14 @@
 -- What was true under other words stays so where the words of its constants are the same.
-use Rattle.std.proofs.Common.{◌≡◌, ℕ, zero, suc, ◌<◌, Bool, true, false, List, [], ◌∷◌, take, sym, ap, subst, ◌∙◌, arith, Some, None, slice_get}
+use Rattle.std.proofs.Common.{◌≡◌, ℕ, zero, suc, ◌<◌, Bool, true, false, ◌&&◌, List, [], ◌∷◌, take, sym, ap, subst, ◌∙◌, arith, Some, None, slice_get}
 use Rattle.std.specs.List.{list_all}
 use Rattle.std.proofs.lemmas.Bool.{and_parts}
 use Rattle.sb_meaning.specs.Terms.{boolean, integer, text, reglan, Term, Terms, constant, word, numeral, apply, parameter, no_terms, with_term}
 use Rattle.sb_meaning.specs.Values.{Valuation, Text}
 use Rattle.sb_meaning.specs.Truth.{holds}
-use Rattle.sb_script.specs.Brought.{is_regex}
-use Rattle.sb_script.specs.Sizes.{is_regular}
+use Rattle.sb_script.specs.Brought.{is_structure, is_unjoined}
 use Rattle.sb_script.specs.State.{Assertion, asserted, a_mark}
-use Rattle.sb_script.specs.Fragment.{is_decided}
-use Rattle.sb_fragment.proofs.CallerLemmas.{asked_decided}
+use Rattle.sb_script.specs.Fragment.{fits, is_decided}
+use Rattle.sb_fragment.proofs.CallerLemmas.{asked_structure}
 use Rattle.sb_atoms.specs.Given.{GivesValues, GivesEach}
 use Rattle.sb_atoms.proofs.CallerLemmas.{asked_given, asked_value}
 use Rattle.sb_models.specs.Knowing.{AreTrueBy, word_at}
@@ -36,13 +35,24 @@ true_there words truths (asserted u ∷ xs) (suc held) zero t l e h =
 true_there words truths (asserted u ∷ xs) (suc held) (suc place) t l e h =
     true_there words truths xs held place t (omega (arith, l)) e h.1
 
+-- a decided term is Boolean structure, and keeps the rules of the fragment
+decided_parts : (t : Term) → is_decided (asserted t) ≡ true → (is_structure t ≡ true) × (fits t ≡ true)
+decided_parts t h =
+    let p = and_parts (is_structure t && is_unjoined t) (fits t) h in
+    ((and_parts (is_structure t) (is_unjoined t) p.0).0, p.1)
+
+pub decided_structure : (t : Term) → is_decided (asserted t) ≡ true → is_structure t ≡ true
+decided_structure t h = (decided_parts t h).0
+
+pub decided_fits : (t : Term) → is_decided (asserted t) ≡ true → fits t ≡ true
+decided_fits t h = (decided_parts t h).1
+
 -- a decided term that asks something of one constant's word, where that word is the same
 same_given : (old new : List (List ℕ)) (bs cs : List Bool) (marks : ℕ → Bool) (v : Valuation) (t : Term)
     → AreSame old new marks → IsOfSame marks t → is_decided (asserted t) ≡ true → GivesValues new cs v t
     → GivesValues old bs v t
 same_given old new bs cs marks v t words m decided gives =
-    let kind = (and_parts (is_regex m.regex) (is_regular m.regex)
-    (sym (asked_decided t m.serial m.regex m.is) ∙ decided)).0 in
+    let kind = sym (asked_structure t m.serial m.regex m.is) ∙ decided_structure t decided in
     asked_given old bs v t m.serial m.regex m.is kind
     (asked_value new cs v t m.serial m.regex m.is gives ∙ ap Text (sym (words m.serial m.same)))
 

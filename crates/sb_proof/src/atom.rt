@@ -68,9 +68,8 @@ impl<R> Atom<R> {
         ensures { result ≡ is_brought_atom (atom_in self.now) }
     {
         match self {
-            Atom::In(pieces, _) => constant_of(pieces).is_some(),
             Atom::Le(..) | Atom::Sum(..) => false,
-            Atom::Bool(_) | Atom::And(_) | Atom::Iff(..) => true,
+            Atom::Bool(_) | Atom::In(..) | Atom::And(_) | Atom::Iff(..) => true,
         }
     }
 

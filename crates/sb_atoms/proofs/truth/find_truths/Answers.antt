@@ -2,6 +2,7 @@ use Rattle.std.proofs.Common.{◌-◌, ◌<◌, false, length, nat_lt, arith}
 use Rattle.std.proofs.lemmas.Bool.{ltb-true}
 use Rattle.sb_regex.proofs.CallerLemmas.{extends_same, extends_more}
 use Rattle.sb_script.specs.Brought.{is_structure}
+use Rattle.sb_script.specs.Fragment.{fits}
 use Rattle.sb_term.specs.Numbered.{term_at}
 use Rattle.sb_term.proofs.CallerLemmas.{none_known, parts_known, next_known, all_known}
 use Rattle.sb_fragment.proofs.CallerLemmas.{all_at}
@@ -29,6 +30,7 @@ truth_of-requires c =
           c.index-ids-place.is);
       structure = all_at (λ j. is_structure (term_at ts j)) is (i - 1) x c.requires.structure within
           c.index-ids-place.is;
+      fits = all_at (λ j. fits (term_at ts j)) is (i - 1) x c.requires.fits within c.index-ids-place.is;
       ready = c.loop-place.invariant.3;
       parts = parts_known connected_parts false (λ j. IsTruthOf c.args.values.now c.args.truths.now (term_at ts j))
           c.loop-place.known.entries ts is i x c.requires.parts c.loop-place-test.true c.loop-place.invariant.0

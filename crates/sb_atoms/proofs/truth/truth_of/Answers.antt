@@ -7,11 +7,12 @@ use Rattle.sb_problem.specs.Patterns.{pattern_in}
 use Rattle.sb_script.specs.Brought.{asked}
 use Rattle.sb_fragment.specs.Compared.{compared}
 use Rattle.sb_fragment.specs.Shapes.{parts_of}
-use Rattle.sb_fragment.proofs.CallerLemmas.{asked_structure, connected_structure, words_structure}
+use Rattle.sb_fragment.proofs.CallerLemmas.{asked_structure, connected_structure}
 use Rattle.sb_atoms.specs.Truths.{AllOf, IsTruthUnder, IsTruthOf, AreAsWanted, connected_truth}
 use Rattle.sb_atoms.specs.Given.{GivesValues}
 use Rattle.sb_term.specs.Descending.{known_at}
 use Rattle.sb_atoms.proofs.Connections.{connected_parts_are}
+use Rattle.sb_atoms.proofs.FitFacts.{words_fit}
 use Rattle.sb_atoms.proofs.Meanings.{constant_holds, always_holds, alone_holds, connected_holds, words_hold}
 use Rattle.sb_atoms.proofs.TruthFacts.{truths_are}
 use Rattle.sb_atoms.proofs.Walking.{compared_given, parts_given}
@@ -68,10 +69,19 @@ returns-in_ok-parts-in-Connected-clause-ok c =
     ∙ ap (λ us. map (λ u. holds u v) us) c.arguments_of.ensures.terms)
     ∙ sym (connected_holds t c.in-Connected.connective shape all ws bs v gives)
 
+pub membership_holds-requires-clause-member : goal.membership_holds-requires-clause-member
+membership_holds-requires-clause-member c = rw c.in-Member.is at c.shape_of.ensures
+
+pub returns-in-Member-clause-ok : goal.returns-in-Member-clause-ok
+returns-in-Member-clause-ok c =
+    let t = term_at c.args.table.now c.args.id in
+    ok_more (IsTruthUnder c.args.values.now t) (IsTruthOf c.args.values.now c.args.truths.now t)
+    c.membership_holds.result (λ truth h v gives. h v c.args.truths.now gives) c.membership_holds.ensures.ok
+
 pub words-requires-clause-pairs : goal.words-requires-clause-pairs
 words-requires-clause-pairs c =
     let shape = rw c.in-Words.is at c.shape_of.ensures in
-    sym (words_structure (term_at c.args.table.now c.args.id) c.in-Words.distinct shape) ∙ c.requires.structure
+    sym (words_fit (term_at c.args.table.now c.args.id) c.in-Words.distinct shape) ∙ c.requires.fits
 
 pub returns-in-Words-clause-ok : goal.returns-in-Words-clause-ok
 returns-in-Words-clause-ok c =
@@ -82,4 +92,4 @@ returns-in-Words-clause-ok c =
     (λ truth. IsTruthOf c.args.values.now c.args.truths.now t truth) c.words.result
     (λ truth h v gives. h v c.args.truths.now (compared_given c.args.values.now c.args.truths.now v c.in-Words.distinct
     (parts_of t) (parts_given c.args.values.now c.args.truths.now v t gives))
-    ∙ words_hold t c.in-Words.distinct shape.0 v) c.words.ensures.ok
+    ∙ words_hold t c.in-Words.distinct shape v) c.words.ensures.ok

@@ -1,6 +1,9 @@
 use Rattle.std.proofs.Common.{refl, arith}
 use Rattle.sb_regex.proofs.CallerLemmas.{extends_same, extends_more}
-use Rattle.sb_fragment.proofs.CallerLemmas.{number_at, words_at}
+use Rattle.sb_meaning.specs.Terms.{Term}
+use Rattle.sb_script.specs.Fragment.{is_word_pair}
+use Rattle.sb_fragment.specs.Shapes.{terms_of_pairs}
+use Rattle.sb_fragment.proofs.CallerLemmas.{all_at, number_at, pair_at, pair_within, pair_read}
 use Rattle.sb_atoms.proofs.Walking.{wanted_more, wanted_stop, wanted_end}
 use Rattle.sb_atoms.proofs.truth.word_pairs.Goals as goal
 
@@ -19,8 +22,12 @@ word_equality-requires-clause-other c =
 
 pub word_equality-requires-clause-pair : goal.word_equality-requires-clause-pair
 word_equality-requires-clause-pair c =
-    words_at c.args.table.now c.args.pairs.now c.loop-one.one-index c.loop-one-item.result c.requires.pairs
-    c.loop-one-test.true c.loop-one-item.is
+    let ts = c.args.table.now in
+    let i = c.loop-one.one-index in
+    let p = c.loop-one-item.result in
+    all_at (λ (q : Term × Term). is_word_pair q.0 q.1) (terms_of_pairs ts c.args.pairs.now) i (pair_at ts p)
+    c.requires.pairs (pair_within ts c.args.pairs.now i c.loop-one-test.true)
+    (pair_read ts c.args.pairs.now i p c.loop-one-test.true c.loop-one-item.is)
 
 pub loop-one-preserved : goal.loop-one-preserved
 loop-one-preserved c = (

@@ -2,7 +2,7 @@ use Rattle.std.proofs.Common.{List, length, ap, subst, ◌∙◌, arith}
 use Rattle.std.specs.Prelude.{IfOk}
 use Rattle.std.specs.List.{list_all}
 use Rattle.sb_meaning.specs.Terms.{Term}
-use Rattle.sb_script.specs.Brought.{is_pair}
+use Rattle.sb_script.specs.Fragment.{is_word_pair}
 use Rattle.sb_fragment.specs.Compared.{compared}
 use Rattle.sb_fragment.specs.Shapes.{are_numbers, terms_of_pairs}
 use Rattle.sb_fragment.proofs.CallerLemmas.{numbers_compared, terms_compared}
@@ -21,7 +21,7 @@ word_pairs-requires-clause-pairs c =
     let e = ap (terms_of_pairs ts) (c.deref.ensures.value ∙ c.in_ok-pairs.ensures)
     ∙ terms_compared ts c.args.distinct c.arguments_of.result.now
     ∙ ap (compared c.args.distinct) c.arguments_of.ensures.terms in
-    ap (list_all (λ (p : Term × Term). is_pair p.0 p.1)) e ∙ c.requires.pairs
+    ap (list_all (λ (p : Term × Term). is_word_pair p.0 p.1)) e ∙ c.requires.pairs
 
 pub returns-clause-ok : goal.returns-clause-ok
 returns-clause-ok c =

@@ -1,12 +1,13 @@
 use Rattle.std.proofs.Common.{◌≡◌, ◌≤◌, true, length, subst, sym, ap, ◌∙◌, arith, rules}
 use Rattle.sb_meaning.specs.Truth.{holds}
 use Rattle.sb_script.specs.Brought.{is_structure}
+use Rattle.sb_script.specs.Fragment.{fits}
 use Rattle.sb_term.specs.Numbered.{term_at}
 use Rattle.sb_regex.proofs.CallerLemmas.{extends_more}
 use Rattle.sb_problem.specs.Known.{AreNormals}
 use Rattle.sb_atoms.specs.Given.{GivesValues}
 use Rattle.sb_models.specs.Tried.{IsOfSame, marks_of}
-use Rattle.sb_models.proofs.Knowledge.{no_mark, structure_at, true_first, true_more, false_at, passed, true_all}
+use Rattle.sb_models.proofs.Knowledge.{no_mark, structure_at, fits_at, true_first, true_more, false_at, passed, true_all}
 use Rattle.sb_models.proofs.trying.all_hold.Goals as goal
 
 pub returns-in_default-clause-ok : goal.returns-in_default-clause-ok
@@ -45,6 +46,13 @@ pub eval-requires-clause-structure : goal.eval-requires-clause-structure
 eval-requires-clause-structure c =
     subst (λ ts. is_structure (term_at ts c.in-Some.id) ≡ true) (sym c.table-table.ensures)
     (structure_at c.args.stack.now.table c.args.stack.now.assertions c.loop-place.place c.index-assertions-place.result
+    c.in-Some.id (rw c.assertions-assertions.ensures.value at c.loop-place-test.true)
+    (rw c.assertions-assertions.ensures.value at c.index-assertions-place.is) c.in-Some.is c.requires.decided)
+
+pub eval-requires-clause-fits : goal.eval-requires-clause-fits
+eval-requires-clause-fits c =
+    subst (λ ts. fits (term_at ts c.in-Some.id) ≡ true) (sym c.table-table.ensures)
+    (fits_at c.args.stack.now.table c.args.stack.now.assertions c.loop-place.place c.index-assertions-place.result
     c.in-Some.id (rw c.assertions-assertions.ensures.value at c.loop-place-test.true)
     (rw c.assertions-assertions.ensures.value at c.index-assertions-place.is) c.in-Some.is c.requires.decided)
 

@@ -1,25 +1,22 @@
-use Rattle.std.proofs.Common.{◌≡◌, [], Some, None, true, if◌then◌else◌, MatchOption, refl, sym, ◌∙◌}
+use Rattle.std.proofs.Common.{◌≡◌, [], None, true, if◌then◌else◌, map, MatchOption, refl, sym, ap, ◌∙◌}
 use Rattle.sb_facts.proofs.CallerLemmas.{ok_more}
-use Rattle.sb_meaning.specs.Terms.{Term, text}
 use Rattle.sb_regex.proofs.CallerLemmas.{extends_same}
 use Rattle.sb_term.specs.Numbered.{term_at}
 use Rattle.sb_problem.specs.Patterns.{pattern_in}
-use Rattle.sb_script.specs.Brought.{asked}
-use Rattle.sb_rulebook.specs.Atoms.{bool_atom}
-use Rattle.sb_rulebook.specs.AtomRules.{is_declared}
+use Rattle.sb_rulebook.specs.Atoms.{bool_atom, are_pieces}
 use Rattle.sb_rulebook.specs.Translation.{translation, conjunction, negated}
-use Rattle.sb_atoms.specs.Translated.{has_declared}
+use Rattle.sb_proof.specs.Lines.{piece_in}
 use Rattle.sb_atoms.specs.Connecting.{connected}
-use Rattle.sb_atoms.specs.Growing.{is_below, Gives, GivesLike, Finds, IsLiteralOf}
+use Rattle.sb_atoms.specs.Growing.{meets, pieces_meet, is_below, Gives, GivesLike, Finds, IsLiteralOf}
 use Rattle.sb_term.specs.Descending.{known_at}
 use Rattle.sb_fragment.specs.Shapes.{parts_of}
-use Rattle.sb_atoms.specs.Shapes.{connected_literal, literals_of, words_literal}
-use Rattle.sb_fragment.proofs.CallerLemmas.{asked_structure, connected_structure, words_structure}
+use Rattle.sb_atoms.specs.Shapes.{member_literal, connected_literal, literals_of, words_literal}
+use Rattle.sb_fragment.proofs.CallerLemmas.{asked_structure, connected_structure}
 use Rattle.sb_atoms.proofs.Connections.{connected_parts_are}
 use Rattle.sb_atoms.proofs.Growth.{moves_given, moves_gates, moves_none}
 use Rattle.sb_atoms.proofs.KnownLiterals.{parts_found, parts_below, connection_finds}
 use Rattle.sb_atoms.proofs.Structured.{always_translated, alone_translated, connected_translated, words_translated}
-use Rattle.sb_atoms.proofs.Found.{constant_finds, constant_moves, declared_asked, finds_other, finds_given, ready_moved}
+use Rattle.sb_atoms.proofs.Found.{constant_finds, constant_moves, asked_member, met_asked, finds_other, finds_given, ready_moved}
 use Rattle.sb_atoms.proofs.table.Atoms.literal_of.Goals as goal
 
 pub member-requires-clause-kind : goal.member-requires-clause-kind
@@ -28,22 +25,32 @@ member-requires-clause-kind c =
     sym (asked_structure t c.in-Some.serial.0 (pattern_in c.args.table.now c.in-Some.pattern) c.in-Some.ensures.parts)
     ∙ c.requires.structure
 
+pub member-requires-clause-formed : goal.member-requires-clause-formed
+member-requires-clause-formed c = ap are_pieces c.constant_alone-pieces.ensures
+
 pub returns-in-Some-clause-ok : goal.returns-in-Some-clause-ok
 returns-in-Some-clause-ok c =
     let t = term_at c.args.table.now c.args.id in
     let R = pattern_in c.args.table.now c.in-Some.pattern in
-    ok_more (λ found. (s : Term) → asked s ≡ Some (c.in-Some.serial.0, R)
-    → Finds is_below c.args.adds c.member.new.arena c.member.new.self (λ atoms. translation atoms s) found)
+    let ps = map piece_in c.constant_alone-pieces.result.items in
+    ok_more (λ found. Finds is_below c.args.adds c.member.new.arena c.member.new.self
+    (λ atoms. member_literal atoms ps R) found)
     (λ found. Finds is_below c.args.adds c.member.new.arena c.member.new.self (λ atoms. translation atoms t) found)
-    c.member.result (λ found h. h t c.in-Some.ensures.parts) c.member.ensures.ok
+    c.member.result
+    (λ found h. finds_other c.args.adds c.member.new.arena c.member.new.self (λ atoms. member_literal atoms ps R)
+    (λ atoms. translation atoms t) found
+    (λ atoms. ap (λ qs. member_literal atoms qs R) c.constant_alone-pieces.ensures
+    ∙ asked_member t c.in-Some.serial.0 R c.in-Some.ensures.parts atoms) h)
+    c.member.ensures.ok
 
 pub returns-in-Some-clause-moves : goal.returns-in-Some-clause-moves
 returns-in-Some-clause-moves c =
     let t = term_at c.args.table.now c.args.id in
-    moves_given c.args.adds (λ sorts. is_declared sorts text c.in-Some.serial.0) (λ sorts. has_declared sorts t)
-    c.args.arena.now c.member.new.arena c.args.self.now c.member.new.self
-    (λ sorts d. declared_asked sorts t c.in-Some.serial.0 (pattern_in c.args.table.now c.in-Some.pattern)
-    c.in-Some.ensures.parts d) c.member.ensures.moves
+    moves_given c.args.adds (λ demand. pieces_meet demand (map piece_in c.constant_alone-pieces.result.items))
+    (λ demand. meets demand t) c.args.arena.now c.member.new.arena c.args.self.now c.member.new.self
+    (λ demand d. ap (pieces_meet demand) c.constant_alone-pieces.ensures
+    ∙ met_asked demand t c.in-Some.serial.0 (pattern_in c.args.table.now c.in-Some.pattern) c.in-Some.ensures.parts d)
+    c.member.ensures.moves
 
 pub returns-in-Constant-clause-ok : goal.returns-in-Constant-clause-ok
 returns-in-Constant-clause-ok c =
@@ -84,7 +91,7 @@ returns-in-Always-clause-ok c =
 
 pub returns-in-Always-clause-moves : goal.returns-in-Always-clause-moves
 returns-in-Always-clause-moves c =
-    moves_gates c.args.adds (λ sorts. has_declared sorts (term_at c.args.table.now c.args.id)) c.args.arena.now
+    moves_gates c.args.adds (λ demand. meets demand (term_at c.args.table.now c.args.id)) c.args.arena.now
     c.args.self.now c.always.new.self c.always.ensures.grows
 
 pub returns-in-Always-clause-ready : goal.returns-in-Always-clause-ready
@@ -92,7 +99,7 @@ returns-in-Always-clause-ready c =
     let r = c.requires.ready in
     ready_moved c.args.table.now c.args.measures.now c.args.normals.now c.args.arena.now c.args.arena.now
     c.args.self.now c.always.new.self r.right r.normals r.regexes
-    (moves_gates c.args.adds (λ sorts. true) c.args.arena.now c.args.self.now c.always.new.self c.always.ensures.grows)
+    (moves_gates c.args.adds (λ demand. true) c.args.arena.now c.args.self.now c.always.new.self c.always.ensures.grows)
 
 pub returns-in-Alone-clause-ok : goal.returns-in-Alone-clause-ok
 returns-in-Alone-clause-ok c =
@@ -107,7 +114,7 @@ returns-in-Alone-clause-ok c =
 
 pub returns-in-Alone-clause-moves : goal.returns-in-Alone-clause-moves
 returns-in-Alone-clause-moves c =
-    moves_gates c.args.adds (λ sorts. has_declared sorts (term_at c.args.table.now c.args.id)) c.args.arena.now
+    moves_gates c.args.adds (λ demand. meets demand (term_at c.args.table.now c.args.id)) c.args.arena.now
     c.args.self.now c.always-in-Alone.new.self c.always-in-Alone.ensures.grows
 
 pub returns-in-Alone-clause-ready : goal.returns-in-Alone-clause-ready
@@ -115,7 +122,7 @@ returns-in-Alone-clause-ready c =
     let r = c.requires.ready in
     ready_moved c.args.table.now c.args.measures.now c.args.normals.now c.args.arena.now c.args.arena.now
     c.args.self.now c.always-in-Alone.new.self r.right r.normals r.regexes
-    (moves_gates c.args.adds (λ sorts. true) c.args.arena.now c.args.self.now c.always-in-Alone.new.self
+    (moves_gates c.args.adds (λ demand. true) c.args.arena.now c.args.self.now c.always-in-Alone.new.self
     c.always-in-Alone.ensures.grows)
 
 pub connection-requires : goal.connection-requires
@@ -160,7 +167,7 @@ returns-in_ok-parts-in-Connected-clause-ok c =
 
 pub returns-in_ok-parts-in-Connected-clause-moves : goal.returns-in_ok-parts-in-Connected-clause-moves
 returns-in_ok-parts-in-Connected-clause-moves c =
-    moves_gates c.args.adds (λ sorts. has_declared sorts (term_at c.args.table.now c.args.id)) c.args.arena.now
+    moves_gates c.args.adds (λ demand. meets demand (term_at c.args.table.now c.args.id)) c.args.arena.now
     c.args.self.now c.connection.new.self c.connection.ensures.grows
 
 pub returns-in_ok-parts-in-Connected-clause-ready : goal.returns-in_ok-parts-in-Connected-clause-ready
@@ -168,18 +175,16 @@ returns-in_ok-parts-in-Connected-clause-ready c =
     let r = c.requires.ready in
     ready_moved c.args.table.now c.args.measures.now c.args.normals.now c.args.arena.now c.args.arena.now
     c.args.self.now c.connection.new.self r.right r.normals r.regexes
-    (moves_gates c.args.adds (λ sorts. true) c.args.arena.now c.args.self.now c.connection.new.self
+    (moves_gates c.args.adds (λ demand. true) c.args.arena.now c.args.self.now c.connection.new.self
     c.connection.ensures.grows)
 
 pub returns-in_err-parts-in-Connected-clause-moves : goal.returns-in_err-parts-in-Connected-clause-moves
 returns-in_err-parts-in-Connected-clause-moves c =
-    moves_none c.args.adds (λ sorts. has_declared sorts (term_at c.args.table.now c.args.id)) c.args.arena.now
+    moves_none c.args.adds (λ demand. meets demand (term_at c.args.table.now c.args.id)) c.args.arena.now
     c.args.self.now
 
-pub words-requires-clause-pairs : goal.words-requires-clause-pairs
-words-requires-clause-pairs c =
-    let shape = rw c.in-Words.is at c.shape_of.ensures in
-    sym (words_structure (term_at c.args.table.now c.args.id) c.in-Words.distinct shape) ∙ c.requires.structure
+pub membership-requires-in-Member-clause-member : goal.membership-requires-in-Member-clause-member
+membership-requires-in-Member-clause-member c = rw c.in-Member.is at c.shape_of.ensures
 
 pub returns-in-Words-clause-ok : goal.returns-in-Words-clause-ok
 returns-in-Words-clause-ok c =
@@ -191,5 +196,4 @@ returns-in-Words-clause-ok c =
     c.words.result
     (λ found h. finds_other c.args.adds c.words.new.arena c.words.new.self
     (λ atoms. words_literal atoms c.in-Words.distinct (parts_of t)) (λ atoms. translation atoms t) found
-    (λ atoms. sym (words_translated t c.in-Words.distinct shape.0
-    (sym (words_structure t c.in-Words.distinct shape) ∙ c.requires.structure) atoms)) h) c.words.ensures.ok
+    (λ atoms. sym (words_translated t c.in-Words.distinct shape atoms)) h) c.words.ensures.ok

@@ -1,40 +1,104 @@
-use Rattle.std.proofs.Common.{◌≡◌, ◌&&◌, Some}
+use Rattle.std.proofs.Common.{◌&&◌, length, sym, ◌∙◌}
 use Rattle.sb_facts.proofs.CallerLemmas.{ok_more}
-use Rattle.sb_meaning.specs.Terms.{Term, text}
-use Rattle.sb_script.specs.Brought.{asked}
 use Rattle.sb_term.specs.Numbered.{term_at}
 use Rattle.sb_problem.specs.Patterns.{literal_of}
-use Rattle.sb_rulebook.specs.AtomRules.{is_declared}
-use Rattle.sb_rulebook.specs.Translation.{translation, word_equality}
-use Rattle.sb_atoms.specs.Translated.{has_declared}
-use Rattle.sb_atoms.specs.Growing.{is_below, Finds}
-use Rattle.sb_fragment.specs.Memberships.{equality}
-use Rattle.sb_fragment.proofs.CallerLemmas.{some_pair}
-use Rattle.sb_atoms.proofs.Growth.{moves_given}
-use Rattle.sb_atoms.proofs.Found.{finds_other, pair_equality, declared_pair}
+use Rattle.sb_rulebook.specs.Parts.{regex_of}
+use Rattle.sb_rulebook.specs.Translation.{membership, word_equality}
+use Rattle.sb_atoms.specs.Growing.{meets, is_below, Finds}
+use Rattle.sb_atoms.proofs.Growth.{moves_none, moves_given}
+use Rattle.sb_atoms.proofs.Found.{finds_none, finds_other}
+use Rattle.sb_atoms.proofs.TextFacts.{sides_word, sides_none, sides_below, sides_pass}
 use Rattle.sb_atoms.proofs.table.Atoms.word_equality.Goals as goal
+
+pub returns-in_err-sides-clause-moves : goal.returns-in_err-sides-clause-moves
+returns-in_err-sides-clause-moves c =
+    let ts = c.args.table.now in
+    moves_none c.args.adds (λ demand. meets demand (term_at ts c.args.one) && meets demand (term_at ts c.args.other))
+    c.args.arena.now c.args.self.now
+
+pub returns-in_err-sides-clause-ready : goal.returns-in_err-sides-clause-ready
+returns-in_err-sides-clause-ready c = record {
+  right = c.in_err-sides.ensures.right;
+  normals = c.requires.ready.normals;
+  regexes = c.requires.ready.regexes;
+}
+
+pub measure-requires-clause-number : goal.measure-requires-clause-number
+measure-requires-clause-number c =
+    (sides_below c.args.table.now c.args.one c.args.other c.in_ok-sides.sides c.in_ok-sides.ensures.ok
+    (length c.args.table.now) c.requires.one c.requires.other).0
+
+pub returns-in_err-measure-clause-moves : goal.returns-in_err-measure-clause-moves
+returns-in_err-measure-clause-moves c =
+    let ts = c.args.table.now in
+    moves_none c.args.adds (λ demand. meets demand (term_at ts c.args.one) && meets demand (term_at ts c.args.other))
+    c.args.arena.now c.args.self.now
+
+pub returns-in_err-measure-clause-ready : goal.returns-in_err-measure-clause-ready
+returns-in_err-measure-clause-ready c = record {
+  right = c.in_err-measure.ensures.right;
+  normals = c.requires.ready.normals;
+  regexes = c.requires.ready.regexes;
+}
+
+pub returns-then-not-is_word-clause-ok : goal.returns-then-not-is_word-clause-ok
+returns-then-not-is_word-clause-ok c =
+    let ts = c.args.table.now in
+    let no_word = sym c.in_ok-measure.ensures.ok.text ∙ c.if-not-is_word.true in
+    finds_none c.args.adds c.args.arena.now c.args.self.now
+    (λ atoms. word_equality atoms (term_at ts c.args.one) (term_at ts c.args.other))
+    (sides_none ts c.args.one c.args.other c.in_ok-sides.sides c.in_ok-sides.ensures.ok no_word)
+
+pub returns-then-not-is_word-clause-moves : goal.returns-then-not-is_word-clause-moves
+returns-then-not-is_word-clause-moves c =
+    let ts = c.args.table.now in
+    moves_none c.args.adds (λ demand. meets demand (term_at ts c.args.one) && meets demand (term_at ts c.args.other))
+    c.args.arena.now c.args.self.now
+
+pub returns-then-not-is_word-clause-ready : goal.returns-then-not-is_word-clause-ready
+returns-then-not-is_word-clause-ready c = record {
+  right = c.in_ok-measure.ensures.right;
+  normals = c.requires.ready.normals;
+  regexes = c.requires.ready.regexes;
+}
+
+pub joined-requires : goal.joined-requires
+joined-requires c =
+    let below = sides_below c.args.table.now c.args.one c.args.other c.in_ok-sides.sides c.in_ok-sides.ensures.ok
+    (length c.args.table.now) c.requires.one c.requires.other in
+    record {
+      text = below.1;
+      number = below.0;
+      kind = sym c.in_ok-measure.ensures.ok.text ∙ c.if-not-is_word.false;
+      ready = record {
+        right = c.in_ok-measure.ensures.right;
+        normals = c.requires.ready.normals;
+        regexes = c.requires.ready.regexes;
+      };
+    }
 
 pub returns-clause-ok : goal.returns-clause-ok
 returns-clause-ok c =
-    let t = term_at c.args.table.now c.args.one in
-    let u = term_at c.args.table.now c.args.other in
-    let p = some_pair _ _ c.pair_of.result c.unwrap-word.result c.unwrap-word.ensures c.pair_of.ensures.parts in
-    let R = literal_of (term_at c.args.table.now c.unwrap-word.result.1) in
-    ok_more (λ found. (s : Term) → asked s ≡ Some (c.unwrap-word.result.0.0, R)
-    → Finds is_below c.args.adds c.member.new.arena c.member.new.self (λ atoms. translation atoms s) found)
-    (λ found. Finds is_below c.args.adds c.member.new.arena c.member.new.self (λ atoms. word_equality atoms t u) found)
-    c.member.result
-    (λ found h. finds_other c.args.adds c.member.new.arena c.member.new.self
-    (λ atoms. translation atoms (equality t u)) (λ atoms. word_equality atoms t u) found
-    (pair_equality t u c.requires.pair) (h (equality t u) p.asks))
-    c.member.ensures.ok
+    let ts = c.args.table.now in
+    let a = term_at ts c.args.one in
+    let b = term_at ts c.args.other in
+    let u = term_at ts c.in_ok-sides.sides.other in
+    let R = literal_of (term_at ts c.in_ok-sides.sides.word) in
+    let is_word = sym c.in_ok-measure.ensures.ok.text ∙ c.if-not-is_word.false in
+    ok_more (λ found. Finds is_below c.args.adds c.joined.new.arena c.joined.new.self
+    (λ atoms. membership atoms u (regex_of R)) found)
+    (λ found. Finds is_below c.args.adds c.joined.new.arena c.joined.new.self (λ atoms. word_equality atoms a b) found)
+    c.joined.result
+    (λ found h. finds_other c.args.adds c.joined.new.arena c.joined.new.self (λ atoms. membership atoms u (regex_of R))
+    (λ atoms. word_equality atoms a b) found
+    (sides_word ts c.args.one c.args.other c.in_ok-sides.sides c.in_ok-sides.ensures.ok is_word) h)
+    c.joined.ensures.ok
 
 pub returns-clause-moves : goal.returns-clause-moves
 returns-clause-moves c =
-    let t = term_at c.args.table.now c.args.one in
-    let u = term_at c.args.table.now c.args.other in
-    let p = some_pair _ _ c.pair_of.result c.unwrap-word.result c.unwrap-word.ensures c.pair_of.ensures.parts in
-    let R = literal_of (term_at c.args.table.now c.unwrap-word.result.1) in
-    moves_given c.args.adds (λ sorts. is_declared sorts text c.unwrap-word.result.0.0)
-    (λ sorts. has_declared sorts t && has_declared sorts u) c.args.arena.now c.member.new.arena c.args.self.now
-    c.member.new.self (λ sorts d. declared_pair sorts t u c.unwrap-word.result.0.0 R p.asks d) c.member.ensures.moves
+    let ts = c.args.table.now in
+    moves_given c.args.adds (λ demand. meets demand (term_at ts c.in_ok-sides.sides.other))
+    (λ demand. meets demand (term_at ts c.args.one) && meets demand (term_at ts c.args.other)) c.args.arena.now
+    c.joined.new.arena c.args.self.now c.joined.new.self
+    (λ demand h. sides_pass (meets demand) ts c.args.one c.args.other c.in_ok-sides.sides c.in_ok-sides.ensures.ok h)
+    c.joined.ensures.moves
