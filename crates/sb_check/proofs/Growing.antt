@@ -33,6 +33,7 @@ stands_grown j rs plain normals models h e n r m = record {
       plain = r;
       atoms = regexes_kept j.kept.arena rs j.kept.atoms e h.over.whole.atoms;
       brought = h.over.whole.brought;
+      formed = h.over.whole.formed;
     };
     normals = n;
     measures = h.over.measures;

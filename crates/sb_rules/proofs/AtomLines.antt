@@ -7,10 +7,10 @@ use Rattle.std.proofs.lemmas.Option.{slice_get-map, get_or_from_slice_get, slice
 use Rattle.sb_lang.specs.Regex.{Regex}
 use Rattle.sb_regex.specs.Numbered.{regex_at, regexes_at}
 use Rattle.sb_meaning.specs.Terms.{Sort}
-use Rattle.sb_script.specs.Pieces.{Piece, constant_piece, word_piece}
+use Rattle.sb_script.specs.Pieces.{Piece}
 use Rattle.sb_atoms.specs.Numbered.{over, atoms_in, HasRegexBelow}
 use Rattle.sb_rulebook.specs.Refusals.{Refusal, unknown_id, repeated, rule_broken, not_normal}
-use Rattle.sb_rulebook.specs.Atoms.{Atom, AtomOver, bool_atom, in_atom, le_atom, sum_atom, and_atom, iff_atom, are_pieces, constant_of, is_same_atom, is_well_formed, map_atom, regex_in}
+use Rattle.sb_rulebook.specs.Atoms.{Atom, AtomOver, bool_atom, in_atom, le_atom, sum_atom, and_atom, iff_atom, is_same_atom, is_well_formed, map_atom, regex_in}
 use Rattle.sb_rulebook.specs.AtomRules.{with_regex, has_its_parts, defined, follows_atom, is_known, is_declared_piece}
 use Rattle.sb_rulebook.specs.Brought.{is_brought_atom}
 use Rattle.sb_rulebook.specs.Kept.{AllKept, Asked}
@@ -202,7 +202,7 @@ pub brought_stays : (order : List ℕ) (a b : AtomOver ℕ) → numbered order a
     → is_brought_atom b ≡ is_brought_atom a
 brought_stays order (in_atom ps r) b h = step (slice_get order r) h
   where
-    step : (o : Option ℕ) → option_map {T = ℕ} (in_atom ps) o ≡ Some b → is_brought_atom b ≡ is_some (constant_of ps)
+    step : (o : Option ℕ) → option_map {T = ℕ} (in_atom ps) o ≡ Some b → is_brought_atom b ≡ true
     step None h = absurd (Prim.cc (h))
     step (Some i) h = ap is_brought_atom (sym (some_is (in_atom ps i) b h))
 brought_stays order (bool_atom serial) b h = ap is_brought_atom (sym (some_is (bool_atom serial) b h))
@@ -210,19 +210,6 @@ brought_stays order (le_atom x k) b h = ap is_brought_atom (sym (some_is (le_ato
 brought_stays order (sum_atom k ss) b h = ap is_brought_atom (sym (some_is (sum_atom k ss) b h))
 brought_stays order (and_atom ls) b h = ap is_brought_atom (sym (some_is (and_atom ls) b h))
 brought_stays order (iff_atom l m) b h = ap is_brought_atom (sym (some_is (iff_atom l m) b h))
-
--- and one of one constant is well formed
-one_is_formed : (ps : List Piece) → is_some (constant_of ps) ≡ true → true ≡ are_pieces ps
-one_is_formed (constant_piece serial ∷ []) h = refl
-one_is_formed [] h = absurd (false≢true h)
-one_is_formed (constant_piece serial ∷ p ∷ ps) h = absurd (false≢true h)
-one_is_formed (word_piece w ∷ ps) h = absurd (false≢true h)
-
-pub formed_member : (a : AtomOver ℕ) (ps : List Piece) (r : ℕ) → a ≡ in_atom ps r → is_brought_atom a ≡ true
-    → true ≡ is_well_formed a
-formed_member a ps r is brought =
-    one_is_formed ps (subst (λ (b : AtomOver ℕ). is_brought_atom b ≡ true) is brought)
-    ∙ ap (λ (b : AtomOver ℕ). is_well_formed b) (sym is)
 
 -- where the parts are there, the regex is
 pub has_number : (sorts : List Sort) (count : ℕ) (order : List ℕ) (a : AtomOver ℕ) → have_parts sorts order count a ≡ true

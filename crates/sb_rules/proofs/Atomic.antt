@@ -13,7 +13,6 @@ use Rattle.sb_atoms.proofs.CallerLemmas.{over_one, atoms_more}
 use Rattle.sb_rulebook.specs.Refusals.{Refusal, repeated, not_normal}
 use Rattle.sb_rulebook.specs.Atoms.{Atom, AtomOver, bool_atom, in_atom, le_atom, sum_atom, and_atom, iff_atom, is_same_atom, is_well_formed}
 use Rattle.sb_rulebook.specs.AtomRules.{defined}
-use Rattle.sb_rulebook.specs.Brought.{is_brought_atom}
 use Rattle.sb_rulebook.specs.Kept.{AllKept}
 use Rattle.sb_rulebook.proofs.CallerLemmas.{same_atom, atom_itself}
 use Rattle.sb_rules.specs.declared.fault.Fault.{Fault}
@@ -65,12 +64,12 @@ more_below n [] a h g (suc i) b e = absurd (none_is b e)
 more_below n (x ∷ xs) a h g zero b e = h 0 b e
 more_below n (x ∷ xs) a h g (suc i) b e = more_below n xs a (λ j c d. h (suc j) c d) g i b e
 
-pub more_brought : (atoms : List (AtomOver ℕ)) (a : AtomOver ℕ) → list_all is_brought_atom atoms ≡ true
-    → is_brought_atom a ≡ true → list_all is_brought_atom (atoms ++ a ∷ []) ≡ true
-more_brought [] a h g = and_from (is_brought_atom a) true g refl
-more_brought (x ∷ xs) a h g =
-    let parts = and_parts (is_brought_atom x) (list_all is_brought_atom xs) h in
-    and_from (is_brought_atom x) (list_all is_brought_atom (xs ++ a ∷ [])) parts.0 (more_brought xs a parts.1 g)
+pub more_pass : (test : AtomOver ℕ → Bool) (atoms : List (AtomOver ℕ)) (a : AtomOver ℕ)
+    → list_all test atoms ≡ true → test a ≡ true → list_all test (atoms ++ a ∷ []) ≡ true
+more_pass test [] a h g = and_from (test a) true g refl
+more_pass test (x ∷ xs) a h g =
+    let parts = and_parts (test x) (list_all test xs) h in
+    and_from (test x) (list_all test (xs ++ a ∷ [])) parts.0 (more_pass test xs a parts.1 g)
 
 -- what adding an atom makes of the table, where it has no number there
 pub added_new : (old new : List (AtomOver ℕ)) (a : AtomOver ℕ) (id : ℕ) → IsWith old new a → Names new id a
@@ -91,12 +90,15 @@ atom_wanted A result e ruled k others a atoms r s (inr more) = rw (r, s) (inr (
 ))
 
 -- after adding an atom, whether it is there
-pub whole_with : (n : ℕ) (old new : List (AtomOver ℕ)) (a : AtomOver ℕ) → IsWith old new a → HaveRegexesBelow n old
-    → list_all is_brought_atom old ≡ true → HasRegexBelow n a → is_brought_atom a ≡ true
-    → HaveRegexesBelow n new × (list_all is_brought_atom new ≡ true)
-whole_with n old new a (inl same) all brought here is = rw same (all, brought)
-whole_with n old new a (inr more) all brought here is =
-    rw more (more_below n old a all here, more_brought old a brought is)
+pub all_with : (test : AtomOver ℕ → Bool) (old new : List (AtomOver ℕ)) (a : AtomOver ℕ) → IsWith old new a
+    → list_all test old ≡ true → test a ≡ true → list_all test new ≡ true
+all_with test old new a (inl same) all is = rw same all
+all_with test old new a (inr more) all is = rw more (more_pass test old a all is)
+
+pub below_with : (n : ℕ) (old new : List (AtomOver ℕ)) (a : AtomOver ℕ) → IsWith old new a → HaveRegexesBelow n old
+    → HasRegexBelow n a → HaveRegexesBelow n new
+below_with n old new a (inl same) all here = rw same all
+below_with n old new a (inr more) all here = rw more (more_below n old a all here)
 
 -- An atom is as well formed as the atom with the regex itself.
 

@@ -1,6 +1,5 @@
 -- The lines of clauses.
-use Rattle.std.proofs.Common.{◌≡◌, ℕ, Bool, true, false, ◌&&◌, nat_lt, if◌then◌else◌, List, [], ◌∷◌, map, length, Option, Some, None, option_map, slice_get, Result, Ok, Err, ap, sym, ◌∙◌}
-use Rattle.std.proofs.lemmas.Bool.{and_parts}
+use Rattle.std.proofs.Common.{◌≡◌, ℕ, Bool, true, false, ◌&&◌, nat_lt, if◌then◌else◌, List, [], ◌∷◌, map, length, Option, Some, None, option_map, slice_get, Result, Ok, Err, refl, ap, sym, ◌∙◌}
 use Rattle.std.proofs.lemmas.Option.{slice_get-map}
 use Rattle.std.proofs.lemmas.List.{length-map}
 use Rattle.sb_term.specs.Numbered.{term_at}
@@ -9,10 +8,8 @@ use Rattle.sb_lang.specs.Regex.{Regex}
 use Rattle.sb_lit.specs.declared.clause.Lit.{Lit}
 use Rattle.sb_meaning.specs.Terms.{Term}
 use Rattle.sb_script.specs.Brought.{is_structure}
-use Rattle.sb_script.specs.Fragment.{fits, is_decided}
-use Rattle.sb_script.specs.State as state
 use Rattle.sb_rulebook.specs.Refusals.{Refusal, unknown_id, rule_broken}
-use Rattle.sb_rulebook.specs.Atoms.{Atom, AtomOver}
+use Rattle.sb_rulebook.specs.Atoms.{AtomOver}
 use Rattle.sb_rulebook.specs.AtomRules.{is_known}
 use Rattle.sb_rulebook.specs.ClauseRules.{is_this, is_translation, asserted}
 use Rattle.sb_rulebook.specs.Kept.{AllKept, Asked, with_clause}
@@ -81,27 +78,19 @@ by_unknown asked k others place l ts live a e h unknown =
     ∙ ap (λ c. if c then asserted (kept_in k others) place (live_in ts a) l else Err unknown_id)
     (ap (nat_lt l.atom) (length-map k.atoms (over k.arena)) ∙ unknown)
 
--- an assertion that is not decided has no literal
-pub undecided : (atoms : List Atom) (t : Term) (l : Lit) (fit : Bool) → fit ≡ is_decided (state.asserted t)
-    → fit ≡ false → false ≡ is_translation atoms (Some t) l
-undecided atoms t l fit is none = ap (λ b. b && is_this l (translation atoms t)) (sym none ∙ is)
-
--- and the one that is decided has the literal that is looked for
-pub translated : (old new : List Regex) (atoms : List (AtomOver ℕ)) (t : Term) (l : Lit) (fit : Bool)
-    (found : Option Lit) (b : Bool) → fit ≡ is_decided (state.asserted t) → fit ≡ true
+-- a term's literal, where an assertion of it may be stated, is the one that is looked for
+pub translated : (old new : List Regex) (atoms : List (AtomOver ℕ)) (t : Term) (l : Lit) (found : Option Lit) (b : Bool)
     → atoms_in new atoms ≡ atoms_in old atoms → found ≡ brought_translation (atoms_in new atoms) t → IsFound l found b
     → b ≡ is_translation (atoms_in old atoms) (Some t) l
-translated old new atoms t l fit found b is so same there h =
+translated old new atoms t l found b same there h =
     found_as found b h
-    ∙ (ap (is_this l) (there
-    ∙ (ap (λ xs. brought_translation xs t) same
-    ∙ ap (λ c. if c then translation (atoms_in old atoms) t else None)
-    (and_parts (is_structure t) (fits t) decided).0))
-    ∙ ap (λ c. c && is_this l (translation (atoms_in old atoms) t)) (sym decided))
+    ∙ (ap (is_this l) (there ∙ ap (λ xs. brought_translation xs t) same) ∙ stated (is_structure t))
   where
-    decided : is_decided (state.asserted t) ≡ true
-    decided = sym is ∙ so
-
     found_as : (found : Option Lit) (b : Bool) → IsFound l found b → b ≡ is_this l found
     found_as None b h = h
     found_as (Some m) b h = h
+
+    stated : (s : Bool) → is_this l (if s then translation (atoms_in old atoms) t else None)
+        ≡ (s && is_this l (translation (atoms_in old atoms) t))
+    stated true = refl
+    stated false = refl

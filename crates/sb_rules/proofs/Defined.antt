@@ -8,7 +8,6 @@ use Rattle.sb_lang.specs.OrderLaws.{OrderTellsApart}
 use Rattle.sb_lang.specs.NormalForm.{is_normal}
 use Rattle.sb_regex.specs.Numbered.{regex_at, regexes_at, AllNumbers, AreDistinct, Extends}
 use Rattle.sb_regex.proofs.CallerLemmas.{names_at, names_below, numbers_kept}
-use Rattle.sb_rulebook.specs.Brought.{is_brought_node}
 use Rattle.sb_rulebook.specs.Lines.{Node, regex_line}
 use Rattle.sb_rulebook.specs.Kept.{AllKept, Asked}
 use Rattle.sb_rulebook.specs.RegexRules.{regex_of_node}
@@ -30,7 +29,7 @@ normal-at (x ∷ xs) h (suc n) l =
 
 module _ (n : Node) (old new : List Regex) (known : Known) where
   abbrev pub Made : Result (Option ℕ) Fault → Type 0
-  Made made = IsMade new (is_brought_node n) (regex_of_node (regexes_at old known.order) n) made
+  Made made = IsMade new (regex_of_node (regexes_at old known.order) n) made
 
   at-found : (found o : Option ℕ) → found ≡ o → Made (Ok found) → Made (Ok o)
   at-found found o is made = subst (λ (x : Option ℕ). Made (Ok x)) is made
@@ -43,7 +42,7 @@ module _ (n : Node) (old new : List Regex) (known : Known) where
         let made = at-found found (Some id) is h in
         subst (λ (k : Known). AllNumbers new k.order) (sym added.1)
         (All-append (λ i. i < length new) known.order (id ∷ []) (numbers_kept old new known.order grew all)
-        (All-cons (λ i. i < length new) id [] (names_below new id made.0 made.3) (All-nil (λ i. i < length new))))
+        (All-cons (λ i. i < length new) id [] (names_below new id made.0 made.2) (All-nil (λ i. i < length new))))
     added-known found id after (Err (fault.Refused r)) is h added =
         subst (λ (k : Known). AllNumbers new k.order) (sym added.2) (numbers_kept old new known.order grew all)
     added-known found id after (Err fault.NoMemory) is h added =
@@ -59,20 +58,20 @@ module _ (n : Node) (old new : List Regex) (known : Known) where
           → follows asked (with_known old known kept) (regex_line n) ≡ Err (refusal_in refusal.NotNormal)
       define-unnormal found is h =
           let made = at-found found None is h in
-          line-refused asked kept n old new known known made.0 apart normal grew all made.2 made.1 made.3
+          line-refused asked kept n old new known known made.0 apart normal grew all made.1 made.2
           (normal-at new normal)
 
       pub define-added : {A : Type 0} (found : Option ℕ) (id : ℕ) (after : Known) (result : Result A Fault)
           → found ≡ Some id → Made (Ok found) → IsAdded known after id result → Judged result after
       define-added found id after (Ok done) is h added =
           let made = at-found found (Some id) is h in
-          line-taken asked kept n old new known after made.0 apart normal grew all made.2 made.1 id once made.3
+          line-taken asked kept n old new known after made.0 apart normal grew all made.1 id once made.2
           added.0
-          (ap is_normal (sym (names_at new id made.0 made.3))
-          ∙ normal-at new normal id (names_below new id made.0 made.3)) added.1
+          (ap is_normal (sym (names_at new id made.0 made.2))
+          ∙ normal-at new normal id (names_below new id made.0 made.2)) added.1
       define-added found id after (Err (fault.Refused r)) is h added =
           let made = at-found found (Some id) is h in
-          line-repeated asked kept n old new known after made.0 apart normal grew all made.2 made.1 id once made.3
+          line-repeated asked kept n old new known after made.0 apart normal grew all made.1 id once made.2
           added.0
           ∙ ap Err (sym added.1)
       define-added found id after (Err fault.NoMemory) is h added = tt

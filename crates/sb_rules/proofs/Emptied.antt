@@ -19,12 +19,13 @@ use Rattle.sb_script.specs.Pieces.{constant_piece, word_piece}
 use Rattle.sb_atoms.specs.Numbered.{over, atoms_in, HaveRegexesBelow}
 use Rattle.sb_rulebook.specs.Atoms.{AtomOver, bool_atom, in_atom, le_atom, sum_atom, and_atom, iff_atom}
 use Rattle.sb_rulebook.specs.Gates.{atom_of}
+use Rattle.sb_rulebook.specs.AtomRules.{are_known}
 use Rattle.sb_rulebook.specs.Follows.{follows}
 use Rattle.sb_rulebook.specs.Kept.{AllKept, Asked, counting, with_clause}
-use Rattle.sb_rulebook.specs.Lines.{rule_line, empty}
+use Rattle.sb_rulebook.specs.Lines.{rule_line, empty, step}
 use Rattle.sb_rulebook.specs.Refusals.{unknown_id, repeated, rule_broken}
 use Rattle.sb_rulebook.specs.Parts.{together}
-use Rattle.sb_rulebook.specs.Splits.{denied, have_no_word, is_empty, is_dead_regex}
+use Rattle.sb_rulebook.specs.Splits.{denied, have_no_word, is_empty, is_dead_regex, is_step}
 use Rattle.sb_rules.specs.declared.kept.Kept.{Kept}
 use Rattle.sb_rules.specs.Kept.{kept_in}
 use Rattle.sb_rules.specs.Refuting.{member_in, member_at, is_of, denied_regex, denied_at, AreDenied}
@@ -272,21 +273,41 @@ one_denied old mid new atoms ids ls l x r id below so is regex low grows = recor
         (at_kept old mid r so.extends (member_below (length old) atoms l.atom x r below is))
         ∙ ap (denied_regex old l.positive) is
 
--- what is made of a line by rule empty, of literals of known atoms that ascend and are new
+-- what is made of a line of a rule by which clauses are new and counted, of literals of known atoms that ascend and are
+-- new
+by_new_rule : (asked : Asked) (k : Kept) (others : AllKept) (ls : List Lit) (b holds : Bool)
+    → list_all (λ m. nat_lt m.atom (length k.atoms)) ls ≡ true
+    → is_repeated k.clauses ls ≡ false → are_ascending ls ≡ true → b ≡ holds
+    → (if not (are_known (atoms_in k.arena k.atoms) ls) then Err unknown_id
+    else if is_repeated k.clauses ls then Err repeated
+    else if not (are_ascending ls && holds) then Err rule_broken
+    else counting asked (with_clause (kept_in k others) ls 0 []))
+    ≡ (if not b then Err rule_broken else counting asked (with_clause (kept_in k others) ls 0 []))
+by_new_rule asked k others ls b holds known new ascend is =
+    ap (λ t. if not t then Err unknown_id
+    else if is_repeated k.clauses ls then Err repeated
+    else if not (are_ascending ls && holds) then Err rule_broken
+    else counting asked (with_clause (kept_in k others) ls 0 []))
+    (ap (λ n. list_all (λ m. nat_lt m.atom n) ls) (length-map k.atoms (over k.arena)) ∙ known)
+    ∙ (ap (λ t. if t then Err repeated
+    else if not (are_ascending ls && holds) then Err rule_broken
+    else counting asked (with_clause (kept_in k others) ls 0 [])) new
+    ∙ (ap (λ t. if not (t && holds) then Err rule_broken
+    else counting asked (with_clause (kept_in k others) ls 0 [])) ascend
+    ∙ ap (λ t. if not t then Err rule_broken else counting asked (with_clause (kept_in k others) ls 0 [])) (sym is)))
+
 pub by_rule_empty : (asked : Asked) (k : Kept) (others : AllKept) (ls : List Lit) (b : Bool)
     → list_all (λ m. nat_lt m.atom (length k.atoms)) ls ≡ true
     → is_repeated k.clauses ls ≡ false → are_ascending ls ≡ true → b ≡ is_empty (kept_in k others) ls
     → follows asked (kept_in k others) (rule_line empty ls)
     ≡ (if not b then Err rule_broken else counting asked (with_clause (kept_in k others) ls 0 []))
 by_rule_empty asked k others ls b known new ascend is =
-    ap (λ t. if not t then Err unknown_id
-    else if is_repeated k.clauses ls then Err repeated
-    else if not (are_ascending ls && is_empty (kept_in k others) ls) then Err rule_broken
-    else counting asked (with_clause (kept_in k others) ls 0 []))
-    (ap (λ n. list_all (λ m. nat_lt m.atom n) ls) (length-map k.atoms (over k.arena)) ∙ known)
-    ∙ (ap (λ t. if t then Err repeated
-    else if not (are_ascending ls && is_empty (kept_in k others) ls) then Err rule_broken
-    else counting asked (with_clause (kept_in k others) ls 0 [])) new
-    ∙ (ap (λ t. if not (t && is_empty (kept_in k others) ls) then Err rule_broken
-    else counting asked (with_clause (kept_in k others) ls 0 [])) ascend
-    ∙ ap (λ t. if not t then Err rule_broken else counting asked (with_clause (kept_in k others) ls 0 [])) (sym is)))
+    by_new_rule asked k others ls b (is_empty (kept_in k others) ls) known new ascend is
+
+pub by_rule_step : (asked : Asked) (k : Kept) (others : AllKept) (ls : List Lit) (b : Bool)
+    → list_all (λ m. nat_lt m.atom (length k.atoms)) ls ≡ true
+    → is_repeated k.clauses ls ≡ false → are_ascending ls ≡ true → b ≡ is_step (kept_in k others).atoms ls
+    → follows asked (kept_in k others) (rule_line step ls)
+    ≡ (if not b then Err rule_broken else counting asked (with_clause (kept_in k others) ls 0 []))
+by_rule_step asked k others ls b known new ascend is =
+    by_new_rule asked k others ls b (is_step (kept_in k others).atoms ls) known new ascend is

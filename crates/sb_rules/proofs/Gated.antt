@@ -38,7 +38,7 @@ any_same p q [] h = refl
 any_same p q (x ∷ xs) h = ap₂ (λ a b. a || b) (h x) (any_same p q xs h)
 
 -- each is among the few, as `==` finds out
-among_few : (ls few : List Lit) → list_all (λ l. list_any (λ m. are_equal m l) few) ls ≡ are_among ls few
+pub among_few : (ls few : List Lit) → list_all (λ l. list_any (λ m. are_equal m l) few) ls ≡ are_among ls few
 among_few ls few =
     all_same (λ l. list_any (λ m. are_equal m l) few) (is_among few) ls (λ l.
     any_same (λ m. are_equal m l) _ few (λ m. is_same_literal-beq m l))

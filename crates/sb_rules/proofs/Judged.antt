@@ -12,12 +12,11 @@ use Rattle.sb_lang.specs.NormalForm.{is_normal}
 use Rattle.sb_regex.specs.Numbered.{regex_at, regexes_at, AllNumbers, AreDistinct, Extends, Names}
 use Rattle.sb_regex.proofs.CallerLemmas.{at_kept, ats_kept, names_at, names_below, number_kept, numbers_kept}
 use Rattle.sb_rulebook.specs.Refusals.{Refusal, unknown_id, repeated, not_normal}
-use Rattle.sb_rulebook.specs.Brought.{is_brought_node}
 use Rattle.sb_rulebook.specs.Parts.{together}
 use Rattle.sb_rulebook.specs.Lines.{Node, regex_line}
 use Rattle.sb_rulebook.specs.Kept.{AllKept, Asked, with_regex}
-use Rattle.sb_rulebook.specs.RegexRules.{regex_of_node, defined, follows_regex}
-use Rattle.sb_rulebook.specs.Follows.{not_brought, follows}
+use Rattle.sb_rulebook.specs.RegexRules.{regex_of_node, defined}
+use Rattle.sb_rulebook.specs.Follows.{follows}
 use Rattle.sb_rulebook.proofs.CallerLemmas.{same_regex, regex_itself}
 use Rattle.sb_rules.specs.Known.{Known, with_known}
 
@@ -118,15 +117,12 @@ normal-ats rs (n ∷ ns) all h =
 -- What the rules of proofs make of the line.
 
 module _ (asked : Asked) (kept : AllKept) (n : Node) where
-  abbrev pub ruled : Bool → Result AllKept Refusal → Result AllKept Refusal
-  ruled brought r = if brought then r else not_brought r
-
   abbrev pub by-regex : Option Regex → Result AllKept Refusal
   by-regex o = elim o as (λ _. Result AllKept Refusal) [ None ↦ Err unknown_id | Some r ↦ defined kept r ]
 
-  pub line-made : (r : Regex) → is_brought_node n ≡ true → regex_of_node kept.regexes n ≡ Some r
+  pub line-made : (r : Regex) → regex_of_node kept.regexes n ≡ Some r
       → follows asked kept (regex_line n) ≡ defined kept r
-  line-made r brought made = ap (λ b. ruled b (follows_regex kept n)) brought ∙ ap by-regex made
+  line-made r made = ap by-regex made
 
 pub defined-repeated : (kept : AllKept) (r : Regex) → list_any (regex_eq r) kept.regexes ≡ true
     → defined kept r ≡ Err repeated
@@ -148,7 +144,7 @@ defined-new kept r h e =
 -- all together: a regex that is new, one that is kept, and one that is not normal
 module _ (asked : Asked) (kept : AllKept) (n : Node) (old new : List Regex) (known after : Known) (r : Regex)
     (apart : OrderTellsApart) (normal : list_all is_normal new ≡ true) (grew : Extends old new)
-    (all : AllNumbers old known.order) (brought : is_brought_node n ≡ true)
+    (all : AllNumbers old known.order)
     (made : regex_of_node (regexes_at old known.order) n ≡ Some r) where
   abbrev pub before : AllKept
   before = with_known old known kept
@@ -156,7 +152,7 @@ module _ (asked : Asked) (kept : AllKept) (n : Node) (old new : List Regex) (kno
   pub line-refused : is_normal r ≡ false → ((n : ℕ) → n < length new → is_normal (regex_at new n) ≡ true)
       → follows asked (with_known old known kept) (regex_line n) ≡ Err not_normal
   line-refused h at =
-      line-made asked before n r brought made
+      line-made asked before n r made
       ∙ defined-unnormal before r
       (not-among-normal (regexes_at old known.order) r apart
       (ap (list_all is_normal) (sym (ats_kept old new known.order grew all))
@@ -166,7 +162,7 @@ module _ (asked : Asked) (kept : AllKept) (n : Node) (old new : List Regex) (kno
     pub line-repeated : list_any (nat_eq id) known.order ≡ true
         → follows asked (with_known old known kept) (regex_line n) ≡ Err repeated
     line-repeated h =
-        line-made asked before n r brought made
+        line-made asked before n r made
         ∙ defined-repeated before r (kept-by-number old new r id apart once grew is known.order all ∙ h)
 
     pub line-taken : list_any (nat_eq id) known.order ≡ false → is_normal r ≡ true
@@ -177,7 +173,7 @@ module _ (asked : Asked) (kept : AllKept) (n : Node) (old new : List Regex) (kno
         }
         → follows asked (with_known old known kept) (regex_line n) ≡ Ok (with_known new after kept)
     line-taken h normal e =
-        line-made asked before n r brought made
+        line-made asked before n r made
         ∙ defined-new before r (kept-by-number old new r id apart once grew is known.order all ∙ h) normal
         ∙ ap Ok (ap (λ rs. record (with_regex r before) { regexes = rs })
         (kept-with old new r id apart once grew is known.order all)

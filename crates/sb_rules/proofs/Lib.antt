@@ -9,6 +9,7 @@ mod Deciding
 mod Defined
 mod Emptied
 mod Expanded
+mod Few
 mod Gated
 mod Gathered
 mod Gathering
@@ -18,5 +19,8 @@ mod Loops
 mod Made
 mod Narrowing
 mod Overs
+mod Parting
 mod Shapes
+mod Standing
 mod Staying
+mod Trying

@@ -1,27 +1,24 @@
 -- Regexes that a constructor gave, as they stand or not.
-use Rattle.std.proofs.Common.{◌≡◌, ℕ, ◌<◌, true, false, List, [], ◌∷◌, map, slice_get, Option, Some, None, Result, Err, option_map, option_and_then, length, refl, sym, ap, ap₂, subst, ◌∙◌}
+use Rattle.std.proofs.Common.{◌≡◌, ℕ, ◌<◌, true, false, List, [], ◌∷◌, map, slice_get, Option, Some, None, Err, option_map, option_and_then, length, refl, sym, ap, ap₂, subst, ◌∙◌}
 use Rattle.std.proofs.lemmas.List.Elements.{All-cons, All-nil}
 use Rattle.std.proofs.lemmas.Bool.{true≢false}
+use Rattle.std.proofs.lemmas.Option.{slice_get-map}
 use Rattle.sb_lang.specs.Regex.{Regex, cat, alt, and, neg, star, rep, path, regexes}
 use Rattle.sb_lang.specs.OrderLaws.{OrderTellsApart}
-use Rattle.sb_lang.specs.Constructors.{mkcat, mkalt, mkand, mknot, mkstar, mkrep}
+use Rattle.sb_lang.specs.Constructors.{mkcat, mkalt, mkand, mknot, mkstar, mkrep, mkpath}
 use Rattle.sb_lang.specs.NormalForm.{is_normal}
 use Rattle.sb_regex.specs.Numbered.{regex_at, regexes_at, AllNumbers, AreDistinct, Extends, Names}
 use Rattle.sb_regex.specs.Nodes.{node_regex, PartsBelow}
 use Rattle.sb_regex.specs.declared.node.Node.{Node}
 use Rattle.sb_regex.proofs.CallerLemmas.{at_kept, ats_kept, names_at, names_below, names_from, number_kept, numbers_kept}
 use Rattle.sb_rulebook.specs.Parts.{together}
-use Rattle.sb_rulebook.specs.Lines.{cat_node}
+use Rattle.sb_rulebook.specs.Lines.{cat_node, path_node}
 use Rattle.sb_rulebook.specs.RegexRules.{of_one, of_two, regex_of_node}
-use Rattle.sb_rulebook.specs.Brought.{is_brought_node}
-use Rattle.sb_proof.specs.Lines.{node_in}
-use Rattle.sb_proof.specs.declared.line.Node as lines
-use Rattle.sb_proof.specs.declared.line.Node.TheVariants as line
-use Rattle.sb_rules.specs.Making.{is_cat_node, is_cat_of, is_alt_of, is_and_of, is_not_of, is_star_of, is_rep_of, AreSeveral, IsMade, early_refusal}
+use Rattle.sb_rules.specs.Making.{is_cat_node, is_cat_of, is_alt_of, is_and_of, is_not_of, is_star_of, is_rep_of, is_path_of, IsOne, AreSeveral, IsMade}
 use Rattle.sb_rules.specs.declared.fault.Fault.{Fault}
 use Rattle.sb_rules.specs.declared.fault.Fault.TheVariants as fault
 use Rattle.sb_rules.proofs.Judged.{known_number, named-at, several-at}
-use Rattle.sb_rules.proofs.Shapes.{node-is-alt, node-is-and, node-is-cat, node-is-not, node-is-star, node-is-rep, alt-of-node, and-of-node, cat-of-node, not-of-node, star-of-node, rep-of-node, cat-node, cat-of-cat, cat-differs, not-differs, star-differs, rep-differs, alt-differs, and-differs}
+use Rattle.sb_rules.proofs.Shapes.{node-is-alt, node-is-and, node-is-cat, node-is-not, node-is-star, node-is-rep, node-is-path, alt-of-node, and-of-node, cat-of-node, not-of-node, star-of-node, rep-of-node, path-of-node, cat-node, cat-of-cat, cat-differs, not-differs, star-differs, rep-differs, alt-differs, and-differs, path-differs}
 
 -- the first part is a concatenation
 pub cat-first-cat : (rs : List Regex) (a b : ℕ) (d : Node) → OrderTellsApart → node_regex rs d ≡ regex_at rs a
@@ -46,6 +43,20 @@ module _ (old new : List Regex) (id : ℕ) (d : Node) (apart : OrderTellsApart) 
         cat-differs apart (regex_at old a) (regex_at old b)
         (λ e. true≢false (sym (node-is-cat new id once (names_below new id _ is) a b d (number_kept old new a grew la)
         (number_kept old new b grew lb) low (value ∙ names_at new id _ is ∙ e ∙ sym both)) ∙ h))
+
+  module _ (a b : ℕ) (la : a < length old) (lb : b < length old)
+      (is : Names new id (mkpath (regex_at old a) (regex_at old b))) where
+    ends : path (regex_at new a) (regex_at new b) ≡ path (regex_at old a) (regex_at old b)
+    ends = ap₂ path (at_kept old new a grew la) (at_kept old new b grew lb)
+
+    pub path-some : is_path_of a b d ≡ true → Names new id (path (regex_at old a) (regex_at old b))
+    path-some h = names_from new id _ (names_below new id _ is) (sym value ∙ path-of-node new a b d h ∙ ends)
+
+    pub path-none : is_path_of a b d ≡ false → is_normal (path (regex_at old a) (regex_at old b)) ≡ false
+    path-none h =
+        path-differs apart (regex_at old a) (regex_at old b)
+        (λ e. true≢false (sym (node-is-path new id once (names_below new id _ is) a b d (number_kept old new a grew la)
+        (number_kept old new b grew lb) low (value ∙ names_at new id _ is ∙ e ∙ sym ends)) ∙ h))
 
   module _ (a : ℕ) (la : a < length old) where
     pub not-some : Names new id (mknot (regex_at old a)) → is_not_of a d ≡ true
@@ -131,11 +142,45 @@ module _ (rs : List Regex) (order : List ℕ) where
       → of_one (regexes_at rs order) make n ≡ Some (make (regex_at rs id))
   one-made make n id h = ap (option_map make) (named-at rs order n id h)
 
+  -- why a part is refused
+  one-unmade : (make : Regex → Regex) (n : ℕ) → slice_get order n ≡ None
+      → of_one (regexes_at rs order) make n ≡ None
+  one-unmade make n h = ap (option_map make) (slice_get-map (regex_at rs) order n ∙ ap (option_map (regex_at rs)) h)
+
+  pub one-fails : (new : List Regex) (make : Regex → Regex) (n : ℕ) (e : Fault) → IsOne (slice_get order n) (Err e)
+      → IsMade new (of_one (regexes_at rs order) make n) (Err e)
+  one-fails new make n (fault.Refused r) h = (one-unmade make n h.0, h.1)
+  one-fails new make n fault.NoMemory h = tt
+
+  pub first-fails : (new : List Regex) (make : Regex → Regex → Regex) (n m : ℕ) (e : Fault)
+      → IsOne (slice_get order n) (Err e) → IsMade new (of_two (regexes_at rs order) make n m) (Err e)
+  first-fails new make n m (fault.Refused r) h = (
+    ap (option_and_then (λ r. of_one (regexes_at rs order) (make r) m))
+        (slice_get-map (regex_at rs) order n ∙ ap (option_map (regex_at rs)) h.0),
+    h.1,
+  )
+  first-fails new make n m fault.NoMemory h = tt
+
+  pub second-fails : (new : List Regex) (make : Regex → Regex → Regex) (n m : ℕ) (e : Fault)
+      → IsOne (slice_get order m) (Err e) → IsMade new (of_two (regexes_at rs order) make n m) (Err e)
+  second-fails new make n m (fault.Refused r) h = (by (slice_get (regexes_at rs order) n), h.1)
+    where
+      by : (o : Option Regex) → option_and_then (λ r. of_one (regexes_at rs order) (make r) m) o ≡ None
+      by None = refl
+      by (Some q) = one-unmade (make q) m h.0
+  second-fails new make n m fault.NoMemory h = tt
+
   pub cat-made : (n m a b : ℕ) → slice_get order n ≡ Some a → slice_get order m ≡ Some b
       → regex_of_node (regexes_at rs order) (cat_node n m) ≡ Some (cat (regex_at rs a) (regex_at rs b))
   cat-made n m a b h k =
       ap (option_and_then (λ r. of_one (regexes_at rs order) (cat r) m)) (named-at rs order n a h)
       ∙ one-made (cat (regex_at rs a)) m b k
+
+  pub path-made : (n m a b : ℕ) → slice_get order n ≡ Some a → slice_get order m ≡ Some b
+      → regex_of_node (regexes_at rs order) (path_node n m) ≡ Some (path (regex_at rs a) (regex_at rs b))
+  path-made n m a b h k =
+      ap (option_and_then (λ r. of_one (regexes_at rs order) (path r) m)) (named-at rs order n a h)
+      ∙ one-made (path (regex_at rs a)) m b k
 
   pub several-made : (make : List Regex → Regex) (ns ids : List ℕ) → together (map (slice_get order) ns) ≡ Some ids
       → option_map make (together (map (slice_get (regexes_at rs order)) ns)) ≡ Some (make (regexes_at rs ids))
@@ -171,18 +216,6 @@ module _ (rs : List Regex) (order : List ℕ) where
   -- why several are refused
   pub several-fails : (new : List Regex) (make : List Regex → Regex) (ns : List ℕ) (e : Fault)
       → AreSeveral (together (map (slice_get order) ns)) (Err e)
-      → IsMade new true (option_map make (together (map (slice_get (regexes_at rs order)) ns))) (Err e)
-  several-fails new make ns (fault.Refused r) h =
-      ap (early_refusal true) (several-unmade make ns h.0) ∙ ap Some (sym h.1)
+      → IsMade new (option_map make (together (map (slice_get (regexes_at rs order)) ns))) (Err e)
+  several-fails new make ns (fault.Refused r) h = (several-unmade make ns h.0, h.1)
   several-fails new make ns fault.NoMemory h = tt
-
-  -- a node of a kind that is not brought
-  module _ (d : lines.Node) (result : Result (Option ℕ) Fault) where
-    abbrev Refused : lines.Node → Type 0
-    Refused n = IsMade rs (is_brought_node (node_in n)) (regex_of_node (regexes_at rs order) (node_in n)) result
-
-    pub path-refused : (a b : ℕ) → d ≡ line.Path a b
-        → ((ss : List Regex) (make : Regex → Regex → Regex)
-        → IsMade ss false (of_two (regexes_at ss order) make a b) result)
-        → Refused d
-    path-refused a b is h = subst Refused (sym is) (h rs path)

@@ -8,7 +8,7 @@ use Rattle.sb_class.specs.Ranges.{Range, rises_from}
 use Rattle.sb_lang.specs.Regex.{Regex, none, eps, set, cat, alt, and, neg, star, rep, path, regexes, parts}
 use Rattle.sb_lang.specs.Order.{code, regex_eq}
 use Rattle.sb_lang.specs.OrderLaws.{OrderTellsApart}
-use Rattle.sb_lang.specs.Constructors.{mkset, mkcat, mkalt, mkand, mknot, mkstar, mkrep}
+use Rattle.sb_lang.specs.Constructors.{mkset, mkcat, mkalt, mkand, mknot, mkstar, mkrep, mkpath}
 use Rattle.sb_lang.specs.NormalForm.{is_normal, all_normal}
 use Rattle.sb_lang.proofs.CallerLemmas.{parts-regexes, alt_parts, and_parts_of}
 use Rattle.sb_regex.specs.Numbered.{regex_at, regexes_at, AllNumbers, AreDistinct}
@@ -16,7 +16,7 @@ use Rattle.sb_regex.specs.Nodes.{node_regex, PartsBelow}
 use Rattle.sb_regex.specs.declared.node.Node.{Node}
 use Rattle.sb_regex.specs.declared.node.Node.TheVariants as node
 use Rattle.sb_rulebook.proofs.CallerLemmas.{same_regex}
-use Rattle.sb_rules.specs.Making.{is_cat_node, is_cat_of, is_alt_of, is_and_of, is_not_of, is_star_of, is_rep_of}
+use Rattle.sb_rules.specs.Making.{is_cat_node, is_cat_of, is_alt_of, is_and_of, is_not_of, is_star_of, is_rep_of, is_path_of}
 
 -- Tests that fail.
 
@@ -97,6 +97,12 @@ cat-first a b c d h = cc
 cat-second : (a b c d : Regex) → cat a b ≡ cat c d → b ≡ d
 cat-second a b c d h = cc
 
+path-from : (a b c d : Regex) → path a b ≡ path c d → a ≡ c
+path-from a b c d h = cc
+
+path-to : (a b c d : Regex) → path a b ≡ path c d → b ≡ d
+path-to a b c d h = cc
+
 neg-part : (a b : Regex) → neg a ≡ neg b → a ≡ b
 neg-part a b h = cc
 
@@ -129,6 +135,7 @@ module _ (rs : List Regex) (id : ℕ) (once : AreDistinct rs) (below : id < leng
   node-is-alt ids (node.Not a) all low h = absurd (cc)
   node-is-alt ids (node.Star a) all low h = absurd (cc)
   node-is-alt ids (node.Rep a n m) all low h = absurd (cc)
+  node-is-alt ids (node.Path a b) all low h = absurd (cc)
 
   pub node-is-and : (ids : List ℕ) (d : Node) → AllNumbers rs ids → PartsBelow id d
       → node_regex rs d ≡ and (regexes (regexes_at rs ids)) → is_and_of ids d ≡ true
@@ -144,6 +151,7 @@ module _ (rs : List Regex) (id : ℕ) (once : AreDistinct rs) (below : id < leng
   node-is-and ids (node.Not a) all low h = absurd (cc)
   node-is-and ids (node.Star a) all low h = absurd (cc)
   node-is-and ids (node.Rep a n m) all low h = absurd (cc)
+  node-is-and ids (node.Path a b) all low h = absurd (cc)
 
   pub node-is-cat : (a b : ℕ) (d : Node) → a < length rs → b < length rs → PartsBelow id d
       → node_regex rs d ≡ cat (regex_at rs a) (regex_at rs b) → is_cat_of a b d ≡ true
@@ -159,6 +167,23 @@ module _ (rs : List Regex) (id : ℕ) (once : AreDistinct rs) (below : id < leng
   node-is-cat a b (node.Not c) p q low h = absurd (cc)
   node-is-cat a b (node.Star c) p q low h = absurd (cc)
   node-is-cat a b (node.Rep c n m) p q low h = absurd (cc)
+  node-is-cat a b (node.Path c d) p q low h = absurd (cc)
+
+  pub node-is-path : (a b : ℕ) (d : Node) → a < length rs → b < length rs → PartsBelow id d
+      → node_regex rs d ≡ path (regex_at rs a) (regex_at rs b) → is_path_of a b d ≡ true
+  node-is-path a b (node.Path x y) p q low h =
+      let all = parts-numbers rs id (x ∷ y ∷ []) below low in
+      ap₂ ◌&&◌ (same-nat x a (once x a (all 0 0 (omega arith)) p (path-from _ _ _ _ h)))
+      (same-nat y b (once y b (all 1 0 (omega arith)) q (path-to _ _ _ _ h)))
+  node-is-path a b node.None p q low h = absurd (cc)
+  node-is-path a b node.Eps p q low h = absurd (cc)
+  node-is-path a b (node.Set ranges) p q low h = absurd (cc)
+  node-is-path a b (node.Cat c d) p q low h = absurd (cc)
+  node-is-path a b (node.Alt ps) p q low h = absurd (cc)
+  node-is-path a b (node.And ps) p q low h = absurd (cc)
+  node-is-path a b (node.Not c) p q low h = absurd (cc)
+  node-is-path a b (node.Star c) p q low h = absurd (cc)
+  node-is-path a b (node.Rep c n m) p q low h = absurd (cc)
 
   pub node-is-not : (a : ℕ) (d : Node) → a < length rs → PartsBelow id d
       → node_regex rs d ≡ neg (regex_at rs a) → is_not_of a d ≡ true
@@ -173,6 +198,7 @@ module _ (rs : List Regex) (id : ℕ) (once : AreDistinct rs) (below : id < leng
   node-is-not a (node.And ps) p low h = absurd (cc)
   node-is-not a (node.Star b) p low h = absurd (cc)
   node-is-not a (node.Rep b n m) p low h = absurd (cc)
+  node-is-not a (node.Path b c) p low h = absurd (cc)
 
   pub node-is-star : (a : ℕ) (d : Node) → a < length rs → PartsBelow id d
       → node_regex rs d ≡ star (regex_at rs a) → is_star_of a d ≡ true
@@ -187,6 +213,7 @@ module _ (rs : List Regex) (id : ℕ) (once : AreDistinct rs) (below : id < leng
   node-is-star a (node.And ps) p low h = absurd (cc)
   node-is-star a (node.Not b) p low h = absurd (cc)
   node-is-star a (node.Rep b n m) p low h = absurd (cc)
+  node-is-star a (node.Path b c) p low h = absurd (cc)
 
   pub node-is-rep : (a n m : ℕ) (d : Node) → a < length rs → PartsBelow id d
       → node_regex rs d ≡ rep (regex_at rs a) n m → is_rep_of a n m d ≡ true
@@ -202,6 +229,7 @@ module _ (rs : List Regex) (id : ℕ) (once : AreDistinct rs) (below : id < leng
   node-is-rep a n m (node.And ps) p low h = absurd (cc)
   node-is-rep a n m (node.Not b) p low h = absurd (cc)
   node-is-rep a n m (node.Star b) p low h = absurd (cc)
+  node-is-rep a n m (node.Path b c) p low h = absurd (cc)
 
 -- And the other way round.
 
@@ -216,6 +244,7 @@ alt-of-node rs ids (node.And ps) h = absurd (false≢true h)
 alt-of-node rs ids (node.Not a) h = absurd (false≢true h)
 alt-of-node rs ids (node.Star a) h = absurd (false≢true h)
 alt-of-node rs ids (node.Rep a n m) h = absurd (false≢true h)
+alt-of-node rs ids (node.Path a b) h = absurd (false≢true h)
 
 pub and-of-node : (rs : List Regex) (ids : List ℕ) (d : Node) → is_and_of ids d ≡ true
     → node_regex rs d ≡ and (regexes (regexes_at rs ids))
@@ -228,6 +257,7 @@ and-of-node rs ids (node.Alt ps) h = absurd (false≢true h)
 and-of-node rs ids (node.Not a) h = absurd (false≢true h)
 and-of-node rs ids (node.Star a) h = absurd (false≢true h)
 and-of-node rs ids (node.Rep a n m) h = absurd (false≢true h)
+and-of-node rs ids (node.Path a b) h = absurd (false≢true h)
 
 pub cat-of-node : (rs : List Regex) (a b : ℕ) (d : Node) → is_cat_of a b d ≡ true
     → node_regex rs d ≡ cat (regex_at rs a) (regex_at rs b)
@@ -242,6 +272,22 @@ cat-of-node rs a b (node.And ps) h = absurd (false≢true h)
 cat-of-node rs a b (node.Not c) h = absurd (false≢true h)
 cat-of-node rs a b (node.Star c) h = absurd (false≢true h)
 cat-of-node rs a b (node.Rep c n m) h = absurd (false≢true h)
+cat-of-node rs a b (node.Path c d) h = absurd (false≢true h)
+
+pub path-of-node : (rs : List Regex) (a b : ℕ) (d : Node) → is_path_of a b d ≡ true
+    → node_regex rs d ≡ path (regex_at rs a) (regex_at rs b)
+path-of-node rs a b (node.Path x y) h =
+    let p = and_parts (nat_eq x a) (nat_eq y b) h in
+    ap₂ (λ i j. path (regex_at rs i) (regex_at rs j)) (nat-same x a p.0) (nat-same y b p.1)
+path-of-node rs a b node.None h = absurd (false≢true h)
+path-of-node rs a b node.Eps h = absurd (false≢true h)
+path-of-node rs a b (node.Set ranges) h = absurd (false≢true h)
+path-of-node rs a b (node.Cat c d) h = absurd (false≢true h)
+path-of-node rs a b (node.Alt ps) h = absurd (false≢true h)
+path-of-node rs a b (node.And ps) h = absurd (false≢true h)
+path-of-node rs a b (node.Not c) h = absurd (false≢true h)
+path-of-node rs a b (node.Star c) h = absurd (false≢true h)
+path-of-node rs a b (node.Rep c n m) h = absurd (false≢true h)
 
 pub not-of-node : (rs : List Regex) (a : ℕ) (d : Node) → is_not_of a d ≡ true → node_regex rs d ≡ neg (regex_at rs a)
 not-of-node rs a (node.Not x) h = ap (λ i. neg (regex_at rs i)) (nat-same x a h)
@@ -253,6 +299,7 @@ not-of-node rs a (node.Alt ps) h = absurd (false≢true h)
 not-of-node rs a (node.And ps) h = absurd (false≢true h)
 not-of-node rs a (node.Star b) h = absurd (false≢true h)
 not-of-node rs a (node.Rep b n m) h = absurd (false≢true h)
+not-of-node rs a (node.Path b c) h = absurd (false≢true h)
 
 pub star-of-node : (rs : List Regex) (a : ℕ) (d : Node) → is_star_of a d ≡ true
     → node_regex rs d ≡ star (regex_at rs a)
@@ -265,6 +312,7 @@ star-of-node rs a (node.Alt ps) h = absurd (false≢true h)
 star-of-node rs a (node.And ps) h = absurd (false≢true h)
 star-of-node rs a (node.Not b) h = absurd (false≢true h)
 star-of-node rs a (node.Rep b n m) h = absurd (false≢true h)
+star-of-node rs a (node.Path b c) h = absurd (false≢true h)
 
 pub rep-of-node : (rs : List Regex) (a n m : ℕ) (d : Node) → is_rep_of a n m d ≡ true
     → node_regex rs d ≡ rep (regex_at rs a) n m
@@ -281,6 +329,7 @@ rep-of-node rs a n m (node.Alt ps) h = absurd (false≢true h)
 rep-of-node rs a n m (node.And ps) h = absurd (false≢true h)
 rep-of-node rs a n m (node.Not b) h = absurd (false≢true h)
 rep-of-node rs a n m (node.Star b) h = absurd (false≢true h)
+rep-of-node rs a n m (node.Path b c) h = absurd (false≢true h)
 
 -- a node that is none of a concatenation
 pub cat-node : (rs : List Regex) (d : Node) → is_cat_node d ≡ true
@@ -294,6 +343,7 @@ cat-node rs (node.And ps) h = absurd (false≢true h)
 cat-node rs (node.Not b) h = absurd (false≢true h)
 cat-node rs (node.Star b) h = absurd (false≢true h)
 cat-node rs (node.Rep b n m) h = absurd (false≢true h)
+cat-node rs (node.Path a b) h = absurd (false≢true h)
 
 -- Not normal.
 
@@ -327,6 +377,11 @@ module _ (apart : OrderTellsApart) where
   unfolding is_normal
   cat-differs a b h =
       and-false (is_normal a && is_normal b) (regex_eq (mkcat a b) (cat a b)) (other-regex apart _ _ h)
+
+  pub path-differs : (a b : Regex) → (mkpath a b ≡ path a b → ⊥) → is_normal (path a b) ≡ false
+  unfolding is_normal
+  path-differs a b h =
+      and-false (is_normal a && is_normal b) (regex_eq (mkpath a b) (path a b)) (other-regex apart _ _ h)
 
   pub not-differs : (a : Regex) → (mknot a ≡ neg a → ⊥) → is_normal (neg a) ≡ false
   unfolding is_normal

@@ -11,6 +11,7 @@ use Rattle.sb_term.specs.Numbered.{term_at}
 use Rattle.sb_term.specs.Symbols.{sort_in}
 use Rattle.sb_term.specs.declared.sort.Sort as code
 use Rattle.sb_term.specs.declared.assertion.Assertion.{Assertion}
+use Rattle.sb_rulebook.specs.Atoms.{is_well_formed}
 use Rattle.sb_rulebook.specs.Brought.{is_brought_atom}
 use Rattle.sb_rulebook.specs.Kept.{AllKept, Asked, dropped_above, all_dropped}
 use Rattle.sb_rules.specs.declared.kept.Kept.{Kept}
@@ -33,6 +34,7 @@ pub record IsWhole (k : Kept) : Type 0 where
   pub plain : plain.IsRight k.arena k.plain
   pub atoms : HaveRegexesBelow (length k.arena) k.atoms
   pub brought : list_all is_brought_atom k.atoms ≡ true
+  pub formed : list_all is_well_formed k.atoms ≡ true
 
 -- What is kept of the script is of a table of terms.
 pub record IsOver (ts : List Term) (k : Kept) : Type 0 where

@@ -11,3 +11,4 @@ pub mod Making
 pub mod Pieces
 pub mod Ranging
 pub mod Refuting
+pub mod Stepping

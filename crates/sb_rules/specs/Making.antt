@@ -31,6 +31,7 @@ is_cat_node (node.And ps) = false
 is_cat_node (node.Not a) = false
 is_cat_node (node.Star a) = false
 is_cat_node (node.Rep r n m) = false
+is_cat_node (node.Path a b) = false
 
 abbrev pub is_cat_of : ℕ → ℕ → Node → Bool
 is_cat_of a b (node.Cat first second) = nat_eq first a && nat_eq second b
@@ -42,6 +43,7 @@ is_cat_of a b (node.And ps) = false
 is_cat_of a b (node.Not c) = false
 is_cat_of a b (node.Star c) = false
 is_cat_of a b (node.Rep r n m) = false
+is_cat_of a b (node.Path c d) = false
 
 abbrev pub is_alt_of : List ℕ → Node → Bool
 is_alt_of ids (node.Alt ps) = pointwise nat_eq ps.items ids
@@ -53,6 +55,7 @@ is_alt_of ids (node.And ps) = false
 is_alt_of ids (node.Not a) = false
 is_alt_of ids (node.Star a) = false
 is_alt_of ids (node.Rep r n m) = false
+is_alt_of ids (node.Path a b) = false
 
 abbrev pub is_and_of : List ℕ → Node → Bool
 is_and_of ids (node.And ps) = pointwise nat_eq ps.items ids
@@ -64,6 +67,7 @@ is_and_of ids (node.Alt ps) = false
 is_and_of ids (node.Not a) = false
 is_and_of ids (node.Star a) = false
 is_and_of ids (node.Rep r n m) = false
+is_and_of ids (node.Path a b) = false
 
 abbrev pub is_not_of : ℕ → Node → Bool
 is_not_of a (node.Not part) = nat_eq part a
@@ -75,6 +79,7 @@ is_not_of a (node.Alt ps) = false
 is_not_of a (node.And ps) = false
 is_not_of a (node.Star b) = false
 is_not_of a (node.Rep r n m) = false
+is_not_of a (node.Path b c) = false
 
 abbrev pub is_star_of : ℕ → Node → Bool
 is_star_of a (node.Star part) = nat_eq part a
@@ -86,6 +91,7 @@ is_star_of a (node.Alt ps) = false
 is_star_of a (node.And ps) = false
 is_star_of a (node.Not b) = false
 is_star_of a (node.Rep r n m) = false
+is_star_of a (node.Path b c) = false
 
 abbrev pub is_rep_of : ℕ → ℕ → ℕ → Node → Bool
 is_rep_of a n m (node.Rep part least most) = nat_eq part a && (nat_eq least n && nat_eq most m)
@@ -97,6 +103,19 @@ is_rep_of a n m (node.Alt ps) = false
 is_rep_of a n m (node.And ps) = false
 is_rep_of a n m (node.Not b) = false
 is_rep_of a n m (node.Star b) = false
+is_rep_of a n m (node.Path b c) = false
+
+abbrev pub is_path_of : ℕ → ℕ → Node → Bool
+is_path_of a b (node.Path from to) = nat_eq from a && nat_eq to b
+is_path_of a b node.None = false
+is_path_of a b node.Eps = false
+is_path_of a b (node.Set ranges) = false
+is_path_of a b (node.Cat c d) = false
+is_path_of a b (node.Alt ps) = false
+is_path_of a b (node.And ps) = false
+is_path_of a b (node.Not c) = false
+is_path_of a b (node.Star c) = false
+is_path_of a b (node.Rep r n m) = false
 
 -- what is found of a number of the proof
 abbrev pub IsOne : Option ℕ → Result ℕ Fault → Type 0
@@ -110,17 +129,11 @@ AreSeveral found (Ok ids) = found ≡ Some ids.items
 AreSeveral found (Err (fault.Refused refusal)) = (found ≡ None) × (refusal_in refusal ≡ rules.unknown_id)
 AreSeveral found (Err fault.NoMemory) = Unit {0}
 
--- why a node is refused whatever else is kept
-abbrev pub early_refusal : Bool → Option Regex → Option rules.Refusal
-early_refusal brought None = Some rules.unknown_id
-early_refusal true (Some r) = None
-early_refusal false (Some r) = Some rules.rule_broken
-
--- the regex of a node that is brought, made in an arena if it is normal
-abbrev pub IsMade : List Regex → Bool → Option Regex → Result (Option ℕ) Fault → Type 0
-IsMade rs brought made (Ok found) = (r : Regex) × (made ≡ Some r) × (brought ≡ true) × IsNormalAs rs r found
-IsMade rs brought made (Err (fault.Refused refusal)) = early_refusal brought made ≡ Some (refusal_in refusal)
-IsMade rs brought made (Err fault.NoMemory) = Unit {0}
+-- the regex of a node, made in an arena if it is normal
+abbrev pub IsMade : List Regex → Option Regex → Result (Option ℕ) Fault → Type 0
+IsMade rs made (Ok found) = (r : Regex) × (made ≡ Some r) × IsNormalAs rs r found
+IsMade rs made (Err (fault.Refused refusal)) = (made ≡ None) × (refusal_in refusal ≡ rules.unknown_id)
+IsMade rs made (Err fault.NoMemory) = Unit {0}
 
 -- one more regex is kept, which is neither expanded nor dead, unless it was there
 abbrev pub IsAdded : {A : Type 0} → Known → Known → ℕ → Result A Fault → Type 0

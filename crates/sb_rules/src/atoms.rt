@@ -1,8 +1,9 @@
 //! Lines that define atoms.
 
-ghost use Rattle.std.specs.Prelude.{◌≡◌, ◌&&◌, ℕ, List, true, false, nat_lt, map, None, length, slice_get, option_map, IfOk};
+ghost use Rattle.std.specs.Prelude.{◌≡◌, ◌&&◌, ℕ, List, true, not, nat_lt, map, None, length, slice_get, option_map, IfOk};
 ghost use Rattle.std.specs.List.{list_all};
-ghost use Rattle.sb_rulebook.specs.Atoms.{is_conjunction, is_well_formed, map_atom};
+ghost use Rattle.sb_word.specs.Words.{is_character, are_characters};
+ghost use Rattle.sb_rulebook.specs.Atoms.{are_pieces, is_conjunction, is_well_formed, map_atom};
 ghost use Rattle.sb_rulebook.specs.Brought.{is_brought_atom};
 ghost use Rattle.sb_meaning.specs.Sorts.{is_same_sort};
 ghost use Rattle.sb_rulebook.specs.AtomRules.{defined, is_declared, is_declared_piece, is_declared_variable};
@@ -14,9 +15,11 @@ ghost use Rattle.sb_proof.specs.Lines.{atom_in, piece_in, variable_in};
 ghost use Rattle.sb_rules.specs.Kept.{IsWhole, KeepsTerms, kept_in};
 ghost use Rattle.sb_rules.specs.Judged.{Judges, Meets};
 ghost use Rattle.sb_rules.specs.Defining.{IsBroughtAs, have_parts, numbered};
+ghost use Rattle.sb_rules.specs.Stepping.{is_full, may_stand, is_word_piece};
 
 use crate::fault::{Fault, Refusal};
 use crate::kept::Kept;
+use sb_class::LAST_CHARACTER;
 use sb_hints::are_ascending;
 use sb_lang::order::order_tells_apart;
 use sb_lit::Lit;
@@ -154,18 +157,80 @@ impl Kept {
     }
 }
 
-/// Whether an atom that is brought is well formed: each membership of one constant is.
+/// Whether an atom that is brought is well formed. Linear in its pieces and their words.
 fn is_well_formed(atom: &Atom<RegexId>) -> bool
     requires { is_brought_atom (atom_in atom.now) ≡ true }
     ensures { result ≡ is_well_formed (atom_in atom.now) }
 {
     match atom {
         Atom::Bool(_) => true,
-        Atom::In(..) => true,
+        Atom::In(pieces, _) => are_pieces(pieces.as_slice()),
         Atom::And(literals) => is_conjunction(literals),
         Atom::Iff(one, other) => !one.cmp(other).is_gt(),
         Atom::Le(..) | Atom::Sum(..) => unreachable!(),
     }
+}
+
+/// Whether no word is empty, no two are adjacent, and all are of characters.
+fn are_pieces(pieces: &[Piece]) -> bool
+    ensures { result ≡ are_pieces (map piece_in pieces.now) }
+{
+    let mut behind = false;
+    for piece in pieces {
+        if !may_stand(behind, piece) {
+            return false;
+        }
+        behind = is_word(piece);
+    }
+    true
+}
+
+/// Whether a piece may stand here, where a word stands before it or not.
+fn may_stand(behind: bool, piece: &Piece) -> bool
+    ensures { result ≡ may_stand behind (piece_in piece.now) }
+{
+    match piece {
+        Piece::Constant(_) => true,
+        Piece::Word(characters) => may_begin(behind, characters.as_slice()),
+    }
+}
+
+/// Whether a word may stand here, where a word stands before it or not.
+fn may_begin(behind: bool, characters: &[u64]) -> bool
+    ensures { result ≡ (not behind && is_full characters.now) }
+{
+    if behind { false } else { is_full(characters) }
+}
+
+fn is_word(piece: &Piece) -> bool
+    ensures { result ≡ is_word_piece (piece_in piece.now) }
+{
+    match piece {
+        Piece::Constant(_) => false,
+        Piece::Word(_) => true,
+    }
+}
+
+/// Whether there are numbers, and all are characters.
+fn is_full(characters: &[u64]) -> bool
+    ensures { result ≡ is_full characters.now }
+{
+    if characters.is_empty() {
+        return false;
+    }
+    are_characters(characters)
+}
+
+fn are_characters(characters: &[u64]) -> bool
+    ensures { result ≡ are_characters characters.now }
+{
+    characters.iter().all(|character| is_character(*character))
+}
+
+fn is_character(number: u64) -> bool
+    ensures { result ≡ is_character number }
+{
+    number <= LAST_CHARACTER as u64
 }
 
 /// Whether the literals ascend, and are not a single one.

@@ -3,9 +3,10 @@
 ghost use Rattle.std.specs.Prelude.{◌≡◌, ◌<◌, ℕ, List, map, nat_lt, true, Some, length, All, IfOk};
 ghost use Rattle.std.specs.List.{list_all};
 ghost use Rattle.sb_rulebook.specs.Kept.{AllKept, Asked, counting, with_clause};
-ghost use Rattle.sb_rulebook.specs.Lines.{assertion_line, rule_line, learned_line, empty};
+ghost use Rattle.sb_rulebook.specs.Lines.{assertion_line, rule_line, learned_line, empty, step};
 ghost use Rattle.sb_rulebook.specs.ClauseRules.{is_translation};
-ghost use Rattle.sb_rulebook.specs.Splits.{is_empty};
+ghost use Rattle.sb_rulebook.specs.Splits.{is_empty, is_step};
+ghost use Rattle.sb_lit.specs.Clauses.{are_ascending};
 ghost use Rattle.sb_proof.specs.Lines.{rule_in};
 ghost use Rattle.sb_term.specs.Numbered.{term_at};
 ghost use Rattle.sb_rules.specs.Kept.{IsWhole, IsOver, KeepsTerms, HasNumberBelow, kept_in, live_in};
@@ -15,6 +16,7 @@ ghost use Rattle.sb_rules.specs.Refuting.{IsLearned, IsFound};
 use crate::fault::{Fault, Refusal};
 use crate::kept::{Kept, counted};
 use crate::members::{are_of, denied, member};
+use crate::steps::is_step;
 use sb_hints::{NotLearned, are_ascending};
 use sb_lit::Lit;
 use sb_plain::right_stays;
@@ -54,7 +56,7 @@ impl Kept {
         Ok(())
     }
 
-    /// Whether an assertion of the term is decided, and the literal is that of the term.
+    /// Whether an assertion of the term may be stated, and the literal is that of the term.
     fn is_asserted(&mut self, table: &Table, term: TermId, literal: Lit) -> Result<bool, AllocError>
         requires over { IsOver table.now self.old }
         requires number { term < length table.now }
@@ -64,9 +66,6 @@ impl Kept {
         ensures over { IsOver table.now self.new }
     {
         right_stays();
-        if !self.measures.fits_structure(table, term)? {
-            return Ok(false);
-        }
         let found = self.atoms.find_translation(
             &mut self.measures,
             &mut self.normals,
@@ -95,9 +94,51 @@ impl Kept {
         }
         match rule {
             Rule::Gate => self.add_gate(literals),
+            Rule::Step => self.add_step(limit, literals),
             Rule::Empty => self.add_empty(limit, literals),
-            Rule::Order | Rule::Linear | Rule::Step => Err(Fault::Refused(Refusal::RuleBroken)),
+            Rule::Order | Rule::Linear => Err(Fault::Refused(Refusal::RuleBroken)),
         }
+    }
+
+    /// Keeps the clause of a step, where it is one and new.
+    fn add_step(&mut self, limit: u64, literals: &[Lit]) -> Result<(), Fault>
+        requires whole { IsWhole self.old }
+        requires known { list_all (λ l. nat_lt l.atom (length self.old.atoms)) literals.now ≡ true }
+        ensures judges { (asked : Asked) → asked.limit ≡ limit
+            → Judges result asked self.old self.new (rule_line step literals.now) }
+        ensures whole { IsWhole self.new }
+        ensures terms { KeepsTerms self.old self.new }
+    {
+        if self.clauses.is_repeated(literals)? {
+            return Err(Fault::Refused(Refusal::Repeated));
+        }
+        if !are_ascending(literals) {
+            return Err(Fault::Refused(Refusal::RuleBroken));
+        }
+        if !self.is_step(literals)? {
+            return Err(Fault::Refused(Refusal::RuleBroken));
+        }
+        self.add_counted(limit, literals, 0)
+    }
+
+    /// Whether the literals are a step.
+    fn is_step(&mut self, literals: &[Lit]) -> Result<bool, AllocError>
+        requires whole { IsWhole self.old }
+        requires known { list_all (λ l. nat_lt l.atom (length self.old.atoms)) literals.now ≡ true }
+        requires ascending { are_ascending literals.now ≡ true }
+        ensures ok { IfOk result
+            (λ b. (others : AllKept) → b ≡ is_step (kept_in self.old others).atoms literals.now) }
+        ensures kept { (others : AllKept) → kept_in self.new others ≡ kept_in self.old others }
+        ensures whole { IsWhole self.new }
+        ensures terms { KeepsTerms self.old self.new }
+    {
+        is_step(
+            self.alloc,
+            &self.atoms,
+            &mut self.arena,
+            &mut self.plain,
+            literals,
+        )
     }
 
     /// Keeps the clause of memberships of one constant that are not all false, where it is that and new.

@@ -18,9 +18,9 @@ impl Kept {
     /// or a verdict, is misplaced here.
     ///
     /// A line costs what it holds, and what its rule must look at: the normal form of the regex that it defines or of
-    /// the intersection that its clause speaks of; the derivatives by the characters between which an expansion changes;
-    /// the literals of its hints, or of the gates that its clause may be of, and the kept clauses that may be a part of
-    /// it. After want of memory what is kept is as before, but that the atom of the line may be kept.
+    /// the intersection that its clause speaks of; the derivatives by the characters between which an expansion changes,
+    /// or along the word that a step takes off; the literals of its hints, or of the gates that its clause may be of, and
+    /// the kept clauses that may be a part of it. After want of memory what is kept is as before, but that the atom of the line may be kept.
     pub fn follows(
         &mut self,
         table: &Table,

@@ -230,7 +230,7 @@ fn is_set_of(clause: &[Lit], all: &HashSet<Lit>, few: &[Lit]) -> bool
 }
 
 /// Whether each literal is one of the few.
-fn are_among(literals: &[Lit], few: &[Lit]) -> bool
+pub(crate) fn are_among(literals: &[Lit], few: &[Lit]) -> bool
     ensures { result ≡ list_all (λ l. list_any (λ m. are_equal m l) few.now) literals.now }
 {
     literals.iter().all(|literal| few.contains(literal))

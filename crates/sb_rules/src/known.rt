@@ -2,13 +2,11 @@
 
 ghost use Rattle.std.specs.Prelude.{◌≡◌, ◌<◌, ◌∷◌, ◌++◌, [], true, false, None, Some, is_some, nat_eq, nat_lt, List, map, option_map, set, slice_get, length, IfOk, OnOk, OnErr};
 ghost use Rattle.std.specs.List.{list_all, list_any, IsDistinct};
-ghost use Rattle.sb_lang.specs.Regex.{Regex};
 ghost use Rattle.sb_rulebook.specs.Parts.{together};
 ghost use Rattle.sb_regex.specs.Numbered.{regex_at, regexes_at, AllNumbers, Extends};
 ghost use Rattle.sb_rulebook.specs.Kept.{AllKept, Asked, marked, targets_in};
-ghost use Rattle.sb_rulebook.specs.Lines.{regex_line, dead_line, set_node, cat_node, alt_node, and_node, not_node, star_node, rep_node};
-ghost use Rattle.sb_rulebook.specs.Brought.{is_brought_node};
-ghost use Rattle.sb_rulebook.specs.RegexRules.{of_two, regex_of_node};
+ghost use Rattle.sb_rulebook.specs.Lines.{regex_line, dead_line, set_node, cat_node, alt_node, and_node, not_node, star_node, rep_node, path_node};
+ghost use Rattle.sb_rulebook.specs.RegexRules.{regex_of_node};
 ghost use Rattle.sb_rulebook.specs.Follows.{follows};
 ghost use Rattle.sb_rulebook.specs.Splits.{is_dead_regex};
 ghost use Rattle.sb_proof.specs.Lines.{node_in};
@@ -18,7 +16,7 @@ ghost use Rattle.sb_rules.specs.Burying.{AreMembers, has_dead, is_dead_by, is_se
 ghost use Rattle.sb_rules.specs.Making.{IsOne, AreSeveral, IsMade, IsAdded};
 
 use crate::fault::{Fault, Refusal};
-use crate::normal::{alt, and, cat, not, rep, set, star};
+use crate::normal::{alt, and, cat, not, path, rep, set, star};
 use indexmap::IndexSet;
 use sb_lang::order::order_tells_apart;
 use sb_proof::Node;
@@ -288,7 +286,7 @@ impl KnownRegexes {
     /// The number in the arena of the regex of a node, if it is normal.
     fn made(&self, arena: &mut Arena, node: &Node) -> Result<Option<RegexId>, Fault>
         requires known { AllNumbers arena.old self.now.order }
-        ensures made { IsMade arena.new (is_brought_node (node_in node.now))
+        ensures made { IsMade arena.new
             (regex_of_node (regexes_at arena.old self.now.order) (node_in node.now)) result }
         ensures extends { Extends arena.old arena.new }
     {
@@ -302,14 +300,14 @@ impl KnownRegexes {
             Node::Not(a) => self.made_not(arena, *a),
             Node::Star(a) => self.made_star(arena, *a),
             Node::Rep(a, least, most) => self.made_rep(arena, *a, *least, *most),
-            Node::Path(a, b) => self.refused_two(*a, *b),
+            Node::Path(a, b) => self.made_path(arena, *a, *b),
         }
     }
 
     /// The number in the arena of a set, if it is normal.
     fn made_set(&self, arena: &mut Arena, ranges: &[(u64, u64)]) -> Result<Option<RegexId>, Fault>
         requires known { AllNumbers arena.old self.now.order }
-        ensures made { IsMade arena.new true
+        ensures made { IsMade arena.new
             (regex_of_node (regexes_at arena.old self.now.order) (set_node ranges.now)) result }
         ensures extends { Extends arena.old arena.new }
     {
@@ -319,7 +317,7 @@ impl KnownRegexes {
     /// The number in the arena of a concatenation, if it is normal.
     fn made_cat(&self, arena: &mut Arena, a: u64, b: u64) -> Result<Option<RegexId>, Fault>
         requires known { AllNumbers arena.old self.now.order }
-        ensures made { IsMade arena.new true
+        ensures made { IsMade arena.new
             (regex_of_node (regexes_at arena.old self.now.order) (cat_node a b)) result }
         ensures extends { Extends arena.old arena.new }
     {
@@ -331,7 +329,7 @@ impl KnownRegexes {
     /// The number in the arena of a union, if it is normal.
     fn made_alt(&self, arena: &mut Arena, numbers: &[u64]) -> Result<Option<RegexId>, Fault>
         requires known { AllNumbers arena.old self.now.order }
-        ensures made { IsMade arena.new true
+        ensures made { IsMade arena.new
             (regex_of_node (regexes_at arena.old self.now.order) (alt_node numbers.now)) result }
         ensures extends { Extends arena.old arena.new }
     {
@@ -342,7 +340,7 @@ impl KnownRegexes {
     /// The number in the arena of an intersection, if it is normal.
     fn made_and(&self, arena: &mut Arena, numbers: &[u64]) -> Result<Option<RegexId>, Fault>
         requires known { AllNumbers arena.old self.now.order }
-        ensures made { IsMade arena.new true
+        ensures made { IsMade arena.new
             (regex_of_node (regexes_at arena.old self.now.order) (and_node numbers.now)) result }
         ensures extends { Extends arena.old arena.new }
     {
@@ -353,7 +351,7 @@ impl KnownRegexes {
     /// The number in the arena of a complement, if it is normal.
     fn made_not(&self, arena: &mut Arena, a: u64) -> Result<Option<RegexId>, Fault>
         requires known { AllNumbers arena.old self.now.order }
-        ensures made { IsMade arena.new true
+        ensures made { IsMade arena.new
             (regex_of_node (regexes_at arena.old self.now.order) (not_node a)) result }
         ensures extends { Extends arena.old arena.new }
     {
@@ -364,7 +362,7 @@ impl KnownRegexes {
     /// The number in the arena of a star, if it is normal.
     fn made_star(&self, arena: &mut Arena, a: u64) -> Result<Option<RegexId>, Fault>
         requires known { AllNumbers arena.old self.now.order }
-        ensures made { IsMade arena.new true
+        ensures made { IsMade arena.new
             (regex_of_node (regexes_at arena.old self.now.order) (star_node a)) result }
         ensures extends { Extends arena.old arena.new }
     {
@@ -381,7 +379,7 @@ impl KnownRegexes {
         most: u64,
     ) -> Result<Option<RegexId>, Fault>
         requires known { AllNumbers arena.old self.now.order }
-        ensures made { IsMade arena.new true
+        ensures made { IsMade arena.new
             (regex_of_node (regexes_at arena.old self.now.order) (rep_node a least most)) result }
         ensures extends { Extends arena.old arena.new }
     {
@@ -389,14 +387,16 @@ impl KnownRegexes {
         Ok(rep(arena, id, least, most)?)
     }
 
-    /// Why a node of two parts is refused that is of no kind of regexes in proofs so far.
-    fn refused_two(&self, a: u64, b: u64) -> Result<Option<RegexId>, Fault>
-        ensures { (rs : List Regex) (make : Regex → Regex → Regex)
-            → IsMade rs false (of_two (regexes_at rs self.now.order) make a b) result }
+    /// The number in the arena of a path, if it is normal.
+    fn made_path(&self, arena: &mut Arena, a: u64, b: u64) -> Result<Option<RegexId>, Fault>
+        requires known { AllNumbers arena.old self.now.order }
+        ensures made { IsMade arena.new
+            (regex_of_node (regexes_at arena.old self.now.order) (path_node a b)) result }
+        ensures extends { Extends arena.old arena.new }
     {
-        self.one(a)?;
-        self.one(b)?;
-        Err(Fault::Refused(Refusal::RuleBroken))
+        let first = self.one(a)?;
+        let second = self.one(b)?;
+        Ok(path(arena, first, second)?)
     }
 
     /// The number in the arena of the regex of a number.

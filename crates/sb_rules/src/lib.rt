@@ -5,7 +5,9 @@
 //! one of a number in the arena, a clause is looked for by its literals. A regex is normal where its constructor gives
 //! its own node, and new where its number in the arena is. Classes of characters are an expansion where their ranges, in
 //! order, follow one upon the other from the first character to the last, and each leads to the derivative at its first
-//! character and at each cut point of the regex in it. [`Kept::follows`] answers exactly what the rules of proofs say of
+//! character and at each cut point of the regex in it. A clause is a step where its few literals are of the memberships
+//! that the rule names: their pieces are compared one by one, a word is taken off by derivatives along it, and a
+//! constant by the path between the two regexes. [`Kept::follows`] answers exactly what the rules of proofs say of
 //! a line. The layer above takes the lines of a proof along a script.
 #![tactic(auto)]
 
@@ -22,6 +24,8 @@ mod members;
 mod normal;
 mod pieces;
 mod ranges;
+mod splits;
+mod steps;
 
 pub use branches::is_expansion;
 pub use fault::{Fault, Refusal};

@@ -1,9 +1,9 @@
 //! Regexes that lines define, made in an arena where they are normal: where the constructor gives the node itself.
 
 ghost use Rattle.std.specs.Prelude.{◌≡◌, ◌<◌, length, IfOk};
-ghost use Rattle.sb_lang.specs.Regex.{set, cat, alt, and, neg, star, rep, regexes};
+ghost use Rattle.sb_lang.specs.Regex.{set, cat, alt, and, neg, star, rep, path, regexes};
 ghost use Rattle.sb_regex.specs.Numbered.{regex_at, regexes_at, AllNumbers, Extends};
-ghost use Rattle.sb_rules.specs.Making.{IsNormalAs, is_cat_of, is_alt_of, is_and_of, is_not_of, is_star_of, is_rep_of, is_cat_node};
+ghost use Rattle.sb_rules.specs.Making.{IsNormalAs, is_cat_of, is_alt_of, is_and_of, is_not_of, is_star_of, is_rep_of, is_path_of, is_cat_node};
 
 use crate::ranges::class_of;
 use sb_class::Class;
@@ -140,6 +140,23 @@ pub(crate) fn rep(
     Ok(None)
 }
 
+/// The words along which the derivative takes one regex to another. Constant time.
+pub(crate) fn path(arena: &mut Arena, a: RegexId, b: RegexId) -> Result<Option<RegexId>, AllocError>
+    requires left { a < length arena.old }
+    requires right { b < length arena.old }
+    ensures normal { IfOk result
+        (λ found. IsNormalAs arena.new (path (regex_at arena.old a) (regex_at arena.old b)) found) }
+    ensures extends { Extends arena.old arena.new }
+{
+    order_tells_apart();
+    let id = arena.path(a, b)?;
+    arena.normal_regexes_each_once();
+    if is_path_of(arena.node(id), a, b) {
+        return Ok(Some(id));
+    }
+    Ok(None)
+}
+
 fn is_cat(node: &Node) -> bool
     ensures { result ≡ is_cat_node node.now }
 {
@@ -147,6 +164,7 @@ fn is_cat(node: &Node) -> bool
         Node::Cat(..) => true,
         Node::None | Node::Eps | Node::Set(_) => false,
         Node::Alt(_) | Node::And(_) | Node::Not(_) | Node::Star(_) | Node::Rep(..) => false,
+        Node::Path(..) => false,
     }
 }
 
@@ -157,6 +175,7 @@ fn is_cat_of(node: &Node, a: RegexId, b: RegexId) -> bool
         Node::Cat(first, second) => *first == a && *second == b,
         Node::None | Node::Eps | Node::Set(_) => false,
         Node::Alt(_) | Node::And(_) | Node::Not(_) | Node::Star(_) | Node::Rep(..) => false,
+        Node::Path(..) => false,
     }
 }
 
@@ -167,6 +186,7 @@ fn is_alt_of(node: &Node, ids: &[RegexId]) -> bool
         Node::Alt(parts) => parts.as_slice() == ids,
         Node::None | Node::Eps | Node::Set(_) => false,
         Node::Cat(..) | Node::And(_) | Node::Not(_) | Node::Star(_) | Node::Rep(..) => false,
+        Node::Path(..) => false,
     }
 }
 
@@ -177,6 +197,7 @@ fn is_and_of(node: &Node, ids: &[RegexId]) -> bool
         Node::And(parts) => parts.as_slice() == ids,
         Node::None | Node::Eps | Node::Set(_) => false,
         Node::Cat(..) | Node::Alt(_) | Node::Not(_) | Node::Star(_) | Node::Rep(..) => false,
+        Node::Path(..) => false,
     }
 }
 
@@ -187,6 +208,7 @@ fn is_not_of(node: &Node, a: RegexId) -> bool
         Node::Not(part) => *part == a,
         Node::None | Node::Eps | Node::Set(_) => false,
         Node::Cat(..) | Node::Alt(_) | Node::And(_) | Node::Star(_) | Node::Rep(..) => false,
+        Node::Path(..) => false,
     }
 }
 
@@ -197,6 +219,7 @@ fn is_star_of(node: &Node, a: RegexId) -> bool
         Node::Star(part) => *part == a,
         Node::None | Node::Eps | Node::Set(_) => false,
         Node::Cat(..) | Node::Alt(_) | Node::And(_) | Node::Not(_) | Node::Rep(..) => false,
+        Node::Path(..) => false,
     }
 }
 
@@ -209,5 +232,17 @@ fn is_rep_of(node: &Node, a: RegexId, least: u64, most: u64) -> bool
         }
         Node::None | Node::Eps | Node::Set(_) => false,
         Node::Cat(..) | Node::Alt(_) | Node::And(_) | Node::Not(_) | Node::Star(_) => false,
+        Node::Path(..) => false,
+    }
+}
+
+fn is_path_of(node: &Node, a: RegexId, b: RegexId) -> bool
+    ensures { result ≡ is_path_of a b node.now }
+{
+    match node {
+        Node::Path(from, to) => *from == a && *to == b,
+        Node::None | Node::Eps | Node::Set(_) => false,
+        Node::Cat(..) | Node::Alt(_) | Node::And(_) | Node::Not(_) => false,
+        Node::Star(_) | Node::Rep(..) => false,
     }
 }

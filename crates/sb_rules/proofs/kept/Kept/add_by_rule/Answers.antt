@@ -12,16 +12,18 @@ returns-in-Gate-clause-judges c = λ asked limit.
     subst (λ r. Judges c.add_gate.result asked c.args.self.now c.add_gate.new.self
     (rule_line (rule_in r) c.args.literals.now)) (sym c.in-Gate.is) (c.add_gate.ensures.judges asked)
 
+pub returns-in-Step-clause-judges : goal.returns-in-Step-clause-judges
+returns-in-Step-clause-judges c = λ asked limit.
+    subst (λ r. Judges c.add_step.result asked c.args.self.now c.add_step.new.self
+    (rule_line (rule_in r) c.args.literals.now)) (sym c.in-Step.is) (c.add_step.ensures.judges asked limit)
+
 pub returns-in-Order : goal.returns-in-Order
 returns-in-Order c =
     let ls = c.args.literals.now in
     let other : is_brought_rule (rule_in c.args.rule) ls ≡ false =
     elim c.in-Order.is [
       | inl e ↦ ap (λ r. is_brought_rule (rule_in r) ls) e
-      | inr f ↦ elim f [
-        | inl e ↦ ap (λ r. is_brought_rule (rule_in r) ls) e
-        | inr e ↦ ap (λ r. is_brought_rule (rule_in r) ls) e
-      ]
+      | inr e ↦ ap (λ r. is_brought_rule (rule_in r) ls) e
     ]
     in
     record {

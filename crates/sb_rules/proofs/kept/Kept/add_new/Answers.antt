@@ -2,9 +2,11 @@ use Rattle.std.proofs.Common.{[], ◌∷◌, ◌++◌, length, if◌then◌else�
 use Rattle.std.proofs.lemmas.Result.{err_from_is_err_and}
 use Rattle.sb_proof.specs.Lines.{atom_in}
 use Rattle.sb_atoms.specs.Numbered.{atoms_in}
+use Rattle.sb_rulebook.specs.Atoms.{is_well_formed}
+use Rattle.sb_rulebook.specs.Brought.{is_brought_atom}
 use Rattle.sb_rulebook.specs.Refusals.{not_normal}
 use Rattle.sb_rules.specs.Kept.{kept_in}
-use Rattle.sb_rules.proofs.Atomic.{added_new, atom_wanted, whole_with, kept_by_form}
+use Rattle.sb_rules.proofs.Atomic.{added_new, atom_wanted, all_with, below_with, kept_by_form}
 use Rattle.sb_regex.proofs.CallerLemmas.{extends_same}
 use Rattle.sb_rules.proofs.kept.Kept.add_new.Goals as goal
 
@@ -22,17 +24,33 @@ returns-then-not-is_well_formed-clause-defines c = λ others.
 
 pub returns-in_err-add-clause-whole : goal.returns-in_err-add-clause-whole
 returns-in_err-add-clause-whole c =
-    let w = whole_with (length c.args.self.now.arena) c.args.self.now.atoms c.add.new.self
-    (atom_in c.args.atom) c.add.ensures.grows c.requires.whole.atoms c.requires.whole.brought
-    c.requires.regex c.requires.brought in
-    record { regexes = c.requires.whole.regexes; plain = c.requires.whole.plain; atoms = w.0; brought = w.1 }
+    let old = c.args.self.now.atoms in
+    let new = c.add.new.self in
+    let a = atom_in c.args.atom in
+    let whole = c.requires.whole in
+    record {
+      regexes = whole.regexes;
+      plain = whole.plain;
+      atoms = below_with (length c.args.self.now.arena) old new a c.add.ensures.grows whole.atoms c.requires.regex;
+      brought = all_with is_brought_atom old new a c.add.ensures.grows whole.brought c.requires.brought;
+      formed = all_with is_well_formed old new a c.add.ensures.grows whole.formed
+          (sym c.is_well_formed.ensures ∙ c.if-not-is_well_formed.false);
+    }
 
 pub returns-clause-whole : goal.returns-clause-whole
 returns-clause-whole c =
-    let w = whole_with (length c.args.self.now.arena) c.args.self.now.atoms c.add.new.self
-    (atom_in c.args.atom) c.add.ensures.grows c.requires.whole.atoms c.requires.whole.brought
-    c.requires.regex c.requires.brought in
-    record { regexes = c.requires.whole.regexes; plain = c.requires.whole.plain; atoms = w.0; brought = w.1 }
+    let old = c.args.self.now.atoms in
+    let new = c.add.new.self in
+    let a = atom_in c.args.atom in
+    let whole = c.requires.whole in
+    record {
+      regexes = whole.regexes;
+      plain = whole.plain;
+      atoms = below_with (length c.args.self.now.arena) old new a c.add.ensures.grows whole.atoms c.requires.regex;
+      brought = all_with is_brought_atom old new a c.add.ensures.grows whole.brought c.requires.brought;
+      formed = all_with is_well_formed old new a c.add.ensures.grows whole.formed
+          (sym c.is_well_formed.ensures ∙ c.if-not-is_well_formed.false);
+    }
 
 pub returns-clause-defines : goal.returns-clause-defines
 returns-clause-defines c = λ others.

@@ -17,4 +17,5 @@ returns-clause-whole c = record {
   plain = c.requires.plain;
   atoms = c.requires.atoms;
   brought = c.requires.brought;
+  formed = c.requires.formed;
 }

@@ -18,4 +18,5 @@ returns-clause-whole c = record {
   plain = c.right_stays.ensures _ _ _ c.define.ensures.extends c.requires.plain;
   atoms = regexes_kept _ _ _ c.define.ensures.extends c.requires.atoms;
   brought = c.requires.brought;
+  formed = c.requires.formed;
 }

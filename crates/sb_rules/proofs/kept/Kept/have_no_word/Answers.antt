@@ -33,6 +33,7 @@ returns-in_err-ids-clause-whole c = record {
   plain = c.right_stays.ensures _ _ _ c.denied.ensures.extends c.requires.whole.plain;
   atoms = regexes_kept _ _ _ c.denied.ensures.extends c.requires.whole.atoms;
   brought = c.requires.whole.brought;
+  formed = c.requires.whole.formed;
 }
 
 pub returns-in_err-id-clause-kept : goal.returns-in_err-id-clause-kept
@@ -48,6 +49,7 @@ returns-in_err-id-clause-whole c =
       plain = c.right_stays.ensures _ _ _ e c.requires.whole.plain;
       atoms = regexes_kept _ _ _ e c.requires.whole.atoms;
       brought = c.requires.whole.brought;
+      formed = c.requires.whole.formed;
     }
 
 pub is_dead_regex-requires-clause-id : goal.is_dead_regex-requires-clause-id
@@ -78,6 +80,7 @@ returns-clause-whole c =
       plain = c.right_stays.ensures _ _ _ e c.requires.whole.plain;
       atoms = regexes_kept _ _ _ e c.requires.whole.atoms;
       brought = c.requires.whole.brought;
+      formed = c.requires.whole.formed;
     }
 
 pub is_dead_regex-requires-clause-known : goal.is_dead_regex-requires-clause-known

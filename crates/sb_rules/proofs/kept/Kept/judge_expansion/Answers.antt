@@ -98,6 +98,7 @@ returns-clause-whole c = record {
   plain = c.is_expansion.ensures.right;
   atoms = regexes_kept _ _ _ c.is_expansion.ensures.extends c.requires.whole.atoms;
   brought = c.requires.whole.brought;
+  formed = c.requires.whole.formed;
 }
 
 pub returns-then-not-branch-clause-whole : goal.returns-then-not-branch-clause-whole
@@ -106,6 +107,7 @@ returns-then-not-branch-clause-whole c = record {
   plain = c.is_expansion.ensures.right;
   atoms = regexes_kept _ _ _ c.is_expansion.ensures.extends c.requires.whole.atoms;
   brought = c.requires.whole.brought;
+  formed = c.requires.whole.formed;
 }
 
 pub returns-in_err-is_expansion-clause-whole : goal.returns-in_err-is_expansion-clause-whole
@@ -114,6 +116,7 @@ returns-in_err-is_expansion-clause-whole c = record {
   plain = c.is_expansion.ensures.right;
   atoms = regexes_kept _ _ _ c.is_expansion.ensures.extends c.requires.whole.atoms;
   brought = c.requires.whole.brought;
+  formed = c.requires.whole.formed;
 }
 
 pub is_expansion-requires-clause-known : goal.is_expansion-requires-clause-known

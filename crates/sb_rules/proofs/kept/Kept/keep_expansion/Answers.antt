@@ -30,6 +30,7 @@ returns-clause-whole c = record {
   plain = c.requires.whole.plain;
   atoms = c.requires.whole.atoms;
   brought = c.requires.whole.brought;
+  formed = c.requires.whole.formed;
 }
 
 pub returns-in_err-counted-clause-terms : goal.returns-in_err-counted-clause-terms

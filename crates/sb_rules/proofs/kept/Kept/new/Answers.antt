@@ -11,6 +11,7 @@ returns-clause-over c = λ ts. record {
     plain = c.new-2.ensures c.new.result;
     atoms = rw c.new-6.ensures (no_atoms (length c.new.result));
     brought = rw c.new-6.ensures refl;
+    formed = rw c.new-6.ensures refl;
   };
   normals = c.new-3.ensures ts c.new.result;
   measures = rw c.new-4.ensures (record {

@@ -1,4 +1,4 @@
-use Rattle.std.proofs.Common.{Some, refl, sym, ap, subst, ◌∙◌}
+use Rattle.std.proofs.Common.{Some, sym, ap, subst, ◌∙◌}
 use Rattle.std.proofs.lemmas.Result.{err_from_is_err_and}
 use Rattle.sb_lang.specs.Regex.{alt, regexes}
 use Rattle.sb_regex.specs.Numbered.{regexes_at, AllNumbers}
@@ -25,6 +25,5 @@ returns-clause-made c =
       several-made rs c.args.self.now.order (λ ss. alt (regexes ss)) c.args.numbers.now c.in_ok-ids.ids.items
           c.in_ok-ids.ensures
           ∙ ap (λ ids. Some (alt (regexes (regexes_at rs ids)))) (sym c.deref.ensures.value),
-      refl,
       c.in_ok-alt.ensures.normal,
     )

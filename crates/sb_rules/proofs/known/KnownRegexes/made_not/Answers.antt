@@ -1,7 +1,7 @@
-use Rattle.std.proofs.Common.{refl}
+use Rattle.std.proofs.lemmas.Result.{err_from_is_err_and}
 use Rattle.sb_lang.specs.Regex.{neg}
 use Rattle.sb_regex.specs.Numbered.{regex_at}
-use Rattle.sb_rules.proofs.Made.{one-made}
+use Rattle.sb_rules.proofs.Made.{one-made, one-fails}
 use Rattle.sb_rules.proofs.Judged.{known_number}
 use Rattle.sb_rules.proofs.known.KnownRegexes.made_not.Goals as goal
 
@@ -10,7 +10,6 @@ returns-clause-made c =
     let rs = c.args.arena.now in (
       neg (regex_at rs c.in_ok-id.id),
       one-made rs c.args.self.now.order neg c.args.a c.in_ok-id.id c.in_ok-id.ensures,
-      refl,
       c.in_ok-not.ensures.normal,
     )
 
@@ -18,3 +17,10 @@ pub not-requires : goal.not-requires
 not-requires c =
     known_number c.args.arena.now c.args.self.now.order c.args.a c.in_ok-id.id c.requires.known
     c.in_ok-id.ensures
+
+pub returns-in_err-id-clause-made : goal.returns-in_err-id-clause-made
+returns-in_err-id-clause-made c =
+    let p = err_from_is_err_and c.from_residual.result c.from_residual.ensures.1 in
+    rw (p.1, p.2)
+    (one-fails c.args.arena.now c.args.self.now.order c.args.arena.now neg c.args.a c.in_err-id.field-0.0
+    c.in_err-id.ensures)
