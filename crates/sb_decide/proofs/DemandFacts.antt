@@ -1,6 +1,6 @@
 -- Terms that demand something of one constant's word: they ask for it, or are the denial of a term that does. Which
 -- constant stands in them, what they mean, when they are decided ones, and the regexes that they demand.
-use Rattle.sb_decide.proofs.Words.{Bool, Demand, IsAsking, IsNumberOf, IsRegexOf, List, Meaning, Names, None, Option, RegLan, Regex, Some, Sort, Symbol, Term, Terms, Text, Valuation, [], a_membership, a_word_behind, a_word_in_front, all_true, and-true, and_parts, ap, applied, apply, asked, asked_holds, asked_looks, asked_occurs, asked_regular, asked_structure, asserted, complement_of, constant, demanded, expression_in, false, false≢true, fits, has_serials_below, have_serials_below, holds, if◌then◌else◌, in_re, is_about, is_decided, is_demand, is_of_constant, is_plain_term, is_regex, is_regular, is_structure, length, meaning_of, means_number, means_reglan, means_truth, means_word, membership_of, mknot, names_at, nat_lt, negation_of, no_terms, none-some, normal, not, occurs, option_map, or_parts, pattern_in, re_comp, refl, regex_at, speak_of, speaks_of, subst, sym, symbol_in, terms_at, terms_of, text, true, truth_in, value_in, with_term, ℕ, ◌&&◌, ◌==◌, ◌||◌, ◌∙◌, ◌∷◌, ◌≡◌}
+use Rattle.sb_decide.proofs.Words.{Bool, Demand, IsAsking, IsNumberOf, IsRegexOf, List, Meaning, Names, None, Option, RegLan, Regex, Some, Sort, Symbol, Term, Terms, Text, Valuation, [], a_membership, a_word_behind, a_word_in_front, all_true, and-true, and_parts, ap, applied, apply, asked, asked_holds, asked_looks, asked_occurs, asked_regular, asked_structure, asserted, complement_of, constant, demanded, expression_in, false, false≢true, fits, has_serials_below, have_serials_below, holds, if◌then◌else◌, in_re, is_about, is_decided, is_demand, is_of_constant, is_plain_term, is_regex, is_regular, is_structure, is_unjoined, length, meaning_of, means_number, means_reglan, means_truth, means_word, membership_of, mknot, names_at, nat_lt, negation_of, no_terms, none-some, normal, not, occurs, option_map, or_parts, pattern_in, re_comp, refl, regex_at, speak_of, speaks_of, subst, sym, symbol_in, terms_at, terms_of, text, true, truth_in, value_in, with_term, ℕ, ◌&&◌, ◌==◌, ◌||◌, ◌∙◌, ◌∷◌, ◌≡◌}
 use Rattle.sb_meaning.specs.Terms as symbol
 use Rattle.sb_term.specs.declared.sort.Symbol.TheVariants as code
 
@@ -48,7 +48,7 @@ demanded_looks (apply symbol.core_not (with_term u no_terms)) serial R h =
     denial_of u serial R (asked u) refl h
 demanded_looks _ serial R h = an_asking h
 
--- a decided term demands a regular expression over literals
+-- a decided term demands a regular expression over words
 pub record IsDemanded (t : Term) : Type 0 where
   pub serial : ℕ
   pub expression : Term
@@ -137,7 +137,7 @@ demanded_about n t serial R h plain = step (demanded_looks t serial R h)
 
 -- The meaning.
 
--- a regular expression over literals means one
+-- a regular expression over words means one
 record IsMeant (v : Valuation) (R : Term) : Type 0 where
   reglan : RegLan
   means : meaning_of v R ≡ means_reglan reglan
@@ -222,11 +222,13 @@ demanded_structure t serial R h = step (demanded_looks t serial R h)
         ∙ asked_structure u serial S asks
         ∙ sym (ap is_regex same)
 
--- what a decided one demands is a regular expression over literals
+-- what a decided one demands is a regular expression over words
 pub decided_kind : (t : Term) (serial : ℕ) (R : Term) → demanded t ≡ Some (serial, R)
     → is_decided (asserted t) ≡ true → is_regex R ≡ true
 decided_kind t serial R h decided =
-    sym (demanded_structure t serial R h) ∙ (and_parts (is_structure t) (fits t) decided).0
+    sym (demanded_structure t serial R h)
+    ∙ (and_parts (is_structure t) (is_unjoined t)
+    (and_parts (is_structure t && is_unjoined t) (fits t) decided).0).0
 
 -- Plain terms.
 
@@ -277,7 +279,7 @@ complement_regex old new R id complement r names = record {
       ∙ ap Some (sym (normal_complement r.reglan));
 }
 
--- what the word is to be in is no regular expression over literals where the pattern is none
+-- what the word is to be in is no regular expression over words where the pattern is none
 pub no_regex : (rs : List Regex) (ts : List Term) (d : Demand) → is_regex (pattern_in ts d.pattern) ≡ false
     → IsNumberOf rs (expression_in ts d) None
 no_regex rs ts d none = by_test d.positive

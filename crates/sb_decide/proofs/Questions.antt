@@ -1,5 +1,5 @@
 -- What a search is asked about.
-use Rattle.sb_decide.proofs.Words.{append-nil, ◌≡◌, ℕ, zero, suc, ◌+◌, ◌<◌, ◌≤◌, ◌⊎◌, inl, inr, Bool, true, false, ◌||◌, ◌==◌, if◌then◌else◌, List, [], ◌∷◌, ◌++◌, length, get_or, drop, slice_get, Option, Some, None, refl, sym, ap, ap₂, subst, ◌∙◌, arith, append_assoc, All, All-contains, Conjoined, Contains, Contains-append_cases, Contains-append_left, Contains-append_right, Contains-get_or, Decider, HasNoWordAt, IfSome, IsAbout, IsClash, IsPlaceOf, IsQuestion, IsReady, IsSpoken, Knows, Member, OccursNowhereAt, Serial, Stacked, Term, Terms, and_parts, apply, are_regexes, asked, asked_occurs, asks_of, asserted, assertion_in, conjoined_at, demanded, drop_all, drop_more, eq-eqb, eqb-true, false_from_ne_true, false≢true, is_decided, is_listed, is_plain, is_regex, length-map, live, live_laid, nil_from_length, no_terms, none-some, occurs, occurs_in_some, or_left, or_right, other_places, places_in, places_of, places_of_all, same_Some, slice_get-get_or, slice_get_within, state_of, with_term, word, Contains-permutation, IsPermutation-sym, length_permutation, IsPermutation}
+use Rattle.sb_decide.proofs.Words.{append-nil, ◌≡◌, ℕ, zero, suc, ◌+◌, ◌<◌, ◌≤◌, ◌⊎◌, inl, inr, Bool, true, false, ◌||◌, ◌==◌, if◌then◌else◌, List, [], ◌∷◌, ◌++◌, length, get_or, drop, slice_get, Option, Some, None, refl, sym, ap, ap₂, subst, ◌∙◌, arith, append_assoc, All, All-contains, Conjoined, Contains, Contains-append_cases, Contains-append_left, Contains-append_right, Contains-get_or, Decider, HasNoWordAt, IfSome, IsAbout, IsClash, IsPlaceOf, IsQuestion, IsReady, IsSpoken, Knows, Member, OccursNowhereAt, Serial, Stacked, Term, Terms, and_parts, apply, are_regexes, are_texts, asked, asked_occurs, asks_of, asserted, assertion_in, conjoined_at, demanded, drop_all, drop_more, eq-eqb, eqb-true, false_from_ne_true, false≢true, is_decided, is_listed, is_plain, is_regex, is_text, length-map, live, live_laid, nil_from_length, no_terms, none-some, occurs, occurs_in_some, or_left, or_right, other_places, places_in, places_of, places_of_all, same_Some, slice_get-get_or, slice_get_within, state_of, with_term, word, Contains-permutation, IsPermutation-sym, length_permutation, IsPermutation}
 use Rattle.sb_meaning.specs.Terms as symbol
 use Rattle.sb_decide.proofs.AskingTerms.{IsAskedOf, asks_in, asks_same}
 use Rattle.sb_decide.proofs.DemandFacts.{IsDemanding, an_asking, a_denial, decided_kind, demanded_looks}
@@ -12,11 +12,26 @@ use Rattle.sb_decide.proofs.TakingOver.{plain_alone, plain_silent}
 alone : (n : ℕ) (R : Term) → occurs n R ≡ false → occurs_in_some n (with_term R no_terms) ≡ false
 alone n R h = ap (λ b. b || false) h
 
--- none occurs in a regular expression over literals
+-- none occurs in a word
+mutual
+  text_occurs : (n : ℕ) (t : Term) → is_text t ≡ true → occurs n t ≡ false
+  text_occurs n (word w) h = refl
+  text_occurs n (apply symbol.str_concat terms) h = texts_occur n terms h
+  text_occurs n _ h = absurd (false≢true h)
+
+  texts_occur : (n : ℕ) (ts : Terms) → are_texts ts ≡ true → occurs_in_some n ts ≡ false
+  texts_occur n no_terms h = refl
+  texts_occur n (with_term t ts) h =
+      let parts = and_parts (is_text t) (are_texts ts) h in
+      rw (text_occurs n t parts.0) (texts_occur n ts parts.1)
+
+-- nor in a regular expression over words
 mutual
   regex_occurs : (n : ℕ) (R : Term) → is_regex R ≡ true → occurs n R ≡ false
-  regex_occurs n (apply symbol.str_to_re (with_term (word s) no_terms)) h = refl
-  regex_occurs n (apply symbol.re_range (with_term (word s) (with_term (word t) no_terms))) h = refl
+  regex_occurs n (apply symbol.str_to_re (with_term t no_terms)) h = alone n t (text_occurs n t h)
+  regex_occurs n (apply symbol.re_range (with_term s (with_term t no_terms))) h =
+      let parts = and_parts (is_text s) (is_text t) h in
+      rw (text_occurs n s parts.0) (alone n t (text_occurs n t parts.1))
   regex_occurs n (apply symbol.re_none no_terms) h = refl
   regex_occurs n (apply symbol.re_all no_terms) h = refl
   regex_occurs n (apply symbol.re_allchar no_terms) h = refl

@@ -98,7 +98,7 @@ pub(crate) fn regex_of(
     Ok(Some(complement))
 }
 
-/// The same, where the demand is for a word of a regular expression over literals.
+/// The same, where the demand is for a word of a regular expression over words.
 pub(crate) fn regular_of(
     table: &Table,
     store: &mut Store,

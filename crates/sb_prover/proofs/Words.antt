@@ -32,7 +32,7 @@ pub use Rattle.sb_meaning.specs.Terms.{Sort, Term, Terms, apply, boolean, consta
 pub use Rattle.sb_meaning.specs.Truth.{all_hold, applied, holds, meaning_of, meanings_of, means_reglan}
 pub use Rattle.sb_meaning.specs.Values.{Text, Valuation, default_of, is_of, value_in}
 pub use Rattle.sb_script.proofs.CallerLemmas.{asked_regular, entry_keeps}
-pub use Rattle.sb_script.specs.Brought.{is_regex, is_structure, proofs}
+pub use Rattle.sb_script.specs.Brought.{is_regex, is_structure, is_unjoined, proofs}
 pub use Rattle.sb_script.specs.Fragment.{are_in_fragment, are_inside, in_fragment, is_decided, is_inside}
 pub use Rattle.sb_script.specs.Models.{IsGiven, are_defaults, is_default, is_default_or_occurs, occurs}
 pub use Rattle.sb_script.specs.Names.{Name}

@@ -1,6 +1,8 @@
 -- What is put of an assertion: the lines of its atoms, and its clause.
-use Rattle.sb_refute.proofs.Words.{◌≡◌, ℕ, ◌^◌, ◌<◌, Bool, true, false, nat_eq, if◌then◌else◌, List, [], ◌∷◌, ◌++◌, length, slice_get, Option, Some, None, Ok, IfSome, refl, sym, ap, subst, ◌∙◌, arith, EvidencesUncounted, ◌≢◌, and_from, lt-ltb, nat_tests, length-map, none-some, same_Some, some-none, Lit, Kept, Regex, Memo, line, AtomOver, follows, AllKept, Asked, with_clause, assertion_line, text_of, is_small, is_small_literal, translation, AssertionLinesAreExact, with_bytes, over, brought_translation, puts_none, puts_one, puts_both, Backing, Backs, IsStatement, KeepsAsserted, asserted_at, unit_at, Asserted, AreDue, IsAssertion, IsClaimed, IsStanding, Leads, LeadsClaimed, placed, Stand, Term, is_structure, Atom, AreDefined}
-use Rattle.sb_script.specs.Fragment.{is_decided}
+use Rattle.sb_refute.proofs.Words.{◌≡◌, ℕ, ◌^◌, ◌<◌, Bool, true, false, nat_eq, if◌then◌else◌, List, [], ◌∷◌, ◌++◌, length, slice_get, Option, Some, None, Ok, IfSome, refl, sym, ap, subst, ◌∙◌, arith, EvidencesUncounted, ◌≢◌, and_from, and_parts, ◌&&◌, lt-ltb, nat_tests, length-map, none-some, same_Some, some-none, Lit, Kept, Regex, Memo, line, AtomOver, follows, AllKept, Asked, with_clause, assertion_line, text_of, is_small, is_small_literal, translation, AssertionLinesAreExact, with_bytes, over, brought_translation, puts_none, puts_one, puts_both, Backing, Backs, IsStatement, KeepsAsserted, asserted_at, unit_at, Asserted, AreDue, IsAssertion, IsClaimed, IsStanding, Leads, LeadsClaimed, placed, Stand, Term, is_structure, Atom, AreDefined}
+use Rattle.sb_script.specs.Brought.{a_statement_of, is_unjoined}
+use Rattle.sb_script.specs.Brought as script
+use Rattle.sb_script.specs.Fragment.{fits, is_decided}
 use Rattle.sb_script.specs.State as state
 use Rattle.sb_refute.proofs.Backs.{backs-clause, backs-without, units-placed}
 use Rattle.sb_refute.proofs.Holding.{gates-more}
@@ -21,13 +23,23 @@ structure-is atoms t l h = step (is_structure t) h
     step true h = sym h
     step false h = absurd (none-some l (sym h))
 
+-- what is decided may be stated
+may-be-stated : (t : Term) → is_decided (state.asserted t) ≡ true → is_structure t ≡ true
+may-be-stated t h =
+    (and_parts (is_structure t) (is_unjoined t) (and_parts (is_structure t && is_unjoined t) (fits t) h).0).0
+
 -- its literal is the assertion's, if it has one
 pub is-statement : (asked : Asked) (atoms : List Atom) (place : ℕ) (t : Term) (found : Option Lit) (level : ℕ)
     → IsStatement asked place t level → found ≡ brought_translation atoms t
     → IfSome found (λ l. IsAssertion asked atoms place l level)
 is-statement asked atoms place t None level stated literal = tt
 is-statement asked atoms place t (Some l) level stated literal =
-    record { term = t; live = stated.live; decided = stated.decided; literal = structure-is atoms t l literal }
+    record {
+      term = t;
+      live = stated.live;
+      stated = may-be-stated t stated.decided;
+      literal = structure-is atoms t l literal;
+    }
 
 -- Lines that are put one behind another.
 
@@ -57,15 +69,16 @@ leads-both asked rs memo e f g x y z first second before b =
 -- The line of an assertion's clause.
 
 assertion-follows : AssertionLinesAreExact → (asked : Asked) (kept : AllKept) (place : ℕ) (l : Lit) (t : Term)
-    (level : ℕ) → slice_get asked.live place ≡ Some (Some t, level) → is_decided (state.asserted t) ≡ true
+    (level : ℕ) → slice_get asked.live place ≡ Some (Some t, level)
+    → script.is_brought (a_statement_of t) ≡ true
     → l.atom < length kept.atoms → translation kept.atoms t ≡ Some l
     → follows asked kept (assertion_line place l) ≡ Ok (with_clause kept (l ∷ []) level (place ∷ []))
-assertion-follows exact asked kept place l t level live decided known literal =
+assertion-follows exact asked kept place l t level live stated known literal =
     (exact asked kept (with_clause kept (l ∷ []) level (place ∷ [])) place l).1 (record {
       term = t;
       level = level;
       live = live;
-      decided = decided;
+      stated = stated;
       defined = known;
       literal = literal;
       is_kept = refl;
@@ -80,7 +93,7 @@ assertion-put exact e place a old new known number sp sa told = λ asked rs memo
   after = with_clause before (a.literal ∷ []) a.level (place ∷ []);
   puts = puts_one asked before (with_clause before (a.literal ∷ []) a.level (place ∷ []))
       (assertion_line place a.literal) old new
-      (assertion-follows exact asked before place a.literal is.term a.level is.live is.decided
+      (assertion-follows exact asked before place a.literal is.term a.level is.live is.stated
       (omega (arith, ap length b.atoms, length-map e.atoms (over rs), known))
       (ap (λ (atoms : List Atom). translation atoms is.term) b.atoms ∙ is.literal))
       (and_from (is_small place) (is_small_literal a.literal) (lt-ltb place (2 ^ 64) sp)

@@ -6,3 +6,5 @@ pub use Rattle.sb_refute.proofs.Clauses.{kept-cases, kept-stays, each-reserved, 
 pub use Rattle.sb_refute.proofs.Holding.{stand-traced}
 pub use Rattle.sb_refute.proofs.GateLines.{cons-cases, not-in-nil}
 pub use Rattle.sb_refute.proofs.GateLiterals.{all-ordered, each-part, of-gate}
+-- and of clauses that have only literals of others
+pub use Rattle.sb_refute.proofs.Settled.{covered-stays, covered-turned, gates-stay}

@@ -1,20 +1,9 @@
 -- The lines of atoms of any kind follow.
-use Rattle.sb_refute.proofs.Words.{◌≡◌, ℕ, zero, suc, ◌+◌, ◌^◌, ◌<◌, Bool, true, false, ◌&&◌, ◌||◌, if◌then◌else◌, List, [], ◌∷◌, ◌++◌, length, take, slice_get, Option, Some, None, is_some, option_map, Result, Ok, Err, refl, sym, ap, subst, ◌∙◌, arith, list_any, and_from, false≢true, lt-ltb, slice_get_within, slice_get-map, get_or_from_slice_get, map-append, take_more, take_at, length-map, length-take-le, Regex, Memo, line, AtomOver, bool_atom, in_atom, le_atom, sum_atom, and_atom, iff_atom, is_same_atom, is_well_formed, AllKept, Asked, atom_line, text_of, is_small, atom_has_text, by_rule, not_brought, follows, with_bytes, Names, AreDistinct, Extends, over, atoms_in, HasRegexBelow, HaveRegexesBelow, over_one, Traced, Tracks, TracesUncounted, puts_none, puts_one, puts_both, Backing, EvidencesUncounted, AreDue, IsLineOf, IsWritten, Leads, OrderTellsApart, regex_at, Piece, constant_piece, Refusal, unknown_id, repeated, not_normal, Atom, has_its_parts, with_regex, defined, is_brought, same_atom}
+use Rattle.sb_refute.proofs.Words.{◌≡◌, ℕ, zero, suc, ◌+◌, ◌^◌, ◌<◌, Bool, true, false, ◌||◌, if◌then◌else◌, List, [], ◌∷◌, ◌++◌, length, take, slice_get, Option, Some, None, option_map, Result, Ok, Err, refl, sym, ap, subst, ◌∙◌, arith, list_any, and_from, lt-ltb, slice_get_within, slice_get-map, get_or_from_slice_get, map-append, take_more, take_at, length-map, length-take-le, Regex, Memo, line, AtomOver, bool_atom, in_atom, le_atom, sum_atom, and_atom, iff_atom, is_same_atom, is_well_formed, AllKept, Asked, atom_line, text_of, is_small, atom_has_text, by_rule, not_brought, follows, with_bytes, Names, AreDistinct, Extends, over, atoms_in, HasRegexBelow, HaveRegexesBelow, over_one, Traced, Tracks, TracesUncounted, puts_none, puts_one, puts_both, Backing, EvidencesUncounted, AreDue, IsLineOf, IsWritten, Leads, OrderTellsApart, regex_at, Piece, Refusal, unknown_id, repeated, not_normal, Atom, has_its_parts, with_regex, defined, is_brought, same_atom, ap₂, all_push, get_or, is_small_piece, list_all, map}
+use Rattle.sb_proof.specs.Lines.{piece_in}
+use Rattle.sb_proof.specs.declared.atom.Piece as code
 use Rattle.sb_regex.specs.Numbered as regex
-use Rattle.sb_rulebook.specs.Atoms.{constant_of, member_in}
-use Rattle.sb_rulebook.specs.Brought.{is_brought_atom}
 use Rattle.sb_refute.proofs.Backs.{tracks-beside}
-
--- a membership that is brought is of one constant
-pub no-member : (a : AtomOver ℕ) (ps : List Piece) (r : ℕ) → a ≡ in_atom ps r → is_brought_atom a ≡ true
-    → member_in a ≡ None → ⊥
-no-member a ps r is brought none =
-    step (constant_of ps) (subst (λ (b : AtomOver ℕ). is_brought_atom b ≡ true) is brought)
-    (subst (λ (b : AtomOver ℕ). member_in b ≡ None) is none)
-  where
-    step : (o : Option ℕ) → is_some o ≡ true → option_map {T = ℕ} {U = ℕ × ℕ} (λ serial. (serial, r)) o ≡ None → ⊥
-    step None brought none = false≢true brought
-    step (Some serial) brought none = Prim.cc (none)
 
 -- The atoms before a number.
 
@@ -104,24 +93,39 @@ plain-line asked before rs memo t a l b told is written brought plain tracks =
     }))
 
 -- with the number of its regex
-pub member-line : (asked : Asked) (before : AllKept) (rs : List Regex) (memo : Memo) (t : Traced) (x r n : ℕ)
-    (ps : List Piece) (old new : Option (List ℕ)) → ps ≡ constant_piece x ∷ [] → x < 2 ^ 64 → n < 2 ^ 64
+pub member-line : (asked : Asked) (before : AllKept) (rs : List Regex) (memo : Memo) (t : Traced) (r n : ℕ)
+    (ps qs : List Piece) (old new : Option (List ℕ)) → ps ≡ qs → list_all is_small_piece qs ≡ true → n < 2 ^ 64
     → slice_get t.order n ≡ Some r → TracesUncounted asked before rs memo t old new
-    → IsLineOf asked before rs memo t (in_atom (constant_piece x ∷ []) r) (in_atom ps n) old new
-member-line asked before rs memo t x r n ps old new is small fits number traced =
-    subst (λ (qs : List Piece). IsLineOf asked before rs memo t (in_atom (constant_piece x ∷ []) r) (in_atom qs n) old
-    new)
-    (sym is)
+    → IsLineOf asked before rs memo t (in_atom qs r) (in_atom ps n) old new
+member-line asked before rs memo t r n ps qs old new is small fits number traced =
+    subst (λ (xs : List Piece). IsLineOf asked before rs memo t (in_atom qs r) (in_atom xs n) old new) (sym is)
     (record {
       traced = traced;
-      defined = ap (option_map {T = Regex} (in_atom (constant_piece x ∷ [])))
+      defined = ap (option_map {T = Regex} (in_atom qs))
           (ap (λ known. slice_get known n) traced.2.regexes ∙ slice_get-map (regex_at rs) t.order n
           ∙ ap (option_map (regex_at rs)) number);
       brought = refl;
       parts = λ sorts atoms. refl;
-      text = and_from (is_small x && true) (is_small n) (and_from (is_small x) true (lt-ltb x (2 ^ 64) small) refl)
-          (lt-ltb n (2 ^ 64) fits);
+      text = and_from (list_all is_small_piece qs) (is_small n) small (lt-ltb n (2 ^ 64) fits);
     })
+
+-- Pieces that are copied.
+
+pub pieces-more : (ps : List code.Piece) (i : ℕ) (d : code.Piece) (now new : List code.Piece) (p : code.Piece)
+    → i < length ps
+    → (map piece_in now ≡ map piece_in (take i ps)) × (list_all is_small_piece (map piece_in (take i ps)) ≡ true)
+    → piece_in p ≡ piece_in (get_or ps i d) → is_small_piece (piece_in (get_or ps i d)) ≡ true → new ≡ now ++ p ∷ []
+    → (map piece_in new ≡ map piece_in (take (i + 1) ps))
+    × (list_all is_small_piece (map piece_in (take (i + 1) ps)) ≡ true)
+pieces-more ps i d now new p within before is small pushed = (
+  ap (map piece_in) pushed ∙ map-append piece_in now (p ∷ [])
+      ∙ ap₂ (λ (xs : List Piece) (x : Piece). xs ++ x ∷ []) before.0 is ∙ sym taken,
+  ap (list_all is_small_piece) taken
+      ∙ all_push is_small_piece (map piece_in (take i ps)) (piece_in (get_or ps i d)) before.1 small,
+)
+  where
+    taken : map piece_in (take (i + 1) ps) ≡ map piece_in (take i ps) ++ piece_in (get_or ps i d) ∷ []
+    taken = ap (map piece_in) (take_more ps i d within) ∙ map-append piece_in (take i ps) (get_or ps i d ∷ [])
 
 -- Lines one behind another.
 

@@ -1,14 +1,19 @@
 -- What is known of all that stands in a proof stays so where clauses are added and dropped.
-use Rattle.sb_refute.proofs.Words.{kept_at-up_to, ◌≡◌, ℕ, ◌+◌, ◌<◌, ◌≤◌, inl, inr, Bool, true, false, nat_lt, List, [], ◌∷◌, ◌++◌, length, map, take, Option, Some, None, Result, Ok, Err, IfSome, refl, sym, ap, subst, ◌∙◌, arith, length-append, ◌≢◌, OnErr, IfOk, ltb-true, lt-ltb, nat_tests, none-some, all_push, all_weaker, Lit, Kept, KeptClause, are_reserved, is_reserved, has_room_for, AtomOver, Names, Extends, NameEarlier, earlier_none, earlier_more, named_before, Traced, Asserted, EmptyClause, Backing, HasGates, HasGatesOf, IsLowestEmpty, left_above, left_all, Becomes, placed, Stand}
+use Rattle.sb_refute.proofs.Words.{kept_at-up_to, ◌≡◌, ℕ, ◌+◌, ◌<◌, ◌≤◌, inl, inr, Bool, true, false, nat_lt, List, [], ◌∷◌, ◌++◌, length, map, take, Option, Some, None, Result, Ok, Err, IfSome, refl, sym, ap, subst, ◌∙◌, arith, length-append, ◌≢◌, OnErr, IfOk, ltb-true, lt-ltb, nat_tests, none-some, all_push, all_weaker, Lit, Kept, KeptClause, are_reserved, is_reserved, has_room_for, AtomOver, Names, Extends, NameEarlier, earlier_none, earlier_more, named_before, Traced, Asserted, EmptyClause, Backing, HasGates, HasGatesOf, IsLowestEmpty, left_above, left_all, Becomes, placed, Stand, is_unjoined_atom, is_well_formed, list_all, slice_get_within}
 use Rattle.sb_refute.proofs.Clauses.{front, none-at, none-kept, kept-stays, each-reserved, room-for-each, stays, none-stays}
 use Rattle.sb_refute.proofs.Lowest.{lowest-more, lowest-left}
 use Rattle.sb_refute.proofs.Places.{placed-cases}
+
+none-named : (i : ℕ) (a : AtomOver ℕ) → Names [] i a → ⊥
+none-named i a h = omega (arith, slice_get_within [] i a h)
 
 pub stand-none : (t : Traced)
     → Stand (record { trace = t; atoms = []; kept = []; asserted = []; refuted = None; gates = 0 })
 stand-none t = record {
   of_atoms = λ place a h. absurd (none-some a (sym (none-at place) ∙ h));
   earlier = earlier_none [];
+  formed = λ i a h. absurd (none-named i a h);
+  unjoined = refl;
   known = refl;
   lowest = λ id clause h. absurd (none-kept id clause h);
   gates_known = omega arith;
@@ -20,6 +25,8 @@ pub stand-traced : (e : Backing) (t : Traced) → Stand e → Stand (record e { 
 stand-traced e t h = record {
   of_atoms = h.of_atoms;
   earlier = h.earlier;
+  formed = h.formed;
+  unjoined = h.unjoined;
   known = h.known;
   lowest = h.lowest;
   gates_known = h.gates_known;
@@ -39,6 +46,8 @@ pub stand-clause : (e : Backing) (clause : KeptClause) → are_reserved (length 
 stand-clause e clause new some h = record {
   of_atoms = h.of_atoms;
   earlier = h.earlier;
+  formed = h.formed;
+  unjoined = h.unjoined;
   known = all_push (is_reserved (length e.atoms)) e.kept (Some clause) h.known new;
   lowest = lowest-more e.kept clause e.refuted some h.lowest;
   gates_known = h.gates_known;
@@ -51,6 +60,8 @@ pub stand-gates : (e : Backing) → e.gates < length e.atoms → HasGatesOf e.ga
 stand-gates e lacking has h = record {
   of_atoms = h.of_atoms;
   earlier = h.earlier;
+  formed = h.formed;
+  unjoined = h.unjoined;
   known = h.known;
   lowest = h.lowest;
   gates_known = omega (arith, lacking);
@@ -73,6 +84,8 @@ stand-placed e place x known h = record {
     | inr before ↦ h.of_atoms q a before
   ];
   earlier = h.earlier;
+  formed = h.formed;
+  unjoined = h.unjoined;
   known = h.known;
   lowest = h.lowest;
   gates_known = h.gates_known;
@@ -85,23 +98,35 @@ literals-grown n m ls more =
     (λ l low. lt-ltb l.atom m (omega (arith, more, ltb-true l.atom n low))) ls
 
 pub stand-atoms : (e : Backing) (new : List (AtomOver ℕ)) → Extends e.atoms new → NameEarlier (length e.atoms) new
-    → Stand e → Stand (record e { atoms = new })
-stand-atoms e new extends fresh h =
+    → ((i : ℕ) (a : AtomOver ℕ) → length e.atoms ≤ i → Names new i a → is_well_formed a ≡ true)
+    → list_all is_unjoined_atom new ≡ true → Stand e → Stand (record e { atoms = new })
+stand-atoms e new extends fresh formed unjoined h =
     let more : length e.atoms ≤ length new = omega (arith, ap length extends.is, length-append e.atoms extends.more) in
     record {
       of_atoms = λ place a there.
           let it = h.of_atoms place a there in omega (arith, it, more);
       earlier = earlier_more 0 e.atoms new extends h.earlier fresh;
+      formed = λ i a named. each i a named (nat_lt i (length e.atoms)) refl;
+      unjoined = unjoined;
       known = room-for-each (length new) e.kept
           (λ id c there. literals-grown (length e.atoms) (length new) c.literals more
           (each-reserved (length e.atoms) e.kept h.known id c there));
       lowest = h.lowest;
       gates_known = omega (arith, h.gates_known, more);
       gated = λ i low a clause named.
-          h.gated i low a clause
-          (named_before e.atoms extends.more i a (omega (arith, low, h.gates_known))
-          (subst (λ (atoms : List (AtomOver ℕ)). Names atoms i a) extends.is named));
+          h.gated i low a clause (before i a (omega (arith, low, h.gates_known)) named);
     }
+  where
+    before : (i : ℕ) (a : AtomOver ℕ) → i < length e.atoms → Names new i a → Names e.atoms i a
+    before i a low named =
+        named_before e.atoms extends.more i a low
+        (subst (λ (atoms : List (AtomOver ℕ)). Names atoms i a) extends.is named)
+
+    each : (i : ℕ) (a : AtomOver ℕ) → Names new i a → (b : Bool) → nat_lt i (length e.atoms) ≡ b
+        → is_well_formed a ≡ true
+    each i a named true is = h.formed i a (before i a (ltb-true i (length e.atoms) is) named)
+    each i a named false is =
+        let high : length e.atoms ≤ i = grind (arith, nat_tests) in formed i a high named
 
 -- Where levels are left.
 
@@ -109,6 +134,8 @@ pub stand-left : (level count : ℕ) (e : Backing) → Stand e → Stand (left_a
 stand-left level count e h = record {
   of_atoms = λ place a there. h.of_atoms place a (front e.asserted count place a there).1;
   earlier = h.earlier;
+  formed = h.formed;
+  unjoined = h.unjoined;
   known = room-for-each (length e.atoms) (left_above level count e).kept
       (λ id c there. each-reserved (length e.atoms) e.kept h.known id c (kept_at-up_to level e.kept id c there).0);
   lowest = lowest-left level e.kept e.refuted h.lowest;
@@ -122,6 +149,8 @@ pub stand-left_all : (e : Backing) → Stand e → Stand (left_all e)
 stand-left_all e h = record {
   of_atoms = λ place a there. absurd (none-some a (sym (none-at place) ∙ there));
   earlier = h.earlier;
+  formed = h.formed;
+  unjoined = h.unjoined;
   known = room-for-each (length e.atoms) (map (λ clause. None) e.kept)
       (λ id c there. absurd (none-stays e.kept id c there));
   lowest = λ id c there. absurd (none-stays e.kept id c there);
@@ -135,6 +164,8 @@ pub stand-found : (e : Backing) (n : ℕ) (new : Option EmptyClause) → has_roo
 stand-found e n new known lowest h = record {
   of_atoms = h.of_atoms;
   earlier = h.earlier;
+  formed = h.formed;
+  unjoined = h.unjoined;
   known = known;
   lowest = lowest;
   gates_known = h.gates_known;

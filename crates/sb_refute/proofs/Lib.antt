@@ -9,5 +9,6 @@ pub mod GateLiterals
 pub mod GateLines
 pub mod DefinedAtoms
 pub mod Asserting
-pub mod Assumptions
+pub mod OneAtom
+pub mod Settled
 pub mod CallerLemmas

@@ -1,29 +1,34 @@
--- Private: what the calls that put lines of atoms, gates and assertions come to, where assertions are kept, and the
+-- What the calls that put lines of atoms, gates and assertions come to, where assertions are kept, and the
 -- empty clause of the lowest level.
-use Rattle.std.specs.Prelude.{◌≡◌, ◌≢◌, ℕ, ◌≤◌, zero, suc, true, nat_lt, if◌then◌else◌, List, [], ◌∷◌, length, take, slice_get, Option, Some, None, option_map, IfSome, Result, Ok, Err}
+use Rattle.std.specs.Prelude.{◌≡◌, ◌≢◌, ℕ, ◌≤◌, zero, suc, Bool, true, false, nat_lt, if◌then◌else◌, List, [], ◌∷◌, length, map, take, slice_get, Option, Some, None, option_map, IfSome, Result, Ok, Err}
 use Rattle.std.specs.Result.{IfOk}
-use Rattle.sb_lit.specs.Kept.{KeptClause}
+use Rattle.std.specs.declared.alloc.Global.{Global}
+use Rattle.std.specs.declared.vec.Vec.{Vec}
+use Rattle.sb_lit.specs.Kept.{Kept, KeptClause}
 use Rattle.sb_lang.specs.Regex.{Regex}
-use Rattle.sb_lit.specs.Clauses.{are_ascending}
+use Rattle.sb_lit.specs.Clauses.{are_ascending, negation}
 use Rattle.sb_lit.specs.declared.clause.Lit.{Lit}
-use Rattle.sb_clauses.specs.Propagation.{are_reserved}
+use Rattle.sb_clauses.specs.Propagation.{HasNoneFalse, are_reserved}
 use Rattle.sb_meaning.specs.Terms.{Sort, Term}
 use Rattle.sb_deriv.specs.Faithful.{Memo}
 use Rattle.sb_rulebook.specs.Atoms.{Atom, AtomOver, is_well_formed}
 use Rattle.sb_rulebook.specs.AtomRules.{has_its_parts, with_regex}
-use Rattle.sb_rulebook.specs.Brought.{is_brought}
-use Rattle.sb_script.specs.Fragment.{is_decided}
+use Rattle.sb_rulebook.specs.Brought.{is_brought, is_brought_atom}
+use Rattle.sb_script.specs.Brought as script
+use Rattle.sb_script.specs.Pieces.{Piece}
 use Rattle.sb_rulebook.specs.Gates.{is_gate}
 use Rattle.sb_rulebook.specs.Kept.{AllKept, Asked}
 use Rattle.sb_rulebook.specs.Lines.{atom_line}
 use Rattle.sb_rulebook.specs.LineLaws.{atom_has_text}
+use Rattle.sb_rulebook.specs.Tables.{names_below}
 use Rattle.sb_rulebook.specs.Translation.{translation}
-use Rattle.sb_script.specs.State as state
-use Rattle.sb_atoms.specs.Numbered.{Names, over, atoms_in}
+use Rattle.sb_atoms.specs.Numbered.{Names, over, atoms_in, Extends, HasRegexBelow, HaveRegexesBelow, IsWith}
+use Rattle.sb_atoms.specs.Translated.{is_unjoined_atom}
 use Rattle.sb_proof.specs.declared.tape.TapeFault.{TapeFault}
 use Rattle.sb_trace.specs.Putting.{CountsTapeFault}
 use Rattle.sb_trace.specs.Tracking.{Traced, TracesUncounted}
 use Rattle.sb_refute.specs.Backing.{Backing, Backs, EvidencesUncounted, HasGates, KeepsAsserted, asserted_at, empty_at}
+use Rattle.sb_refute.specs.Settling.{IsCovered, KeptStay, are_letters, letters_of}
 use Rattle.sb_refute.specs.declared.evidence.Asserted.{Asserted}
 use Rattle.sb_refute.specs.declared.evidence.EmptyClause.{EmptyClause}
 
@@ -76,11 +81,11 @@ pub record IsOfGates (atoms : List (AtomOver ℕ)) (clause : List Lit) : Type 0 
 abbrev pub at_bottom : List Lit → Option KeptClause
 at_bottom ls = Some (record { literals = ls; level = 0 })
 
--- The literal is that of the live assertion of the place, on this level, which is decided.
+-- The literal is that of the live assertion of the place, on this level, which may be stated.
 pub record IsAssertion (asked : Asked) (atoms : List Atom) (place : ℕ) (l : Lit) (level : ℕ) : Type 0 where
   pub term : Term
   pub live : slice_get asked.live place ≡ Some (Some term, level)
-  pub decided : is_decided (state.asserted term) ≡ true
+  pub stated : script.is_brought (script.a_statement_of term) ≡ true
   pub literal : translation atoms term ≡ Some l
 
 -- so lines lead on, where the literal is the assertion's, if it has one,
@@ -131,3 +136,39 @@ abbrev pub lower_of : Option EmptyClause → Option EmptyClause → Option Empty
 lower_of None other = other
 lower_of (Some one) None = Some one
 lower_of (Some one) (Some other) = if nat_lt other.level one.level then Some other else Some one
+
+-- An atom that speaks of no literals.
+
+-- its regex is one of so many, it is well formed, and it joins no constants
+pub record SpeaksAlone (n : ℕ) (a : AtomOver ℕ) : Type 0 where
+  pub regex : HasRegexBelow n a
+  pub earlier : (i : ℕ) (rs : List Regex) → names_below i (over rs a) ≡ true
+  pub formed : is_well_formed a ≡ true
+  pub unjoined : is_unjoined_atom a ≡ true
+  pub brought : is_brought_atom a ≡ true
+
+-- The atom has the number, behind the others where it is new, and stands in the proof, with the clauses of the gates of
+-- all atoms.
+pub record IsAlone (rs : List Regex) (a : AtomOver ℕ) (e f : Backing) (old new : Option (List ℕ)) (number : ℕ) : Type 0
+  where
+    pub puts : (asked : Asked) (memo : Memo)
+        → ((before : List Atom) → has_its_parts asked.sorts before a ≡ true) → Leads asked rs memo e f old new
+    pub names : Names f.atoms number a
+    pub grows : IsWith e.atoms f.atoms a
+    pub extends : Extends e.atoms f.atoms
+    pub regexes : HaveRegexesBelow (length rs) f.atoms
+    pub asserted : f.asserted ≡ e.asserted
+    pub stay : KeptStay e.kept f.kept
+    pub gates : HasGates (length f.atoms) f.atoms f.kept
+
+-- Clauses of memberships without constants.
+
+-- whether a kept clause has only literals of the clause; none has where no kept clause is false under their negations
+abbrev pub IsCover : Kept → List Lit → Bool → Type 0
+IsCover kept clause true = IsCovered kept clause
+IsCover kept clause false = HasNoneFalse kept (map negation clause)
+
+-- the letters of pieces none of which is a constant
+abbrev pub IsLettersOf : List Piece → Option (Vec ℕ Global) → Type 0
+IsLettersOf ps None = are_letters ps ≡ false
+IsLettersOf ps (Some word) = (are_letters ps ≡ true) × (word.items ≡ letters_of ps)

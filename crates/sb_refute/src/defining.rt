@@ -1,8 +1,7 @@
 //! The lines of atoms.
 
-ghost use Rattle.std.specs.Prelude.{◌≡◌, ◌<◌, ◌+◌, ◌∷◌, [], true, length, take, map, IfOk, OnOk};
+ghost use Rattle.std.specs.Prelude.{◌≡◌, ◌<◌, ◌+◌, true, length, take, map, IfOk, OnOk};
 ghost use Rattle.std.specs.List.{list_all};
-ghost use Rattle.sb_script.specs.Pieces.{constant_piece};
 ghost use Rattle.sb_script.specs.Steps.{line as ended};
 ghost use Rattle.sb_proof.specs.Lines.{piece_in, atom_in as line_atom, line_in};
 ghost use Rattle.sb_proof.specs.Tapes.{with_bytes};
@@ -11,7 +10,7 @@ ghost use Rattle.sb_rulebook.specs.Atoms.{bool_atom, in_atom, and_atom, iff_atom
 ghost use Rattle.sb_rulebook.specs.Brought.{is_brought_atom};
 ghost use Rattle.sb_rulebook.specs.Kept.{AllKept, Asked};
 ghost use Rattle.sb_rulebook.specs.Lines.{text_of};
-ghost use Rattle.sb_rulebook.specs.LineLaws.{is_small_literal};
+ghost use Rattle.sb_rulebook.specs.LineLaws.{are_small, is_small, is_small_literal, is_small_piece};
 ghost use Rattle.sb_atoms.specs.Numbered.{atom_in, HasRegexBelow, HaveRegexesBelow};
 ghost use Rattle.sb_trace.specs.Putting.{CountsTapeFault};
 ghost use Rattle.sb_trace.specs.Tracking.{OnlyNumbers, Tracks};
@@ -108,43 +107,77 @@ fn line_of<L: Tape>(
 {
     match atom {
         Atom::Bool(serial) => Ok(constant_line(Serial(*serial))),
-        Atom::In(..) => {
-            let Some(member) = atom.member() else {
-                unreachable!();
-            };
-            member_line(alloc, trace, arena, Serial(member.0), member.1, tape)
-        }
+        Atom::In(pieces, regex) => member_line(alloc, trace, arena, pieces, *regex, tape),
         Atom::And(literals) => Ok(conjunction_line(alloc, literals.as_slice())?),
         Atom::Iff(one, other) => Ok(equivalence_line(*one, *other)),
         Atom::Le(..) | Atom::Sum(..) => unreachable!(),
     }
 }
 
-/// The membership of a constant, behind the lines of its regex.
+/// The membership of pieces, behind the lines of its regex.
 fn member_line<L: Tape>(
     alloc: Global,
     trace: &mut Trace,
     arena: &Arena,
-    serial: Serial,
+    pieces: &SmallVec<Piece, 1>,
     regex: RegexId,
     tape: &mut L,
 ) -> Result<Atom<u64>, TapeFault>
     requires { regex < length arena.now }
     ensures { Called result
         (λ line. (asked : Asked) (memo : Memo) (before : AllKept) → Tracks arena.now memo trace.old before
-        → IsLineOf asked before arena.now memo trace.new (in_atom (constant_piece serial.0 ∷ []) regex)
+        → IsLineOf asked before arena.now memo trace.new (in_atom (map piece_in pieces.now.items) regex)
         (line_atom line) (L.Tape.told tape.old) (L.Tape.told tape.new))
         (OnlyNumbers trace.old trace.new) (L.Tape.faults tape.old) (L.Tape.faults tape.new) }
 {
     let number = trace.number(arena, regex, tape)?;
-    Ok(Atom::In(constant(alloc, serial), number))
+    let all = copied_pieces(alloc, pieces.as_slice())?;
+    Ok(Atom::In(all, number))
 }
 
-/// The pieces of a constant alone.
-fn constant(alloc: Global, serial: Serial) -> SmallVec<Piece, 1>
-    ensures { map piece_in result.items ≡ constant_piece serial.0 ∷ [] }
+/// The pieces, of which each has a text.
+fn copied_pieces(alloc: Global, pieces: &[Piece]) -> Result<SmallVec<Piece, 1>, AllocError>
+    ensures { IfOk result (λ all. (map piece_in all.items ≡ map piece_in pieces.now)
+        × (list_all is_small_piece (map piece_in pieces.now) ≡ true)) }
 {
-    SmallVec::from_buf(alloc, [Piece::Constant(serial.0)])
+    let mut all = SmallVec::with_capacity(alloc, pieces.len())?;
+    for piece in pieces {
+        all.push(copied_piece(alloc, piece)?)?;
+    }
+    Ok(all)
+}
+
+/// The piece, which has a text.
+fn copied_piece(alloc: Global, piece: &Piece) -> Result<Piece, AllocError>
+    ensures { IfOk result (λ other. (piece_in other ≡ piece_in piece.now)
+        × (is_small_piece (piece_in piece.now) ≡ true)) }
+{
+    match piece {
+        Piece::Constant(serial) => Ok(Piece::Constant(small(*serial))),
+        Piece::Word(characters) => {
+            let all = copied_characters(alloc, characters.as_slice())?;
+            Ok(Piece::Word(all))
+        }
+    }
+}
+
+/// The characters, of which each has a text.
+fn copied_characters(alloc: Global, characters: &[u64]) -> Result<Vec<u64>, AllocError>
+    ensures { IfOk result (λ all. (all.items ≡ characters.now) × (are_small characters.now ≡ true)) }
+{
+    let mut all = Vec::with_capacity(alloc, characters.len())?;
+    for character in characters {
+        all.push(small(*character))?;
+    }
+    Ok(all)
+}
+
+/// The number, which has a text.
+fn small(number: u64) -> u64
+    ensures same { result ≡ number }
+    ensures small { is_small number ≡ true }
+{
+    number
 }
 
 /// That a constant is true.

@@ -8,6 +8,7 @@ ghost use Rattle.sb_deriv.specs.Faithful.{Memo};
 ghost use Rattle.sb_term.specs.Numbered.{term_at};
 ghost use Rattle.sb_store.specs.Stores.{Grows, IsStoreOf};
 ghost use Rattle.sb_meaning.specs.Terms.{boolean};
+ghost use Rattle.sb_script.specs.Brought.{is_unjoined};
 ghost use Rattle.sb_rulebook.specs.AtomRules.{is_declared};
 ghost use Rattle.sb_rulebook.specs.Atoms.{bool_atom};
 ghost use Rattle.sb_rulebook.specs.Kept.{AllKept, Asked, nothing_kept, dropped_above, all_dropped};
@@ -16,7 +17,8 @@ ghost use Rattle.sb_atoms.specs.Translated.{brought_translation, AreDefined, Has
 ghost use Rattle.sb_trace.specs.Putting.{CountsTapeFault};
 ghost use Rattle.sb_trace.specs.Tracking.{OnlyNumbers};
 ghost use Rattle.sb_refute.specs.Backing.{backing_of, IsLowestEmpty, HasGates, Backs, EvidencesUncounted, IsStatement, KeepsAsserted, AreUpTo, asserted_at, empty_at, left_above, refuted_up_to, left_all};
-ghost use Rattle.sb_refute.specs.Lines.{AreDue, Becomes, Called, IsClaimed, IsStanding, Leads, LeadsClaimed, LeadsFrom, placed, IsEmptyOf, lower_of};
+ghost use Rattle.sb_refute.specs.Lines.{AreDue, Becomes, Called, IsAlone, IsClaimed, IsStanding, Leads, LeadsClaimed, LeadsFrom, SpeaksAlone, placed, IsEmptyOf, lower_of};
+ghost use Rattle.sb_proof.specs.Lines.{atom_in};
 ghost use Rattle.sb_refute.specs.Standing.{Stand};
 ghost use Rattle.sb_refute.specs.Assuming.{Says, literals_at};
 
@@ -25,7 +27,7 @@ use sb_atoms::Atoms;
 use sb_clauses::{Clauses, Engine};
 use sb_lit::{Clause, ClauseId, Lit};
 use sb_proof::{Atom, Line, Tape, TapeFault};
-use sb_regex::Arena;
+use sb_regex::{Arena, RegexId};
 use sb_search::Choices;
 use sb_sound::clauses::assertion_lines_are_exact;
 use sb_store::{Store, regexes_grow};
@@ -115,9 +117,9 @@ impl Evidence {
         parts
     }
 
-    /// The evidence of these parts, where what is known of all that stands in a proof holds of the first clauses, so many
-    /// as `before`, and others may follow these. The empty clause is then that of the lowest level. Takes the literals off
-    /// the trail. Takes no memory; linear in these literals and in the clauses behind the first ones.
+    /// The evidence of these parts, where what is known of all that stands in a proof holds of the first clauses, so
+    /// many as `before`, and others may follow these. The empty clause is then that of the lowest level. Takes the
+    /// literals off the trail. Takes no memory; linear in these literals and in the clauses behind the first ones.
     pub fn from_parts(parts: Parts, before: usize) -> Evidence
         requires known { has_room_for (length parts.atoms) parts.engine.kept ≡ true }
         requires stands { Stand (record (backing_of parts) { kept = take before parts.engine.kept }) }
@@ -192,8 +194,8 @@ impl Evidence {
     }
 
     /// Forgets each clause, as a reader does where all assertions go. Regexes and atoms stay, and so do the numbers of
-    /// the clauses. Takes no memory; linear in the numbers of clauses that were given since this was done before, and in
-    /// the places.
+    /// the clauses. Takes no memory; linear in the numbers of clauses that were given since this was done before, and
+    /// in the places.
     pub fn leave_all(&mut self)
         ensures left_all { self.new ≡ left_all self.old }
         ensures backs { (rs : List Regex) (memo : Memo) (kept : AllKept) → Backs rs memo self.old kept
@@ -224,6 +226,7 @@ impl Evidence {
         tape: &mut L,
     ) -> Result<Option<Asserted>, TapeFault>
         requires number { term < length table.now }
+        requires unjoined { is_unjoined (term_at table.now term) ≡ true }
         requires store { IsStoreOf table.now store.old }
         requires regexes { HaveRegexesBelow (length store.old.arena) self.old.atoms }
         ensures puts { OnOk result ((asked : Asked) (memo : Memo) (before : AllKept)
@@ -284,16 +287,31 @@ impl Evidence {
         ensures regexes { OnOk result (HaveRegexesBelow (length arena.now) self.new.atoms) }
         ensures counts { CountsTapeFault result (L.Tape.faults tape.old) (L.Tape.faults tape.new) }
     {
+        let atom = self.alone(arena, Atom::Bool(serial.0), tape)?;
+        Ok(Lit { atom, positive })
+    }
+
+    /// The number of an atom that speaks of no literals. Where it is new its line is put, behind those of its regex,
+    /// and in any case those of the gates of all atoms that lack them.
+    pub(crate) fn alone<L: Tape>(
+        &mut self,
+        arena: &Arena,
+        atom: Atom<RegexId>,
+        tape: &mut L,
+    ) -> Result<u64, TapeFault>
+        requires alone { SpeaksAlone (length arena.now) (atom_in atom) }
+        requires regexes { HaveRegexesBelow (length arena.now) self.old.atoms }
+        ensures is { IfOk result (IsAlone arena.now (atom_in atom) self.old self.new (L.Tape.told tape.old)
+            (L.Tape.told tape.new)) }
+        ensures counts { CountsTapeFault result (L.Tape.faults tape.old) (L.Tape.faults tape.new) }
+    {
         let parts = &mut self.parts;
         let known = parts.atoms.len();
-        let id = parts.atoms.add(Atom::Bool(serial.0))?;
+        let id = parts.atoms.add(atom)?;
         self.define(arena, known, tape)?;
         self.put_gates(tape)?;
         self.stands();
-        Ok(Lit {
-            atom: id.number() as u64,
-            positive,
-        })
+        Ok(id.number() as u64)
     }
 
     /// The clause of the assertion at a place, whose literal and level these are. Puts the lines of the atoms from this
@@ -438,8 +456,8 @@ impl Evidence {
         self.parts.engine.add(&clause, level)
     }
 
-    /// What is known of all that stands in the proof.
-    fn stands(&self)
+    /// Says what is known of all that stands in the proof.
+    pub fn stands(&self)
         ensures { Stand self.now }
     {
         let _parts = &self.parts;

@@ -4,6 +4,7 @@ ghost use Rattle.std.specs.Prelude.{◌≡◌, ◌<◌, ◌+◌, ◌++◌, ◌�
 ghost use Rattle.sb_atoms.specs.GateClauses.{gate_clauses, atom_at};
 ghost use Rattle.sb_refute.specs.Backing.{HasGatesOf};
 ghost use Rattle.sb_refute.specs.Lines.{Called, IsOfGates, LeadsAlways, at_bottom};
+ghost use Rattle.sb_refute.specs.Settling.{KeptStay};
 
 use crate::defining::{copied, put_line};
 use crate::evidence::Evidence;
@@ -19,7 +20,7 @@ impl Evidence {
     pub(crate) fn put_gates<L: Tape>(&mut self, tape: &mut L) -> Result<(), TapeFault>
         ensures { Called result
             (λ _. LeadsAlways self.old self.new (L.Tape.told tape.old) (L.Tape.told tape.new)
-            × (self.new.gates ≡ length self.new.atoms))
+            × (self.new.gates ≡ length self.new.atoms) × KeptStay self.old.kept self.new.kept)
             (self.new ≡ record self.old { kept = self.new.kept; gates = self.new.gates }) (L.Tape.faults tape.old)
             (L.Tape.faults tape.new) }
     {
@@ -42,7 +43,7 @@ impl Evidence {
         requires { self.old.gates < length self.old.atoms }
         ensures { Called result
             (λ _. LeadsAlways self.old self.new (L.Tape.told tape.old) (L.Tape.told tape.new)
-            × (self.new.gates ≡ self.old.gates + 1))
+            × (self.new.gates ≡ self.old.gates + 1) × KeptStay self.old.kept self.new.kept)
             (self.new ≡ record self.old { kept = self.new.kept; gates = self.new.gates }) (L.Tape.faults tape.old)
             (L.Tape.faults tape.new) }
     {

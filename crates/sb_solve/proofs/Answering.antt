@@ -1,9 +1,11 @@
 -- What a check comes to, by the clauses that were put, the search and its end.
-use Rattle.sb_solve.proofs.Words.{AreSaid, Assumption, IsKeptCore, IsRefuting, Regex, Says, all_weaker, and_from, are_atoms, denies, eq-eqb, inl, inr, is_among, is_same_literal, is_same_literal-true, is_same_truth, list_all-append, list_any, map, negation, not, option_map, or_cases, or_left, or_right, over, slice_get, slice_get-map, ◌++◌, ◌==◌, ◌≡◌, ℕ, ◌<◌, Bool, true, false, List, [], ◌∷◌, length, Option, refl, sym, ap, subst, ◌∙◌, arith, list_all, false≢true, ltb-true, slice_get-get_or, Lit, Spending, Kept, held, HasNoneFalse, live, asked_in, AtomOver, bool_atom, AllKept, Asked, AreTerms, FollowsByRule, LineStaysSound, CountedAgainStaysSound, Stacked, Store, state_of, atom_at, gate_clauses, atoms_in, atoms_kept, earlier_table, IsCounted, puts_both, Backing, Backs, Evidences, HasGates, GrowsTo, is_atom, AreWanted, is_in, AreKept, IsKept, IsDecided, AreLiterals, IsAnswered, terms_at, Answers, IsDone, IsValuedBy, AreOfLevels, IsSolved, AreStated, IsTrue, Solved, Contains}
+use Rattle.sb_solve.proofs.Words.{AreSaid, Assumption, IsKeptCore, IsRefuting, Regex, Says, all_weaker, and_from, are_atoms, denies, eq-eqb, inl, inr, is_among, is_same_literal, is_same_literal-true, is_same_truth, list_all-append, list_any, map, negation, not, option_map, or_cases, or_left, or_right, over, slice_get, slice_get-map, ◌++◌, ◌==◌, ◌≡◌, ℕ, ◌<◌, Bool, true, false, List, [], ◌∷◌, length, Option, refl, sym, ap, subst, ◌∙◌, arith, list_all, false≢true, ltb-true, slice_get-get_or, Lit, Spending, Kept, held, HasNoneFalse, live, asked_in, AtomOver, bool_atom, AllKept, Asked, AreTerms, FollowsByRule, LineStaysSound, CountedAgainStaysSound, Stacked, Store, state_of, atom_at, gate_clauses, atoms_in, earlier_table, IsCounted, puts_both, Backing, Backs, Evidences, HasGates, GrowsTo, is_atom, AreWanted, is_in, AreKept, IsKept, IsDecided, AreLiterals, IsAnswered, terms_at, Answers, IsDone, IsValuedBy, AreOfLevels, IsSolved, AreStated, IsTrue, Solved, Contains, AllSettle, AreSettled, AreSpokenOf, Asserted, Goes, IsEnd, IsSettled, Names, None, Some, TranslationStays, RegexesGrow, and_parts, are_declared, asserted_at, atoms_of, equal_itself, get_or, in_atom, is_closed, is_simple_at, lt-ltb, map-append, nat_eq, parts_at, parts_of, regexes_both, slice_get_within, ◌≤◌, ◌||◌, Stand}
 use Rattle.sb_solve.specs.declared.check.Solved.TheVariants as solved
 use Rattle.sb_solve.proofs.Deciding.{all_in}
 use Rattle.sb_solve.proofs.Ended.{kept_grown}
-use Rattle.sb_solve.proofs.Stated.{are_literals, are_of_table}
+use Rattle.sb_atoms.specs.Numbered as table
+use Rattle.sb_solve.proofs.Goings.{in-behind, named-settles, named-still, still-settled}
+use Rattle.sb_solve.proofs.Stated.{are_literals, are_of_table, said_known, said_over, translates_still}
 use Rattle.sb_solve.proofs.Truths.{contains_first, contains_later, true-behind, true-following}
 
 -- The gates of atoms that are wanted.
@@ -81,116 +83,304 @@ refuting atoms given ls kept id are core = record {
       (λ m among. denies_some rs atoms given ls are m among) core.clause.literals core.negated;
 }
 
--- The literals are those of the assertions at some places, whose clauses are kept, and those of the assumptions, and a
--- search was made over these.
-module _ (s : Stacked) (places : List ℕ) (x y z : Store) (e f k : Backing) (told between new : Option (List ℕ))
-    (literals assumed : List Lit) (proves : Bool) (before after : Spending) (solution : Solved)
-    (stated : AreStated s places x y e f told between literals)
-    (gates : 0 < length (literals ++ assumed) → HasGates (length f.atoms) f.atoms f.kept)
-    (said : AreSaid f.atoms s.assumptions assumed) (known : are_atoms f.atoms assumed ≡ true)
-    (done : IsDone s (literals ++ assumed) assumed proves y f before between z k after new solution) where
+-- What is settled stays so.
+
+all_in_itself : (test : ℕ → Bool) (xs : List ℕ) → ((n : ℕ) → is_in xs n ≡ true → test n ≡ true)
+    → list_all test xs ≡ true
+all_in_itself test [] h = refl
+all_in_itself test (x ∷ xs) h =
+    and_from (test x) (list_all test xs)
+    (h x (or_left (nat_eq x x) (is_in xs x) (equal_itself x)))
+    (all_in_itself test xs (λ n there. h n (or_right (nat_eq n x) (is_in xs n) there)))
+
+-- what is wanted is spoken of, or says that the empty word is in a regex
+wanted_cases : (atoms now : List (AtomOver ℕ)) (literals ends : List Lit) (numbers wanted : List ℕ)
+    → table.Extends atoms now → AreSpokenOf atoms literals numbers → AreWanted now (literals ++ ends) wanted
+    → ((i : ℕ) → is_in (atoms_of ends) i ≡ true → (q : ℕ) × Names now i (in_atom [] q)) → (i : ℕ)
+    → is_in wanted i ≡ true → (is_in numbers i || is_in (atoms_of ends) i) ≡ true
+wanted_cases atoms now literals ends numbers wanted extends spoken are named i there =
+    all_in (λ j. is_in numbers j || is_in (atoms_of ends) j) wanted i
+    (are.least (λ j. is_in numbers j || is_in (atoms_of ends) j) first parts) there
+  where
+    first : list_all (λ j. is_in numbers j || is_in (atoms_of ends) j) (atoms_of (literals ++ ends)) ≡ true
+    first =
+        ap (list_all (λ j. is_in numbers j || is_in (atoms_of ends) j))
+        (map-append (λ (l : Lit). l.atom) literals ends)
+        ∙ list_all-append (λ j. is_in numbers j || is_in (atoms_of ends) j) (atoms_of literals) (atoms_of ends)
+        ∙ and_from (list_all (λ j. is_in numbers j || is_in (atoms_of ends) j) (atoms_of literals))
+        (list_all (λ j. is_in numbers j || is_in (atoms_of ends) j) (atoms_of ends))
+        (all_weaker (is_in numbers) (λ j. is_in numbers j || is_in (atoms_of ends) j)
+        (λ j h. or_left (is_in numbers j) (is_in (atoms_of ends) j) h) (atoms_of literals) spoken.wanted.first)
+        (all_in_itself (λ j. is_in numbers j || is_in (atoms_of ends) j) (atoms_of ends)
+        (λ j h. or_right (is_in numbers j) (is_in (atoms_of ends) j) h))
+
+    -- the parts of an atom of the table are those that it had
+    same_parts : (j : ℕ) → is_in numbers j ≡ true → parts_at now j ≡ parts_at atoms j
+    same_parts j h =
+        let low : j < length atoms = ltb-true j (length atoms) (all_in (is_atom atoms) numbers j spoken.known h) in
+        let at = slice_get-get_or atoms j (bool_atom 0) low in
+        ap (λ (o : Option (AtomOver ℕ)). elim o as (λ _. List ℕ) [ None ↦ [] | Some atom ↦ parts_of atom ])
+        (named-still atoms now j (get_or atoms j (bool_atom 0)) extends at ∙ sym at)
+
+    parts : (j : ℕ) → (is_in numbers j || is_in (atoms_of ends) j) ≡ true
+        → list_all (λ k. is_in numbers k || is_in (atoms_of ends) k) (parts_at now j) ≡ true
+    parts j h = elim (or_cases (is_in numbers j) (is_in (atoms_of ends) j) h) [
+      | inl one_of ↦
+          let closed = all_in (is_closed atoms numbers) numbers j spoken.wanted.closed one_of in
+          let inside = (and_parts (is_simple_at atoms j) (list_all (is_in numbers) (parts_at atoms j)) closed).1 in
+          ap (list_all (λ k. is_in numbers k || is_in (atoms_of ends) k)) (same_parts j one_of)
+          ∙ all_weaker (is_in numbers) (λ k. is_in numbers k || is_in (atoms_of ends) k)
+          (λ k there. or_left (is_in numbers k) (is_in (atoms_of ends) k) there) (parts_at atoms j) inside
+      | inr end ↦
+          let it = named j end in
+          ap (λ (o : Option (AtomOver ℕ)).
+          list_all (λ k. is_in numbers k || is_in (atoms_of ends) k)
+          (elim o as (λ _. List ℕ) [ None ↦ [] | Some atom ↦ parts_of atom ])) it.1
+    ]
+
+-- the literals are of atoms of the table
+pub asked_known : (s : Stacked) (places : List ℕ) (x y : Store) (e f : Backing) (told between : Option (List ℕ))
+    (literals assumed : List Lit) → AreStated s places x y e f told between literals → Stand f
+    → AreSaid f.atoms s.assumptions assumed → are_atoms f.atoms (literals ++ assumed) ≡ true
+asked_known s places x y e f told between literals assumed stated stand said =
+    list_all-append (λ (l : Lit). is_atom f.atoms l.atom) literals assumed
+    ∙ and_from (are_atoms f.atoms literals) (are_atoms f.atoms assumed)
+    (are_of_table s y.arena f f.atoms
+    (λ place l one. subst (λ (n : Lit). n.atom < length f.atoms) one.literal
+    (stand.of_atoms place one.clause one.there)) places literals stated.all)
+    (said_known f.atoms s.assumptions assumed said)
+
+-- The literals are those of the assertions at some places, whose clauses are kept.
+module _ (s : Stacked) (places : List ℕ) (x y : Store) (e f : Backing) (told between : Option (List ℕ))
+    (literals : List Lit) (stated : AreStated s places x y e f told between literals) where
   abbrev asked : Asked
   asked = asked_in (state_of s)
 
-  pub puts : proves ≡ true → (start : AllKept) → Backs x.arena x.graph.memo e start → IsCounted asked start before
-      → Evidences asked start z.arena z.graph.memo k after told new
-  puts on start b counted =
-      let p = stated.puts start b in
-      let q = done.searched.puts on asked p.after p.backs
-      (record { spent = p.counted ∙ counted.spent; limit = counted.limit }) in
-      record {
-        after = q.after;
-        puts = puts_both asked start p.after q.after told between new p.puts q.puts;
-        backs = q.backs;
-        counts = q.counts;
+  -- What is settled in front of a search, or before all is spent.
+  module _ (u : Store) (g : Backing) (proves : Bool) (before middle : Spending) (settled : Option (List ℕ))
+      (goes : Goes proves y f before between u g middle settled) where
+    pub settled_puts : proves ≡ true → (start : AllKept) → Backs x.arena x.graph.memo e start
+        → IsCounted asked start before → Evidences asked start u.arena u.graph.memo g middle told settled
+    settled_puts on start b counted =
+        let p = stated.puts start b in
+        let q = goes.puts on asked p.after p.backs
+        (record { spent = p.counted ∙ counted.spent; limit = counted.limit }) in
+        record {
+          after = q.after;
+          puts = puts_both asked start p.after q.after told between settled p.puts q.puts;
+          backs = q.backs;
+          counts = q.counts;
+        }
+
+    pub settled_sound : FollowsByRule → LineStaysSound → CountedAgainStaysSound → proves ≡ false → AreTerms asked
+        → IsTrue asked x.arena x.graph.memo e → IsTrue asked u.arena u.graph.memo g
+    settled_sound rule line again off terms t =
+        let p = stated.puts t.kept t.backs in
+        goes.sound off asked terms
+        (true-behind rule line again asked x.arena y.arena x.graph.memo y.graph.memo e f terms t p.after told between
+        p.puts p.backs)
+
+    pub settled_levels : AreOfLevels asked.live e.asserted g.asserted
+    settled_levels = subst (AreOfLevels asked.live e.asserted) (sym goes.asserted) stated.levels
+
+    pub settled_declared : are_declared (state_of s).sorts e.atoms ≡ true
+        → are_declared (state_of s).sorts g.atoms ≡ true
+    settled_declared had = goes.declared (state_of s).sorts (stated.declared had)
+
+  -- A search was made behind it, over these literals and those of the assumptions.
+  module _ (assumed : List Lit) (u z : Store) (g k : Backing) (settled new : Option (List ℕ)) (numbers : List ℕ)
+      (ends : List Lit) (proves : Bool) (before middle after : Spending) (solution : Solved)
+      (gates : 0 < length (literals ++ assumed) → HasGates (length f.atoms) f.atoms f.kept)
+      (said : AreSaid f.atoms s.assumptions assumed)
+      (spoken : AreSpokenOf f.atoms (literals ++ assumed) numbers)
+      (all : AllSettle proves y f before between numbers u g middle settled ends)
+      (done : IsDone s ((literals ++ assumed) ++ ends) assumed proves u g middle settled z k after new solution)
+    where
+      abbrev goes : Goes proves y f before between u g middle settled
+      goes = all.goes
+
+      pub puts : proves ≡ true → (start : AllKept) → Backs x.arena x.graph.memo e start → IsCounted asked start before
+          → Evidences asked start z.arena z.graph.memo k after told new
+      puts on start b counted =
+          let p = settled_puts u g proves before middle settled goes on start b counted in
+          let q = done.searched.puts on asked p.after p.backs p.counts in
+          record {
+            after = q.after;
+            puts = puts_both asked start p.after q.after told settled new p.puts q.puts;
+            backs = q.backs;
+            counts = q.counts;
+          }
+
+      -- what is true, where the search puts no lines
+      pub sound : FollowsByRule → LineStaysSound → CountedAgainStaysSound → proves ≡ false → AreTerms asked
+          → IsTrue asked x.arena x.graph.memo e → IsTrue asked z.arena z.graph.memo k
+      sound rule line again off terms t =
+          true-following asked proves u z g k middle after settled new off done.searched goes.regexes
+          (settled_sound u g proves before middle settled goes rule line again off terms t)
+
+      pub levels : AreOfLevels asked.live e.asserted k.asserted
+      levels = subst (AreOfLevels asked.live e.asserted) (sym done.searched.asserted)
+          (settled_levels u g proves before middle settled goes)
+
+      pub limit : after.limit ≡ before.limit
+      limit = done.searched.limit ∙ goes.limit
+
+      pub spends : before.spent ≤ after.spent
+      spends = omega (arith, goes.spends, done.searched.spends)
+
+      pub stores : RegexesGrow y z
+      stores = regexes_both y u z goes.store done.searched.store
+
+      pub declared : are_declared (state_of s).sorts e.atoms ≡ true → are_declared (state_of s).sorts k.atoms ≡ true
+      declared had =
+          subst (λ (ts : List (AtomOver ℕ)). are_declared (state_of s).sorts ts ≡ true) (sym done.searched.atoms)
+          (settled_declared u g proves before middle settled goes had)
+
+      -- the answer
+
+      -- those of the ends are in the table
+      ends_named : (i : ℕ) → is_in (atoms_of ends) i ≡ true → IsEnd u.arena g i
+      ends_named i there =
+          all.ends.each i (subst (λ (ls : List Lit). is_in (atoms_of ls) i ≡ true) all.ends.is there)
+
+      ends_known : (ls : List Lit) → ((i : ℕ) → is_in (atoms_of ls) i ≡ true → i < length g.atoms)
+          → are_atoms g.atoms ls ≡ true
+      ends_known [] h = refl
+      ends_known (l ∷ ls) h =
+          and_from (is_atom g.atoms l.atom) (are_atoms g.atoms ls)
+          (lt-ltb l.atom (length g.atoms)
+          (h l.atom (or_left (nat_eq l.atom l.atom) (is_in (atoms_of ls) l.atom) (equal_itself l.atom))))
+          (ends_known ls (λ i there. h i (or_right (nat_eq i l.atom) (is_in (atoms_of ls) i) there)))
+
+      said_there : AreSaid g.atoms s.assumptions assumed
+      said_there = said_over f.atoms g.atoms goes.atoms s.assumptions assumed said
+
+      wanted_atoms : list_all (is_atom g.atoms) done.wanted ≡ true
+      wanted_atoms =
+          done.among [] (earlier_table [] g.atoms done.stand.earlier)
+          (list_all-append (λ (l : Lit). is_atom g.atoms l.atom) (literals ++ assumed) ends
+          ∙ and_from (are_atoms g.atoms (literals ++ assumed)) (are_atoms g.atoms ends)
+          (list_all-append (λ (l : Lit). is_atom g.atoms l.atom) literals assumed
+          ∙ and_from (are_atoms g.atoms literals) (are_atoms g.atoms assumed)
+          (are_of_table s y.arena f g.atoms
+          (λ place l one. subst (λ (n : Lit). n.atom < length g.atoms) one.literal
+          (done.stand.of_atoms place one.clause
+          (ap (λ (xs : List (Option Asserted)). asserted_at xs place) goes.asserted ∙ one.there)))
+          places literals stated.all) (said_known g.atoms s.assumptions assumed said_there))
+          (ends_known ends (λ i there.
+          let it = ends_named i there in slice_get_within g.atoms i (in_atom [] it.0) it.1)))
+
+      extends : table.Extends f.atoms k.atoms
+      extends = subst (table.Extends f.atoms) (sym done.searched.atoms) goes.atoms
+
+      literals_there : TranslationStays → (start : AllKept) → Backs x.arena x.graph.memo e start
+          → AreLiterals (atoms_in z.arena k.atoms) k.kept (terms_at (live (state_of s)) places) literals
+      literals_there stays start b =
+          let behind = stated.puts start b in
+          are_literals s y.arena f (atoms_in z.arena k.atoms) k.kept
+          (λ place l one. (
+            one.term,
+            one.stands,
+            record {
+              is = translates_still stays y.arena z.arena f.atoms k.atoms one.term l stores.more.extends stated.regexes
+                  extends one.translates;
+              kept_there = (
+                one.clause.clause.0,
+                record { literals = one.clause.literal ∷ []; level = one.clause.level },
+                kept_grown g.kept k.kept one.clause.clause.0
+                    (record { literals = one.clause.literal ∷ []; level = one.clause.level }) done.searched.kept
+                    (goes.stay one.clause.clause.0
+                    (record { literals = one.clause.literal ∷ []; level = one.clause.level })
+                    (behind.backs.asserted place one.clause one.there)),
+                ap (λ (n : Lit). n ∷ []) one.literal,
+              );
+            },
+          )) places literals stated.all
+
+      said_behind : AreSaid k.atoms s.assumptions assumed
+      said_behind = subst (λ (ts : List (AtomOver ℕ)). AreSaid ts s.assumptions assumed) (sym done.searched.atoms)
+          said_there
+
+      all_gates : 0 < length ((literals ++ assumed) ++ ends) → HasGates (length g.atoms) g.atoms g.kept
+      all_gates = gates_over (literals ++ assumed) gates
+        where
+          gates_over : (ls : List Lit) → (0 < length ls → HasGates (length f.atoms) f.atoms f.kept)
+              → 0 < length (ls ++ ends) → HasGates (length g.atoms) g.atoms g.kept
+          gates_over [] has some =
+              all.ends.own (subst (λ (ls : List Lit). 0 < length ls) all.ends.is some)
+          gates_over (l ∷ ls) has some = goes.gates (has (omega arith))
+
+      -- what is settled, with what the search keeps
+      settled_there : AreSettled z.arena g.atoms k.kept done.wanted done.wanted
+      settled_there = λ i ps r there named letters.
+          let low : r < length u.arena = goes.regexes i (in_atom ps r) named in
+          let still : (was : List ℕ) → ((c : ℕ) → is_in was c ≡ true → is_in done.wanted c ≡ true)
+          → IsSettled u.arena g.kept was i ps r → IsSettled z.arena k.kept done.wanted i ps r =
+          λ was among h.
+          still-settled u.arena z.arena g.kept k.kept was done.wanted i ps r done.searched.store.more.extends low
+          (λ id clause at. kept_grown g.kept k.kept id clause done.searched.kept at) among h in
+          elim (or_cases (is_in numbers i) (is_in (atoms_of ends) i)
+          (wanted_cases f.atoms g.atoms (literals ++ assumed) ends numbers done.wanted goes.atoms spoken done.closed
+          (λ j end. let it = ends_named j end in (it.0, it.1)) i there)) [
+            | inl one_of ↦ still (atoms_of ends) ends_wanted (all.each i one_of ps r named letters)
+            | inr end ↦
+                let it = ends_named i end in
+                still [] (λ c none. absurd (false≢true none))
+                (named-settles u.arena g [] i [] it.0 it.1 it.2 ps r named letters)
+          ]
+        where
+          ends_wanted : (c : ℕ) → is_in (atoms_of ends) c ≡ true → is_in done.wanted c ≡ true
+          ends_wanted c end =
+              all_in (is_in done.wanted) (atoms_of ((literals ++ assumed) ++ ends)) c done.closed.first
+              (in-behind (literals ++ assumed) ends c end)
+
+      first_there : list_all (is_in done.wanted) (atoms_of (literals ++ assumed)) ≡ true
+      first_there =
+          (and_parts (list_all (is_in done.wanted) (atoms_of (literals ++ assumed)))
+          (list_all (is_in done.wanted) (atoms_of ends))
+          (sym (ap (list_all (is_in done.wanted)) (map-append (λ (l : Lit). l.atom) (literals ++ assumed) ends)
+          ∙ list_all-append (is_in done.wanted) (atoms_of (literals ++ assumed)) (atoms_of ends))
+          ∙ done.closed.first)).0
+
+      answered : TranslationStays → (words : List (Option (List ℕ))) (truths : List Bool)
+          → (v : IsValuedBy s assumed z.arena k.atoms k.kept done.wanted words truths) → (start : AllKept)
+          → Backs x.arena x.graph.memo e start → AreTerms asked
+          → IsAnswered z.arena k.atoms done.wanted literals assumed k.kept v.search.trail.literals v.theory places
+          (state_of s) s.assumptions
+      answered stays words truths v start b terms = record {
+        decided = subst (λ (ts : List (AtomOver ℕ)). IsDecided z.arena ts done.wanted k.kept v.search.trail.literals)
+            (sym done.searched.atoms)
+            (record {
+              table = earlier_table z.arena g.atoms done.stand.earlier;
+              distinct = done.distinct;
+              known = wanted_atoms;
+              closed = done.closed.closed;
+              full = v.full.full;
+              none_false = subst (λ (kept : Kept). HasNoneFalse kept (held v.search.trail.literals)) v.keeps
+                  v.full.none_false;
+              gates = gated g.atoms g.kept k.kept ((literals ++ assumed) ++ ends) done.wanted done.searched.kept
+                  all_gates
+                  done.closed wanted_atoms;
+              unjoined = done.stand.unjoined;
+              settled = settled_there;
+            });
+        agrees = v.agrees;
+        wanted_there = first_there;
+        stated = literals_there stays start b;
+        said = said_behind;
+        on = v.full.assumed;
+        terms = terms;
       }
 
-  -- what is true, where the search puts no lines
-  pub sound : FollowsByRule → LineStaysSound → CountedAgainStaysSound → proves ≡ false → AreTerms asked
-      → IsTrue asked x.arena x.graph.memo e → IsTrue asked z.arena z.graph.memo k
-  sound rule line again off terms t =
-      let p = stated.puts t.kept t.backs in
-      true-following asked proves y z f k before after between new off done.searched stated.regexes
-      (true-behind rule line again asked x.arena y.arena x.graph.memo y.graph.memo e f terms t p.after told between
-      p.puts p.backs)
+      by_kind : TranslationStays → (a : Solved) → Answers s assumed z.arena k.atoms k.kept done.wanted after a
+          → IsSolved s places x.arena x.graph.memo e k after a
+      by_kind stays (solved.Sat words truths) v = record {
+        characters = v.model.characters;
+        given = λ start b terms.
+            v.model.given places literals assumed k.kept (answered stays words.items truths.items v start b terms);
+      }
+      by_kind stays (solved.Unsat id) core = refuting k.atoms s.assumptions assumed k.kept id.0 said_behind core
+      by_kind stays solved.Spent spent = spent
 
-  pub levels : AreOfLevels asked.live e.asserted k.asserted
-  levels = subst (AreOfLevels asked.live e.asserted) (sym done.searched.asserted) stated.levels
-
-  -- the answer
-
-  wanted_atoms : list_all (is_atom f.atoms) done.wanted ≡ true
-  wanted_atoms =
-      done.among [] (earlier_table [] f.atoms done.stand.earlier)
-      (list_all-append (λ (l : Lit). is_atom f.atoms l.atom) literals assumed
-      ∙ and_from (are_atoms f.atoms literals) (are_atoms f.atoms assumed)
-      (are_of_table s y.arena f f.atoms
-      (λ place l one. subst (λ (n : Lit). n.atom < length f.atoms) one.literal
-      (done.stand.of_atoms place one.clause one.there)) places literals stated.all) known)
-
-  literals_there : (start : AllKept) → Backs x.arena x.graph.memo e start
-      → AreLiterals (atoms_in z.arena k.atoms) k.kept (terms_at (live (state_of s)) places) literals
-  literals_there start b =
-      let behind = stated.puts start b in
-      let same = ap (atoms_in z.arena) done.searched.atoms
-      ∙ atoms_kept y.arena z.arena f.atoms done.searched.store.more.extends stated.regexes in
-      are_literals s y.arena f (atoms_in z.arena k.atoms) k.kept
-      (λ place l one. (
-        one.term,
-        one.stands,
-        record {
-          is = rw same one.translates;
-          kept_there = (
-            one.clause.clause.0,
-            record { literals = one.clause.literal ∷ []; level = one.clause.level },
-            kept_grown f.kept k.kept one.clause.clause.0
-                (record { literals = one.clause.literal ∷ []; level = one.clause.level }) done.searched.kept
-                (behind.backs.asserted place one.clause one.there),
-            ap (λ (n : Lit). n ∷ []) one.literal,
-          );
-        },
-      )) places literals stated.all
-
-  said_behind : AreSaid k.atoms s.assumptions assumed
-  said_behind = subst (λ (ts : List (AtomOver ℕ)). AreSaid ts s.assumptions assumed) (sym done.searched.atoms) said
-
-  answered : (words : List (Option (List ℕ))) (truths : List Bool)
-      → (v : IsValuedBy s assumed z.arena k.atoms k.kept done.wanted words truths) → (start : AllKept)
-      → Backs x.arena x.graph.memo e start → AreTerms asked
-      → IsAnswered z.arena k.atoms done.wanted literals assumed k.kept v.search.trail.literals v.theory places
-      (state_of s) s.assumptions
-  answered words truths v start b terms = record {
-    decided = subst (λ (ts : List (AtomOver ℕ)). IsDecided z.arena ts done.wanted k.kept v.search.trail.literals)
-        (sym done.searched.atoms)
-        (record {
-          table = earlier_table z.arena f.atoms done.stand.earlier;
-          distinct = done.distinct;
-          known = wanted_atoms;
-          closed = done.closed.closed;
-          full = v.full.full;
-          none_false = subst (λ (kept : Kept). HasNoneFalse kept (held v.search.trail.literals)) v.keeps
-              v.full.none_false;
-          gates = gated f.atoms f.kept k.kept (literals ++ assumed) done.wanted done.searched.kept gates done.closed
-              wanted_atoms;
-        });
-    agrees = v.agrees;
-    closed = subst (λ (ts : List (AtomOver ℕ)). AreWanted ts (literals ++ assumed) done.wanted)
-        (sym done.searched.atoms) done.closed;
-    stated = literals_there start b;
-    said = said_behind;
-    on = v.full.assumed;
-    terms = terms;
-  }
-
-  by_kind : (a : Solved) → Answers s assumed z.arena k.atoms k.kept done.wanted after a
-      → IsSolved s places x.arena x.graph.memo e k after a
-  by_kind (solved.Sat words truths) v = record {
-    characters = v.model.characters;
-    given = λ start b terms.
-        v.model.given places literals assumed k.kept (answered words.items truths.items v start b terms);
-  }
-  by_kind (solved.Unsat id) core = refuting k.atoms s.assumptions assumed k.kept id.0 said_behind core
-  by_kind solved.Spent spent = spent
-
-  pub answer : IsSolved s places x.arena x.graph.memo e k after solution
-  answer = by_kind solution done.answers
+      pub answer : TranslationStays → IsSolved s places x.arena x.graph.memo e k after solution
+      answer stays = by_kind stays solution done.answers

@@ -85,3 +85,11 @@ declared_with sorts old new serial (inr more) here h =
     ∙ both_declared sorts old (bool_atom serial ∷ []) h
     (and_from (is_sorted sorts (bool_atom serial)) true (and_from (is_declared sorts boolean serial) true here refl)
     refl)
+
+-- no constant stands in the membership of no pieces
+pub declared_end : (sorts : List Sort) (old new : List (AtomOver ℕ)) (r : ℕ) → IsWith old new (in_atom [] r)
+    → are_declared sorts old ≡ true → are_declared sorts new ≡ true
+declared_end sorts old new r (inl same) h = ap (λ (xs : List (AtomOver ℕ)). are_declared sorts xs) same ∙ h
+declared_end sorts old new r (inr more) h =
+    ap (λ (xs : List (AtomOver ℕ)). are_declared sorts xs) more
+    ∙ both_declared sorts old (in_atom [] r ∷ []) h refl

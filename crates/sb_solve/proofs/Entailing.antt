@@ -8,7 +8,7 @@ none_entailed asked atoms id clause there = absurd (Prim.cc (there))
 
 -- One more clause.
 
-with_entailed : (asked : Asked) (atoms : List Atom) (kept : Kept) (literals : List Lit) (level : ℕ)
+pub with_entailed : (asked : Asked) (atoms : List Atom) (kept : Kept) (literals : List Lit) (level : ℕ)
     → AreEntailed asked atoms kept
     → ((v : Valuation) → HasWords v → HasSorts v asked.sorts → LevelsHold v asked.live level
     → clause_holds v atoms literals ≡ true)

@@ -8,6 +8,7 @@ pub mod Modelling
 pub mod Stated
 pub mod Ended
 pub mod Truths
+pub mod Goings
 pub mod Answering
 pub mod Claims
 pub mod CallerLemmas

@@ -187,7 +187,7 @@ module _ (rs : List Regex) (atoms : List (AtomOver ℕ)) (wanted : List ℕ) (li
         and_parts (list_all (is_in wanted) (atoms_of literals)) (list_all (is_in wanted) (atoms_of assumed))
         (sym (list_all-append (is_in wanted) (atoms_of literals) (atoms_of assumed))
         ∙ ap (list_all (is_in wanted)) (sym (map-append (λ (l : Lit). l.atom) literals assumed))
-        ∙ a.closed.first)
+        ∙ a.wanted_there)
 
     true_here : TranslationHolds → (place : ℕ) (t : Term) → Contains places place
         → slice_get (live (state_of s)) place ≡ Some (asserted t) → holds t v ≡ true

@@ -17,7 +17,7 @@ stated_none s x e told below = record {
   all = tt;
 }
 
-translates_still : TranslationStays → (rs more : List Regex) (old new : List (AtomOver ℕ)) (t : Term) (l : Lit)
+pub translates_still : TranslationStays → (rs more : List Regex) (old new : List (AtomOver ℕ)) (t : Term) (l : Lit)
     → Extends rs more → HaveRegexesBelow (length rs) old → table.Extends old new
     → translation (atoms_in rs old) t ≡ Some l → translation (atoms_in more new) t ≡ Some l
 translates_still stays rs more old new t l grows below atoms h =
@@ -140,7 +140,7 @@ are_of_table s more f atoms each (place ∷ places) (l ∷ ls) h =
 
 -- Assumptions.
 
-names_more : (old more : List (AtomOver ℕ)) (i : ℕ) (a : AtomOver ℕ) → Names old i a → Names (old ++ more) i a
+pub names_more : (old more : List (AtomOver ℕ)) (i : ℕ) (a : AtomOver ℕ) → Names old i a → Names (old ++ more) i a
 names_more [] more i a h = absurd (omega (arith, slice_get_within [] i a h))
 names_more (x ∷ old) more zero a h = h
 names_more (x ∷ old) more (suc i) a h = names_more old more i a h
@@ -158,6 +158,21 @@ said_more old new extends (a ∷ given) bs (l ∷ ls) ms are more = (
     are.0.1,
   ),
   said_more old new extends given bs ls ms are.1 more,
+)
+
+-- the same literals over a larger table
+pub said_over : (old new : List (AtomOver ℕ)) → table.Extends old new → (given : List Assumption) (ls : List Lit)
+    → AreSaid old given ls → AreSaid new given ls
+said_over old new extends [] [] are = tt
+said_over old new extends [] (l ∷ ls) are = absurd are
+said_over old new extends (a ∷ given) [] are = absurd are
+said_over old new extends (a ∷ given) (l ∷ ls) are = (
+  (
+    subst (λ (atoms : List (AtomOver ℕ)). Names atoms l.atom (bool_atom a.0)) (sym extends.is)
+        (names_more old extends.more l.atom (bool_atom a.0) are.0.0),
+    are.0.1,
+  ),
+  said_over old new extends given ls are.1,
 )
 
 -- their atoms are in the table

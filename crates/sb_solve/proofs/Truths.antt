@@ -1,7 +1,7 @@
 -- What stays true of the evidence: where lines are put that follow, and where clauses that follow are kept by no lines.
-use Rattle.sb_solve.proofs.Words.{◌≡◌, ℕ, zero, suc, ◌+◌, ◌≤◌, Bool, true, false, nat_lt, if◌then◌else◌, List, [], ◌∷◌, map, length, slice_get, Option, Some, None, unwrap_or, Result, Ok, Err, refl, sym, ap, subst, ◌∙◌, inl, inr, arith, ltb-false, le-ltb, length-map, slice_get_within, same_Some, Kept, KeptClause, kept_at, Regex, Memo, Spending, Store, Term, Valuation, Atom, are_known, AllKept, Asked, count_again, AreTerms, IsSound, LevelsHold, PlacesHold, StandsAt, FollowsByRule, LineStaysSound, CountedAgainStaysSound, HaveRegexesBelow, atoms_in, atoms_kept, Puts, follow_all, tracks_grow, cons-cases, not-in-nil, Asserted, Backing, Backs, asserted_at, unit_at, AreEntailed, IsSearched, IsTrue, Contains, Refusal, Line, follows, Traced, Tracks, are_known_in, tracks_kept}
+use Rattle.sb_solve.proofs.Words.{◌≡◌, ℕ, zero, suc, ◌+◌, ◌≤◌, Bool, true, false, nat_lt, if◌then◌else◌, List, [], ◌∷◌, map, length, slice_get, Option, Some, None, unwrap_or, Result, Ok, Err, refl, sym, ap, subst, ◌∙◌, inl, inr, arith, ltb-false, le-ltb, length-map, slice_get_within, same_Some, Kept, KeptClause, kept_at, Regex, Memo, Spending, Store, Term, Valuation, Atom, are_known, AllKept, Asked, count_again, AreTerms, IsSound, LevelsHold, PlacesHold, StandsAt, FollowsByRule, LineStaysSound, CountedAgainStaysSound, HaveRegexesBelow, atoms_in, atoms_kept, Puts, follow_all, tracks_grow, cons-cases, not-in-nil, Asserted, Backing, Backs, asserted_at, unit_at, AreEntailed, IsSearched, IsTrue, Contains, Refusal, Line, follows, Traced, Tracks, are_known_in, tracks_kept, ◌++◌, HasWords, Lit, are_atoms, clause_holds, kept-cases, kept-stays}
 use Rattle.sb_solve.proofs.Ended.{kept_grown}
-use Rattle.sb_solve.proofs.Entailing.{searched_entailed, slice_there}
+use Rattle.sb_solve.proofs.Entailing.{searched_entailed, slice_there, with_entailed}
 
 -- Lines are put.
 
@@ -211,3 +211,45 @@ true-following asked proves x y e f before after old new off h below t = record 
     entailed : AreEntailed asked t.kept.atoms f.kept
     entailed = subst (λ (ts : List Atom). AreEntailed asked ts f.kept) (sym table)
         (searched_entailed asked y.arena e.atoms e.kept f.kept at_first h.follows)
+
+-- A clause is kept that follows from nothing, by no line.
+pub true-kept : (asked : Asked) (rs : List Regex) (memo : Memo) (e f : Backing) (clause : List Lit)
+    → f ≡ record e { kept = e.kept ++ Some (record { literals = clause; level = 0 }) ∷ [] }
+    → are_atoms e.atoms clause ≡ true
+    → ((v : Valuation) → HasWords v → clause_holds v (atoms_in rs e.atoms) clause ≡ true)
+    → IsTrue asked rs memo e → IsTrue asked rs memo f
+true-kept asked rs memo e f clause is known holds t =
+    subst (λ (g : Backing). IsTrue asked rs memo g) (sym is) (record {
+      kept = keeping asked t.kept (e.kept ++ Some (record { literals = clause; level = 0 }) ∷ []);
+      backs = record {
+        tracks = tracks_kept rs memo e.trace t.kept (e.kept ++ Some (record { literals = clause; level = 0 }) ∷ [])
+            (rests_on asked.live (e.kept ++ Some (record { literals = clause; level = 0 }) ∷ [])) 0 t.backs.tracks;
+        atoms = t.backs.atoms;
+        clauses = refl;
+        asserted = λ place a there.
+            kept-stays e.kept (Some (record { literals = clause; level = 0 }) ∷ []) a.clause.0 (unit_at a)
+            (t.backs.asserted place a there);
+      };
+      sound = sound-keeping asked t.kept (e.kept ++ Some (record { literals = clause; level = 0 }) ∷ []) t.sound
+          known_there entailed;
+      counted = refl;
+    })
+  where
+    known_there : (id : ℕ) (c : KeptClause)
+        → kept_at (e.kept ++ Some (record { literals = clause; level = 0 }) ∷ []) id ≡ Some c
+        → are_known t.kept.atoms c.literals ≡ true
+    known_there id c there =
+        elim (kept-cases e.kept (Some (record { literals = clause; level = 0 })) id c there) [
+          | inl before ↦ t.sound.known id c (ap (λ (k : Kept). kept_at k id) t.backs.clauses ∙ before)
+          | inr last ↦
+              subst (λ (k : KeptClause). are_known t.kept.atoms k.literals ≡ true)
+              (same_Some (record { literals = clause; level = 0 }) c last.1)
+              (are_known_in rs e.atoms t.kept.atoms clause t.backs.atoms known)
+        ]
+
+    entailed : AreEntailed asked t.kept.atoms (e.kept ++ Some (record { literals = clause; level = 0 }) ∷ [])
+    entailed =
+        with_entailed asked t.kept.atoms e.kept clause 0
+        (subst (λ (k : Kept). AreEntailed asked t.kept.atoms k) t.backs.clauses t.sound.clauses)
+        (λ v words sorts levels.
+        ap (λ (ts : List Atom). clause_holds v ts clause) t.backs.atoms ∙ holds v words)

@@ -5,7 +5,7 @@ use Rattle.sb_solve.specs.Words.{AreTerms, Assertion, Assigned, Assumption, Atom
 use Rattle.sb_script.specs.State.{State}
 use Rattle.sb_search.specs.Found.{are_true}
 use Rattle.sb_solve.specs.Assumed.{AreSaid}
-use Rattle.sb_solve.specs.Wanted.{AreWanted}
+use Rattle.sb_solve.specs.Wanted.{atoms_of, is_in}
 use Rattle.sb_solve.specs.Decided.{IsKept, IsDecided}
 
 -- the assertion's term, where there is one, in front of the others
@@ -30,8 +30,8 @@ AreLiterals atoms kept [] [] = Unit {0}
 AreLiterals atoms kept (t ∷ ts) (l ∷ ls) = IsLiteral atoms kept t l × AreLiterals atoms kept ts ls
 AreLiterals atoms kept _ _ = ⊥
 
--- The atoms that are wanted are those of the literals of the live assertions at these places, and of those of the
--- assumptions, with all that they speak of; each is decided; the literals of the assumptions are on the trail, and the
+-- Among the atoms that are wanted are those of the literals of the live assertions at these places, and of those of the
+-- assumptions; each is decided, with all that they speak of; the literals of the assumptions are on the trail, and the
 -- wanted memberships there are true of the words; and the live assertions fit the sorts of the constants.
 pub record IsAnswered (rs : List Regex) (atoms : List (AtomOver ℕ)) (wanted : List ℕ) (literals assumed : List Lit)
     (kept : Kept) (entries : List Assigned) (words : List (Option (List ℕ))) (places : List ℕ) (s : State)
@@ -39,7 +39,7 @@ pub record IsAnswered (rs : List Regex) (atoms : List (AtomOver ℕ)) (wanted : 
   where
     pub decided : IsDecided rs atoms wanted kept entries
     pub agrees : list_all (is_true_by rs atoms words) (wanted_on wanted entries) ≡ true
-    pub closed : AreWanted atoms (literals ++ assumed) wanted
+    pub wanted_there : list_all (is_in wanted) (atoms_of (literals ++ assumed)) ≡ true
     pub stated : AreLiterals (atoms_in rs atoms) kept (terms_at (live s) places) literals
     pub said : AreSaid atoms given assumed
     pub on : are_true (held entries) assumed ≡ true

@@ -1,9 +1,11 @@
--- Computed examples of atoms that are wanted, of values, and of assumptions.
-use Rattle.std.specs.Prelude.{◌≡◌, ℕ, true, false, List, [], ◌∷◌, Option, Some, None, refl}
+-- Computed examples of atoms that are wanted, of memberships without constants, of values, and of assumptions.
+use Rattle.std.specs.Prelude.{◌≡◌, ℕ, pos, true, false, List, [], ◌∷◌, Option, Some, None, refl}
 use Rattle.sb_lit.specs.declared.clause.Lit.{Lit}
 use Rattle.sb_trail.specs.declared.assigned.Assigned.{Assigned}
-use Rattle.sb_script.specs.Pieces.{constant_piece}
-use Rattle.sb_rulebook.specs.Atoms.{Atom, AtomOver, bool_atom, in_atom, and_atom, iff_atom}
+use Rattle.sb_script.specs.Pieces.{constant_piece, word_piece}
+use Rattle.sb_script.specs.Sums.{length_of}
+use Rattle.sb_rulebook.specs.Atoms.{Atom, AtomOver, bool_atom, in_atom, le_atom, and_atom, iff_atom}
+use Rattle.sb_refute.specs.Settling.{are_letters, letters_of, pieces_of_word}
 use Rattle.sb_solve.specs.Assumed.{denied_in, make_true, refutes_in}
 use Rattle.sb_solve.specs.Wanted.{atoms_of, parts_at, is_simple_at, are_closed}
 use Rattle.sb_solve.specs.Values.{is_true, truth_by, truth_in, word_in, word_there, are_words_there}
@@ -35,8 +37,27 @@ past_the_table = refl
 simple : is_simple_at five 1 ≡ true
 simple = refl
 
-of_two_constants : is_simple_at (in_atom (constant_piece 3 ∷ constant_piece 4 ∷ []) 1 ∷ []) 0 ≡ false
+of_two_constants : is_simple_at (in_atom (constant_piece 3 ∷ constant_piece 4 ∷ []) 1 ∷ []) 0 ≡ true
 of_two_constants = refl
+
+of_a_bound : is_simple_at (le_atom (length_of 3) (pos 1) ∷ []) 0 ≡ false
+of_a_bound = refl
+
+-- a word alone, which may be empty
+of_a_word : pieces_of_word (97 ∷ []) ≡ word_piece (97 ∷ []) ∷ []
+of_a_word = refl
+
+of_the_empty_word : pieces_of_word [] ≡ []
+of_the_empty_word = refl
+
+without_constants : are_letters (word_piece (97 ∷ []) ∷ []) ≡ true
+without_constants = refl
+
+with_a_constant : are_letters (word_piece (97 ∷ []) ∷ constant_piece 3 ∷ []) ≡ false
+with_a_constant = refl
+
+their_letters : letters_of (word_piece (97 ∷ []) ∷ word_piece (98 ∷ []) ∷ []) ≡ 97 ∷ 98 ∷ []
+their_letters = refl
 
 their_atoms : atoms_of (minus 2 ∷ plus 3 ∷ []) ≡ 2 ∷ 3 ∷ []
 their_atoms = refl

@@ -8,6 +8,7 @@ pub mod Decided
 pub mod SortedAtoms
 pub mod Entailed
 pub mod Truth
+pub mod Settling
 pub mod Answered
 pub mod Modelled
 pub mod Solved

@@ -14,7 +14,7 @@ atoms_of literals = map (λ l. l.atom) literals
 abbrev pub parts_of : AtomOver ℕ → List ℕ
 parts_of a = atoms_of (literals_in a)
 
--- the atom speaks of literals, or of one constant
+-- the atom speaks of literals, of a Bool constant, or is a membership
 abbrev pub is_simple : AtomOver ℕ → Bool
 is_simple = is_brought_atom
 

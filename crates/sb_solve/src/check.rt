@@ -7,6 +7,7 @@ ghost use Rattle.sb_solve.specs.Solved.{AreOfLevels, IsSolved};
 ghost use Rattle.sb_solve.specs.Truth.{IsTrue};
 
 use crate::searching::search_for;
+use crate::settling::settle;
 use crate::stating::{assumed, joined, literals};
 use sb_lit::{Budget, ClauseId};
 use sb_proof::{Tape, TapeFault};
@@ -37,9 +38,10 @@ pub enum Solved {
 
 /// Decides whether some values make the live assertions at these places true, of Boolean structure as all live ones
 /// are, with the assumptions of the check: the clause of each assertion stands in the proof then, with the atom of each
-/// assumption and the clauses of all gates, and behind them the lines of a search over these clauses. A step of the
-/// budget is spent for each line that is counted. Where `proves` is false, what is put proves nothing: no regex is
-/// explored to its end for a lemma, and a step is spent for each lemma and each learned clause.
+/// assumption and the clauses of all gates, and those that say which memberships without constants are true; behind
+/// them the lines of a search over these clauses. A step of the budget is spent for each line that is counted. Where
+/// `proves` is false, what is put proves nothing: no regex is explored to its end for a lemma, and a step is spent for
+/// each lemma and each learned clause, and for each of those that say what memberships without constants are.
 ///
 /// The time is that of the search, which may be exponential in the atoms, and of what is explored of regexes.
 /// `NoMemory` only for want of memory. After an error the evidence may be empty and the store too, and
@@ -86,8 +88,14 @@ pub fn solve<L: Tape>(
     translation_stays();
     let stated = literals(alloc, evidence, store, stack, places, tape)?;
     let assumed = assumed(alloc, evidence, &store.arena, stack.assumptions(), tape)?;
-    let literals = joined(stated, &assumed)?;
+    let asked = joined(stated, &assumed)?;
+    evidence.stands();
+    let found = settle(alloc, evidence, store, &asked, proves, tape, budget)?;
+    let Some(ends) = found else {
+        return Ok(Solved::Spent);
+    };
+    let all = joined(asked, &ends)?;
     search_for(
-        alloc, evidence, store, stack, &literals, &assumed, proves, tape, budget,
+        alloc, evidence, store, stack, &all, &assumed, proves, tape, budget,
     )
 }

@@ -1,6 +1,6 @@
-use Rattle.sb_refute.proofs.Words.{◌≡◌, ℕ, [], ◌∷◌, length, refl, sym, ap, subst, ◌∙◌, Memo, AtomOver, bool_atom, and_atom, iff_atom, AllKept, Asked, atom_in, HasRegexBelow, OnlyNumbers, Tracks, only_numbers_same, Called, IfSome, IsLineOf, constant_piece, in_atom}
+use Rattle.sb_refute.proofs.Words.{ℕ, length, refl, sym, ap, subst, ◌∙◌, Memo, AtomOver, bool_atom, and_atom, iff_atom, AllKept, Asked, atom_in, HasRegexBelow, OnlyNumbers, Tracks, only_numbers_same, Called, IsLineOf}
 use Rattle.sb_proof.specs.Lines.{atom_in as line_atom}
-use Rattle.sb_refute.proofs.DefinedAtoms.{no-member, plain-line}
+use Rattle.sb_refute.proofs.DefinedAtoms.{plain-line}
 use Rattle.sb_refute.proofs.Exits.{called-none}
 use Rattle.sb_refute.proofs.defining.line_of.Goals as goal
 
@@ -14,24 +14,16 @@ returns-in-Bool g c = record {
 }
 
 pub member_line-requires : goal.member_line-requires
-member_line-requires g c =
-    subst (HasRegexBelow (length c.args.arena.now)) (subst (λ o. IfSome o (λ m. atom_in c.args.atom.now
-    ≡ in_atom (constant_piece m.0 ∷ []) m.1)) c.in-Some.is c.member.ensures.is) c.requires.regex
+member_line-requires g c = subst (HasRegexBelow (length c.args.arena.now)) (ap atom_in c.in-In.is) c.requires.regex
 
-pub unreachable-requires : goal.unreachable-requires
-unreachable-requires g c =
-    no-member (atom_in c.args.atom.now) _ _ (ap atom_in c.in-In.is) c.requires.brought
-    (sym c.member.ensures.exact ∙ c.in_default.is)
-
-pub returns-in-Some : goal.returns-in-Some
-returns-in-Some g c =
+pub returns-in-In : goal.returns-in-In
+returns-in-In g c =
     subst (λ (a : AtomOver ℕ). Called c.member_line.result
     (λ line. (asked : Asked) (memo : Memo) (before : AllKept) → Tracks c.args.arena.now memo c.args.trace.now before
     → IsLineOf asked before c.args.arena.now memo c.member_line.new.trace a (line_atom line)
     (g.L.Tape.told c.args.tape.now) (g.L.Tape.told c.member_line.new.tape))
     (OnlyNumbers c.args.trace.now c.member_line.new.trace) (g.L.Tape.faults c.args.tape.now)
-    (g.L.Tape.faults c.member_line.new.tape)) (sym (subst (λ o. IfSome o (λ m. atom_in c.args.atom.now
-    ≡ in_atom (constant_piece m.0 ∷ []) m.1)) c.in-Some.is c.member.ensures.is)) c.member_line.ensures
+    (g.L.Tape.faults c.member_line.new.tape)) (sym (ap atom_in c.in-In.is)) c.member_line.ensures
 
 pub returns-in_ok-conjunction_line-in-And : goal.returns-in_ok-conjunction_line-in-And
 returns-in_ok-conjunction_line-in-And g c = record {

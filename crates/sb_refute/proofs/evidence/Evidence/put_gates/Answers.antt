@@ -9,6 +9,7 @@ loop-self-init g c = record {
   rest = refl;
   faults = refl;
   puts = λ asked rs memo. leads-none asked rs memo c.args.self.now (g.L.Tape.told c.args.tape.now);
+  stay = λ id clause h. h;
 }
 
 pub put_next-requires : goal.put_next-requires
@@ -25,6 +26,7 @@ loop-self-preserved g c =
           leads-both asked rs memo c.args.self.now c.loop-self.self c.put_next.new.self (g.L.Tape.told c.args.tape.now)
           (g.L.Tape.told c.loop-self.tape) (g.L.Tape.told c.put_next.new.tape) (h.puts asked rs memo)
           (put.ok.0 asked rs memo);
+      stay = λ id clause there. put.ok.2 id clause (h.stay id clause there);
     }
 
 pub loop-self-smaller : goal.loop-self-smaller
@@ -40,7 +42,11 @@ loop-self-smaller g c =
 pub returns : goal.returns
 returns g c =
     let h = c.loop-self.invariant in
-    record { ok = (h.puts, c.lacks_gates.ensures.all c.loop-self-test.false); rest = h.rest; counts = h.faults }
+    record {
+      ok = (h.puts, c.lacks_gates.ensures.all c.loop-self-test.false, h.stay);
+      rest = h.rest;
+      counts = h.faults;
+    }
 
 pub returns-in_err-put_next : goal.returns-in_err-put_next
 returns-in_err-put_next g c =

@@ -2,6 +2,7 @@ use Rattle.sb_refute.proofs.Words.{◌+◌, ◌++◌, ◌∷◌, [], List, All, 
 use Rattle.sb_refute.proofs.Asserting.{leads-none, leads-both}
 use Rattle.sb_refute.proofs.Exits.{called-none, called-on}
 use Rattle.sb_refute.proofs.GateLines.{gates-alone, gates-passed, has-gates, kept-more}
+use Rattle.sb_refute.proofs.Settled.{stay-behind}
 use Rattle.sb_refute.proofs.evidence.Evidence.put_next.Goals as goal
 
 pub loop-clause-init : goal.loop-clause-init
@@ -66,6 +67,8 @@ returns g c =
             (gates-passed c.args.self.now mid (mid.gates + 1) (g.L.Tape.told c.args.tape.now)
             (g.L.Tape.told c.loop-clause.tape) h.puts),
         ap (λ (f : Backing). f.gates) passed ∙ ap (λ (f : Backing). f.gates + 1) h.kept,
+        stay-behind c.args.self.now.kept _ c.pass_gates.new.self.kept
+            (ap (λ (f : Backing). f.kept) passed ∙ ap (λ (f : Backing). f.kept) h.kept),
       );
       rest = gates-alone c.args.self.now c.pass_gates.new.self _ _
           (passed ∙ ap (λ (f : Backing). record f { gates = f.gates + 1 }) h.kept);

@@ -10,14 +10,16 @@ use Rattle.sb_refute.proofs.evidence.Evidence.statement.Goals as goal
 pub invariant_of-self : goal.invariant_of-self
 invariant_of-self g c = (
   stand-atoms (backing_of c.self.inside.parts) c.translate.new.self c.translate.ensures.extends
-      c.translate.ensures.earlier c.self.invariant.0,
+      c.translate.ensures.earlier (λ i a new named. (c.translate.ensures.defined i a new named).0)
+      (c.translate.ensures.unjoined c.requires.unjoined c.self.invariant.0.unjoined) c.self.invariant.0,
   c.self.invariant.1,
 )
 
 pub invariant_of-self-2 : goal.invariant_of-self-2
 invariant_of-self-2 g c = (
   stand-atoms (backing_of c.self.inside.parts) c.translate.new.self c.translate.ensures.extends
-      c.translate.ensures.earlier c.self.invariant.0,
+      c.translate.ensures.earlier (λ i a new named. (c.translate.ensures.defined i a new named).0)
+      (c.translate.ensures.unjoined c.requires.unjoined c.self.invariant.0.unjoined) c.self.invariant.0,
   c.self.invariant.1,
 )
 
