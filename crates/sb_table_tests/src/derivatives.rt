@@ -22,10 +22,11 @@ enum Wanted {
 }
 
 /// Targets: by the first and the last character `a`, and none by those between; up to two times by `a` where it was up to
-/// three times; and the greatest number of times has one less behind a character. Cut points: a set that ends where
+/// three times; the greatest number of times has one less behind a character; and a path goes on from the derivative, is
+/// every word where it came from none to none, and none where it came to none alone. Cut points: a set that ends where
 /// another one begins, those with the last character, one with every character, and parts behind a front that is nullable
 /// and one that is not.
-static ROWS: [(&[u8], Wanted); 13] = [
+static ROWS: [(&[u8], Wanted); 18] = [
     (
         b"Wa.Ya.|",
         Wanted::Targets(&[
@@ -47,6 +48,29 @@ static ROWS: [(&[u8], Wanted); 13] = [
             (&[(0x61, 0x61)], b"a8"),
         ]),
     ),
+    (
+        b"a*a*>",
+        Wanted::Targets(&[
+            (&[(0, 0x60), (0x62, 0x2ffff)], b"N"),
+            (&[(0x61, 0x61)], b"a*a*>"),
+        ]),
+    ),
+    (
+        b"ab.b>",
+        Wanted::Targets(&[
+            (&[(0, 0x60), (0x62, 0x2ffff)], b"N"),
+            (&[(0x61, 0x61)], b"bb>"),
+        ]),
+    ),
+    (
+        b"a*N>",
+        Wanted::Targets(&[
+            (&[(0, 0x60), (0x62, 0x2ffff)], b"E*"),
+            (&[(0x61, 0x61)], b"a*N>"),
+        ]),
+    ),
+    (b"Na>", Wanted::Targets(&[(&[(0, 0x2ffff)], b"N")])),
+    (b"E*E*>", Wanted::Targets(&[(&[(0, 0x2ffff)], b"E*")])),
     (b"N", Wanted::Points(&[0])),
     (b"Z", Wanted::Points(&[0])),
     (b"a", Wanted::Points(&[0, 0x61, 0x62])),

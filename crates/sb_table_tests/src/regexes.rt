@@ -7,10 +7,11 @@ use sb_regex::{Arena, RegexId};
 use std::alloc::{AllocError, Global};
 
 /// The regex of a text: characters and sets, and behind their parts `.` for a concatenation, `|` for a union, `&` for an
-/// intersection, `*` for a star, and a digit for a repetition: `2` from none to twice, `3` from none to three times, `9`
-/// as often as may be, `8` once less. `N` is no word, `Z` the empty word alone, `x` each of `a` to `c`, `F` each of `a` to
-/// `f`, `$` each of `a` to `z`, `L` each character from `e` on, `W` the first character, `Y` the last one, `E` every
-/// character; another sign is itself. Where a part lacks it is an error.
+/// intersection, `>` for the words along which the derivative takes the first to the second, `*` for a star, and a digit
+/// for a repetition: `2` from none to twice, `3` from none to three times, `9` as often as may be, `8` once less. `N` is
+/// no word, `Z` the empty word alone, `x` each of `a` to `c`, `F` each of `a` to `f`, `$` each of `a` to `z`, `L` each
+/// character from `e` on, `W` the first character, `Y` the last one, `E` every character; another sign is itself. Where
+/// a part lacks it is an error.
 pub fn regex(alloc: Global, arena: &mut Arena, text: &[u8]) -> Result<RegexId, AllocError>
     ensures { IfOk result (λ id. id < length arena.new) }
 {
@@ -51,7 +52,9 @@ pub fn put(
 ) -> Result<(), AllocError> {
     for sign in text {
         let part = match *sign {
-            b'.' | b'|' | b'&' | b'*' | b'2' | b'3' | b'8' | b'9' => join(arena, parts, *sign)?,
+            b'.' | b'|' | b'&' | b'>' | b'*' | b'2' | b'3' | b'8' | b'9' => {
+                join(arena, parts, *sign)?
+            }
             _ => atom(alloc, arena, *sign)?,
         };
         parts.push(part)?;
@@ -87,6 +90,7 @@ fn join(arena: &mut Arena, parts: &mut Vec<RegexId>, sign: u8) -> Result<RegexId
     match sign {
         b'.' => arena.cat(left, right),
         b'|' => arena.alt(&[left, right]),
+        b'>' => arena.path(left, right),
         _ => arena.and(&[left, right]),
     }
 }

@@ -3,7 +3,7 @@
 
 ghost use Rattle.std.specs.Prelude.{◌<◌, length, All, IfOk, IfSome};
 
-use sb_fragment::{Fragment, Measure, Measures, Reason, Standing};
+use sb_fragment::{Fragment, Measure, Measures, Problem, Reason, Standing};
 use sb_problem::Pattern;
 use sb_term::{Assertion, Serial, Sort, Symbol, Table, Term, TermId};
 use sb_word::Word;
@@ -12,12 +12,15 @@ use std::alloc::{AllocError, Global};
 use std::process::Abort;
 use std::test::Fail;
 
-/// A term, whether it is a word, is without constants, is a regular expression over literals, and has short words, its
+/// A term, whether it is a word, is without constants, is a regular expression over words, and has short words, its
 /// size, and whether it is a RegLan term within the limits, or a String term within them.
 type Measured = (&'static [u8], (bool, bool, bool, bool), u32, bool);
 
-static MEASURES: [Measured; 7] = [
+static MEASURES: [Measured; 10] = [
     (b"x", (false, false, false, true), 0, false),
+    (b"xa+", (false, false, false, true), 1, false),
+    (b"ab+", (true, true, false, true), 2, true),
+    (b"VV+", (true, true, false, false), 131_070, false),
     (b"xw", (false, false, false, true), 1, false),
     (b"ab.", (false, true, false, true), 3, true),
     (b"awxw|", (false, false, false, true), 4, false),
@@ -27,23 +30,28 @@ static MEASURES: [Measured; 7] = [
 ];
 
 /// Terms, and why an assertion of each is outside the fragment; of no text a mark.
-static OUTSIDE: [(&[u8], Reason); 15] = [
+static OUTSIDE: [(&[u8], Reason); 17] = [
     (b"xab.e", Reason::NotBrought),
-    (b"bawe", Reason::NotBrought),
-    (b"iawe", Reason::NotBrought),
-    (b"xxwe!", Reason::NotBrought),
-    (b"xy#", Reason::NotBrought),
-    (b"xO", Reason::NotBrought),
-    (b"xy=", Reason::NotBrought),
-    (b"ab=", Reason::NotBrought),
+    (b"xy+awe", Reason::NotBrought),
+    (b"xy+a=", Reason::NotBrought),
     (b"x", Reason::NotBrought),
+    (b"xx+awe", Reason::RepeatedVariable),
+    (b"xx+a=", Reason::RepeatedVariable),
+    (b"xx+y=!", Reason::RepeatedVariable),
+    (b"xxwe!", Reason::NotGround),
+    (b"xy#", Reason::NotGround),
+    (b"xy=", Reason::NotGround),
     (b"xxwe", Reason::NotGround),
     (b"xawxw|e", Reason::NotGround),
     (b"xWwe!", Reason::TooLarge),
     (b"xW=P/", Reason::TooLarge),
     (b"xW=", Reason::TooLarge),
+    (b"VV+x=", Reason::TooLarge),
     (b"", Reason::Marked),
 ];
+
+/// Terms of which an assertion is inside it.
+static INSIDE: [&[u8]; 5] = [b"bawe", b"ab=", b"ab+x=", b"ab+x#P/", b"xO"];
 
 /// The term of a text in postfix: `x` and `y` are String constants, `i` an Int constant, `P` a Bool constant, `V` a word
 /// of as many letters as there may be, `W` one of a letter more, `a` and `b` words of one letter, `8` the union of eight
@@ -122,6 +130,7 @@ fn apply(
         b'!' => return add(alloc, table, Symbol::Not, &[right]),
         b'O' => return add(alloc, table, Symbol::Equal, &[right]),
         b'8' => return add(alloc, table, Symbol::ReUnion, &[right; 8]),
+        b'+' => Symbol::StrConcat,
         b'.' => Symbol::ReConcat,
         b'|' => Symbol::ReUnion,
         b'e' => Symbol::StrInRe,
@@ -149,7 +158,7 @@ fn add(
 
 /// Expects measures to be those of a row, and so whether the term is within the limits.
 fn expect_row(rt: &impl Abort, measure: Measure, regular: bool, row: &Measured) {
-    assert!(rt; measure.is_word == row.1.0 && measure.is_ground == row.1.1);
+    assert!(rt; measure.is_text == row.1.0 && measure.is_ground == row.1.1);
     assert!(rt; measure.is_regex == row.1.2 && measure.is_short == row.1.3);
     assert!(rt; measure.size == row.2 && regular == row.3);
 }
@@ -225,16 +234,32 @@ fn stand(
     Ok(())
 }
 
+/// Goes through the rows of assertions inside it.
+fn stand_inside(
+    rt: &impl Abort,
+    alloc: Global,
+    table: &mut Table,
+    parts: &mut Vec<TermId>,
+) -> Result<(), AllocError> {
+    for text in &INSIDE {
+        let standing = standing_in(alloc, table, parts, text)?;
+        assert!(rt; standing == Standing::Inside(Problem));
+    }
+    Ok(())
+}
+
 /// Goes through all rows over one table.
 fn go_through(rt: &impl Abort, alloc: Global) -> Result<(), AllocError> {
     let mut table = Table::new(alloc);
     let mut parts = Vec::new(alloc);
     let measured = measure(rt, alloc, &mut table, &mut parts);
     let stood = stand(rt, alloc, &mut table, &mut parts);
+    let inside = stand_inside(rt, alloc, &mut table, &mut parts);
     drop(parts);
     drop(table);
     measured?;
-    stood
+    stood?;
+    inside
 }
 
 #[test]

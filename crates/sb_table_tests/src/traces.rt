@@ -39,8 +39,9 @@ const DEAD: usize = 4;
 /// regexes, and the lines that are put.
 type Row = (&'static [u8], Call, u64, &'static [usize], &'static [u8]);
 
-/// A regex without a word, three times a character or nothing, and one of two characters.
-static ROWS: [Row; 6] = [
+/// A regex without a word, three times a character or nothing, one of two characters, and the words from one regex to
+/// another.
+static ROWS: [Row; 7] = [
     (
         b"a*bb*.&",
         Call::Explore,
@@ -85,6 +86,13 @@ static ROWS: [Row; 6] = [
         100,
         &[EXPANDED, ALREADY],
         b"r set 61-62\nr none\nr eps\nx 0 0-60>1 61-62>2 63-2ffff>1\n",
+    ),
+    (
+        b"aZ>",
+        Call::Expand,
+        100,
+        &[EXPANDED, ALREADY],
+        b"r set 61-61\nr eps\nr path 0 1\nr none\nr path 1 1\nx 2 0-60>3 61-61>4 62-2ffff>3\n",
     ),
 ];
 
