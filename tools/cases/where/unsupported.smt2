@@ -29,7 +29,7 @@
 (check-sat)
 (push)
 (assert (or p
-  (= (str.++ x "a") "ba")))
+  (= (str.replace x "a" "b") "ba")))
 (assert (forall ((y String)) p))
 (assert (! p :named q))
 (assert (= 1.5 1))

@@ -1,0 +1,10 @@
+; words and constants that are split off a membership: where constants are joined, no check is decided so far
+(set-option :print-success false)
+(declare-const x String)
+(declare-const y String)
+(push)
+(assert (= (str.++ x "b" y) "aba"))
+(check-sat)
+(pop)
+(assert (str.in_re (str.++ "c" "") (re.range "a" "b")))
+(check-sat)

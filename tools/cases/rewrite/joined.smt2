@@ -1,0 +1,21 @@
+; concatenations of texts, and of constants
+(set-option :print-success false)
+(declare-const x String)
+(declare-const y String)
+(define-fun opened ((s String)) Bool
+  (str.prefixof (str.++ "(" s) x)) ; of a text alone
+(assert (= x (str.++ "(" "a" ")")))
+(assert (opened (str.++ "a" "")))
+(assert (str.contains (str.++ "a" (str.++ "b")) y))
+(assert (str.suffixof (str.++ ")") x))
+(assert (str.< y (str.++ "b" "c")))
+(assert (= (str.at x 1) (str.++ "a" "")))
+(assert (distinct x "a" (str.++ "b" "c") "d"))
+(assert (str.in_re (str.++ "a" "b") (str.to_re (str.++ "ab" ""))))
+(check-sat)
+(assert (opened y))
+(assert (str.prefixof (str.++ x "a") y))
+(assert (str.prefixof y (str.++ "a" x)))
+(assert (distinct x "a" (str.++ y)))
+(assert (str.in_re x (str.to_re (str.++ y "a"))))
+(check-sat)
