@@ -1,3 +1,2 @@
 (declare-const x String)
-(declare-const y String)
 (check-sat)

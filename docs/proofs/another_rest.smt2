@@ -1,0 +1,3 @@
+(declare-const x String)
+(declare-const y String)
+(check-sat)

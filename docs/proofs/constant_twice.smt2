@@ -1,0 +1,3 @@
+(declare-const x String)
+(assert (= (str.++ x x) "aa"))
+(check-sat)
