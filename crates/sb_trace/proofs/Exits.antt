@@ -1,5 +1,6 @@
 -- What a result says, and what follows from that.
-use Rattle.std.proofs.Common.{◌≡◌, ℕ, true, false, Result, Ok, Err, refl}
+use Rattle.std.proofs.Common.{◌≡◌, ℕ, true, false, Option, Some, Result, Ok, Err, refl, subst}
+use Rattle.std.specs.Option.{IfSome}
 use Rattle.std.specs.Result.{is_err, OnOk, OnErr, IfOk}
 use Rattle.std.proofs.lemmas.Bool.{true≢false, false≢true}
 use Rattle.sb_proof.specs.declared.tape.TapeFault.{TapeFault}
@@ -44,3 +45,6 @@ counts_none (Ok x) e n is none = refl
 counts_none (Err fault.NoMemory) e n is none = refl
 counts_none (Err fault.Fault) fault.Fault n is none = absurd (Prim.cc (none))
 counts_none (Err fault.Fault) fault.NoMemory n is none = absurd (Prim.cc (is))
+
+pub told_some : {A : Type 0} (o : Option A) (x : A) (P : A → Type 0) → o ≡ Some x → IfSome o P → P x
+told_some {A} o x P is h = subst (λ (p : Option A). IfSome p P) is h

@@ -19,3 +19,5 @@ pub mod Spent
 pub mod CallerLemmas
 mod Rooms
 mod Turns
+pub mod Pairs
+pub mod PiecePairs

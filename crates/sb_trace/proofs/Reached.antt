@@ -15,7 +15,7 @@ use Rattle.sb_trace.specs.Reaching.{is_member, IsReached, AreReached, ExpandsRea
 use Rattle.sb_trace.proofs.Positions.{nat_same}
 use Rattle.sb_trace.proofs.Closures.{value_of_first, value_passes}
 
-along_last : (r : Regex) (w : List ℕ) (c : ℕ) → nd_along r (w ++ c ∷ []) ≡ nd (nd_along r w) c
+pub along_last : (r : Regex) (w : List ℕ) (c : ℕ) → nd_along r (w ++ c ∷ []) ≡ nd (nd_along r w) c
 unfolding nd_along
 along_last r [] c = refl
 along_last r (x ∷ w) c = along_last (nd r x) w c

@@ -5,3 +5,4 @@ pub mod Defining
 pub mod Waiting
 pub mod Reaching
 pub mod Closing
+pub mod Pairing

@@ -24,6 +24,7 @@ ghost use Rattle.sb_proof.specs.Tapes.{with_bytes};
 
 mod closing;
 mod numbering;
+mod within;
 
 use crate::node::{number_of, numbers_of};
 pub use closing::Closure;

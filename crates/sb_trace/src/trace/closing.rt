@@ -168,7 +168,7 @@ impl Trace {
     }
 
     /// How many regexes are not expanded, with one that may not be, unless these are more than the most.
-    fn count(&self, regex: RegexId, lacking: u64, most: u64) -> Option<u64>
+    pub(super) fn count(&self, regex: RegexId, lacking: u64, most: u64) -> Option<u64>
         requires { lacking ≤ most }
         ensures some { IfSome result
             (λ count. (count ≤ most) × (count ≡ lacking + cond (is_unexpanded self.now regex) 1 0)) }
@@ -305,7 +305,7 @@ impl Trace {
 }
 
 /// The members, in order.
-fn listed(alloc: Global, members: &IndexSet<RegexId>) -> Result<Vec<RegexId>, AllocError>
+pub(super) fn listed(alloc: Global, members: &IndexSet<RegexId>) -> Result<Vec<RegexId>, AllocError>
     ensures items { IfOk result (λ all. all.items ≡ members.now.keys) }
     ensures once { IfOk result (λ all. IsDistinct nat_eq all.items) }
 {
