@@ -1,0 +1,5 @@
+pub mod Words
+pub mod Added
+pub mod Steps
+pub mod Covers
+pub mod Fronts
