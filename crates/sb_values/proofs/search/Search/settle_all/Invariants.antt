@@ -1,0 +1,5 @@
+use Rattle.sb_values.specs.Explored.{Explores}
+use Rattle.sb_values.proofs.search.Search.settle_all.Given as goal
+
+abbrev pub invariant-loop-constant : goal.invariant-loop-constant
+invariant-loop-constant l = Explores l.fn.arena l.arena l.fn.graph l.graph
