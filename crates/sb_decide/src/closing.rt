@@ -1,6 +1,6 @@
 //! The words of a model.
 
-ghost use Rattle.std.specs.Prelude.{◌≡◌, ℕ, ◌<◌, ◌≤◌, [], Bool, List, Option, Some, length, true, All, IfOk, OnOk};
+ghost use Rattle.std.specs.Prelude.{◌≡◌, ◌<◌, ◌≤◌, [], Bool, List, Option, Some, length, true, All, IfOk, OnOk};
 ghost use Rattle.std.specs.declared.alloc.Global.{Global as TheAlloc};
 ghost use Rattle.std.specs.declared.vec.Vec.{Vec as TheVec};
 ghost use Rattle.sb_lang.specs.Regex.{Regex};

@@ -140,9 +140,9 @@ impl Decider {
     /// ([`sb_plain::Plain::matches`]), and stays where it is in all of them. Else, and where one of those was taken
     /// back, the check is linear in the constant's memberships and in what is explored; a regex that was explored
     /// before is not expanded again. Whether an assertion is decided is looked at once, in the time of
-    /// [`sb_fragment::Measures::fits_structure`]. While there are some that are no memberships, the constants that occur
-    /// in them are left to the search. They are found in the terms of those that are new, but for ground ones, each once, and in those of
-    /// all where one was taken back since. `AllocError` only for want of memory.
+    /// [`sb_fragment::Measures::fits_structure`]. While there are some that are no memberships, the constants that
+    /// occur in them are left to the search. They are found in the terms of those that are new, but for ground ones,
+    /// each once, and in those of all where one was taken back since. `AllocError` only for want of memory.
     pub fn decide(&mut self, alloc: Global, stack: &Stack) -> Result<Decided, AllocError>
         requires { Knows self.old stack.now }
         ensures knows { OnOk result (Knows self.new stack.now) }

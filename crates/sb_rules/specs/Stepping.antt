@@ -50,7 +50,8 @@ begins_step atoms clause a = is_ended_by atoms clause a || list_any (is_step_of 
 -- the clause is the step of these two literals by this third one
 abbrev pub is_split_with : List Atom → List Lit → Lit → Lit → Lit → Bool
 is_split_with atoms clause a c b =
-    not b.positive && (is_set_of clause (b ∷ a ∷ c ∷ []) && is_split (atom_of atoms a) (atom_of atoms b) (atom_of atoms c))
+    not b.positive
+    && (is_set_of clause (b ∷ a ∷ c ∷ []) && is_split (atom_of atoms a) (atom_of atoms b) (atom_of atoms c))
 
 -- The atoms are well formed, of regexes of an arena of which what is remembered is right.
 pub record AreReady (atoms : List (AtomOver ℕ)) (rs : List Regex) (m : Memory) : Type 0 where

@@ -13,14 +13,15 @@ use sb_proof::Line;
 use sb_term::{Assertion, Sort, Table};
 
 impl Kept {
-    /// Judges a line of the proof, where these assertions are live, constants of these sorts are declared (by serial), and
-    /// this is the limit in force, and keeps what the line says where it follows. A line that is first or last of a proof,
-    /// or a verdict, is misplaced here.
+    /// Judges a line of the proof, where these assertions are live, constants of these sorts are declared (by serial),
+    /// and this is the limit in force, and keeps what the line says where it follows. A line that is first or last of a
+    /// proof, or a verdict, is misplaced here.
     ///
     /// A line costs what it holds, and what its rule must look at: the normal form of the regex that it defines or of
-    /// the intersection that its clause speaks of; the derivatives by the characters between which an expansion changes,
-    /// or along the word that a step takes off; the literals of its hints, or of the gates that its clause may be of, and
-    /// the kept clauses that may be a part of it. After want of memory what is kept is as before, but that the atom of the line may be kept.
+    /// the intersection that its clause speaks of; the derivatives by the characters between which an expansion
+    /// changes, or along the word that a step takes off; the literals of its hints, or of the gates that its clause may
+    /// be of, and the kept clauses that may be a part of it. After want of memory what is kept is as before, but that
+    /// the atom of the line may be kept.
     pub fn follows(
         &mut self,
         table: &Table,

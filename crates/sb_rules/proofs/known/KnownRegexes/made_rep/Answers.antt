@@ -23,5 +23,5 @@ pub returns-in_err-id-clause-made : goal.returns-in_err-id-clause-made
 returns-in_err-id-clause-made c =
     let p = err_from_is_err_and c.from_residual.result c.from_residual.ensures.1 in
     rw (p.1, p.2)
-    (one-fails c.args.arena.now c.args.self.now.order c.args.arena.now (λ r. rep r c.args.least c.args.most) c.args.a c.in_err-id.field-0.0
-    c.in_err-id.ensures)
+    (one-fails c.args.arena.now c.args.self.now.order c.args.arena.now (λ r. rep r c.args.least c.args.most)
+    c.args.a c.in_err-id.field-0.0 c.in_err-id.ensures)
