@@ -30,23 +30,26 @@ static MEASURES: [Measured; 10] = [
 ];
 
 /// Terms, and why an assertion of each is outside the fragment; of no text a mark.
-static OUTSIDE: [(&[u8], Reason); 17] = [
+static OUTSIDE: [(&[u8], Reason); 20] = [
     (b"xab.e", Reason::NotBrought),
     (b"xy+awe", Reason::NotBrought),
     (b"xy+a=", Reason::NotBrought),
     (b"x", Reason::NotBrought),
+    (b"ix=", Reason::NotBrought),
     (b"xx+awe", Reason::RepeatedVariable),
     (b"xx+a=", Reason::RepeatedVariable),
     (b"xx+y=!", Reason::RepeatedVariable),
     (b"xxwe!", Reason::NotGround),
     (b"xy#", Reason::NotGround),
     (b"xy=", Reason::NotGround),
+    (b"xi=", Reason::NotGround),
     (b"xxwe", Reason::NotGround),
     (b"xawxw|e", Reason::NotGround),
     (b"xWwe!", Reason::TooLarge),
     (b"xW=P/", Reason::TooLarge),
     (b"xW=", Reason::TooLarge),
     (b"VV+x=", Reason::TooLarge),
+    (b"iawe", Reason::TooLarge),
     (b"", Reason::Marked),
 ];
 

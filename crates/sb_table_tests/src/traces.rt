@@ -214,3 +214,127 @@ fn traces_stop_and_put_lines_once(rt: HostRuntime) -> Result<(), Fail> {
     make_all(&rt, rt.alloc())?;
     Ok(())
 }
+
+/// A regex, a guard, how many lines may be counted, to how many regexes words of the guard lead, and the lines that are
+/// put.
+type Guarded = (&'static [u8], &'static [u8], u64, usize, &'static [u8]);
+
+/// Behind one character, behind any number of it, behind no word, and where the budget ends.
+static GUARDED: [Guarded; 6] = [
+    (
+        b"aZ|aZ|.aZ|.",
+        b"a",
+        100,
+        1,
+        b"r eps\nr set 61-61\nr alt 0 1\nr cat 2 2\nr cat 2 3\nr none\nr alt 0 1 3\n\
+        x 4 0-60>5 61-61>6 62-2ffff>5\nx 1 0-60>5 61-61>0 62-2ffff>5\n\
+        x 6 0-60>5 61-61>2 62-2ffff>5\nx 0 0-2ffff>5\n",
+    ),
+    (
+        b"aZ|aZ|.aZ|.",
+        b"a*",
+        100,
+        5,
+        b"r eps\nr set 61-61\nr alt 0 1\nr cat 2 2\nr cat 2 3\nr none\nr alt 0 1 3\n\
+        x 4 0-60>5 61-61>6 62-2ffff>5\nr star 1\nx 7 0-60>5 61-61>7 62-2ffff>5\n\
+        x 6 0-60>5 61-61>2 62-2ffff>5\nx 2 0-60>5 61-61>0 62-2ffff>5\n\
+        x 0 0-2ffff>5\nx 5 0-2ffff>5\n",
+    ),
+    (b"aZ|aZ|.aZ|.", b"N", 100, 0, b""),
+    (
+        b"a*",
+        b"a",
+        100,
+        1,
+        b"r set 61-61\nr star 0\nr none\nx 1 0-60>2 61-61>1 62-2ffff>2\n\
+        r eps\nx 0 0-60>2 61-61>3 62-2ffff>2\nx 3 0-2ffff>2\n",
+    ),
+    (
+        b"aZ|aZ|.aZ|.",
+        b"a*",
+        2,
+        SPENT,
+        b"r eps\nr set 61-61\nr alt 0 1\nr cat 2 2\nr cat 2 3\nr none\nr alt 0 1 3\n\
+        x 4 0-60>5 61-61>6 62-2ffff>5\nr star 1\nx 7 0-60>5 61-61>7 62-2ffff>5\n",
+    ),
+    (
+        b"aZ|aZ|.aZ|.",
+        b"a*",
+        0,
+        SPENT,
+        b"r eps\nr set 61-61\nr alt 0 1\nr cat 2 2\nr cat 2 3\nr none\nr alt 0 1 3\n",
+    ),
+];
+
+/// To how many regexes words of the guard lead.
+fn count_within(
+    arena: &mut Arena,
+    graph: &mut Graph,
+    trace: &mut Trace,
+    tape: &mut MemTape,
+    budget: &mut Budget,
+    root: RegexId,
+    guard: RegexId,
+) -> Result<usize, TapeFault>
+    requires known { root < length arena.old }
+    requires guard { guard < length arena.old }
+    requires graph { IsGraph arena.old graph.old }
+{
+    match trace.within(arena, graph, root, guard, tape, budget)? {
+        Closure::Closed(regexes) => Ok(regexes.len()),
+        Closure::Spent => Ok(SPENT),
+    }
+}
+
+/// Makes the call of a row, and looks at the lines.
+fn guard(
+    rt: &impl Abort,
+    alloc: Global,
+    arena: &mut Arena,
+    graph: &mut Graph,
+    trace: &mut Trace,
+    tape: &mut MemTape,
+    row: &Guarded,
+) -> Result<(), TapeFault>
+    requires { (regexes : List Regex) → IsGraph regexes graph.old }
+{
+    let root = regex(alloc, arena, row.0)?;
+    let guard = regex(alloc, arena, row.1)?;
+    let mut budget = Budget::new(row.2);
+    assert!(rt; root.number() < arena.len());
+    assert!(rt; guard.number() < arena.len());
+    let found = count_within(arena, graph, trace, tape, &mut budget, root, guard)?;
+    assert!(rt; found == row.3);
+    expect_lines(rt, tape, row.4);
+    Ok(())
+}
+
+/// Goes through a row over tables of its own.
+fn go_guarded(rt: &impl Abort, alloc: Global, row: &Guarded) -> Result<(), TapeFault> {
+    let mut arena = Arena::new(alloc);
+    let mut graph = Graph::new(alloc);
+    let mut trace = Trace::new(alloc);
+    let mut tape = MemTape::new(alloc);
+    let made = guard(
+        rt, alloc, &mut arena, &mut graph, &mut trace, &mut tape, row,
+    );
+    drop(tape);
+    drop(trace);
+    drop(graph);
+    drop(arena);
+    made
+}
+
+/// Goes through the rows.
+fn go_all_guarded(rt: &impl Abort, alloc: Global) -> Result<(), TapeFault> {
+    for row in &GUARDED {
+        go_guarded(rt, alloc, row)?;
+    }
+    Ok(())
+}
+
+#[test]
+fn words_of_a_guard_lead_to_these(rt: HostRuntime) -> Result<(), Fail> {
+    go_all_guarded(&rt, rt.alloc())?;
+    Ok(())
+}
