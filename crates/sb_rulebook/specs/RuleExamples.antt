@@ -405,8 +405,7 @@ an_assertion_to_come : refusal_in kept (assertion_line 2 (plus 1)) ≡ Some rule
 unfolding computing
 an_assertion_to_come = refl
 
--- (= (str.++ x "b") "ab") has its literal, though no check over it is decided; where a constant stands twice, or no
--- side is ground, there is none
+-- (= (str.++ x "b") "ab") has its literal; where a constant stands twice, or no side is ground, there is none
 abbrev x : Term
 x = constant 1 text
 
@@ -422,8 +421,8 @@ joined_constants : is_translation joined_atoms (Some (is_ab (x ∷ word (codes "
 unfolding computing
 joined_constants = refl
 
-are_not_checked : is_brought (a_check_of (is_ab (x ∷ word (codes "b") ∷ []))) ≡ false
-are_not_checked = refl
+are_checked : is_brought (a_check_of (is_ab (x ∷ word (codes "b") ∷ []))) ≡ true
+are_checked = refl
 
 not_denied : is_translation joined_atoms (Some (is_ab (x ∷ word (codes "b") ∷ []))) (minus 0) ≡ false
 unfolding computing

@@ -102,7 +102,7 @@ no_model_of_a_word : answer_to without_a_word (codes "strproof 1\nv sat w\nend\n
 unfolding computing
 no_model_of_a_word = refl
 
--- (= (str.++ x "b" y) "aba"): its lines follow, and the check has no other verdict yet.
+-- (= (str.++ x "b" y) "aba"): its lines follow, and the check is decided.
 
 abbrev declare_y : Entry
 declare_y = command (Symbol (codes "declare-const") ∷ Symbol (codes "y") ∷ Symbol (codes "String") ∷ [])
@@ -122,17 +122,22 @@ of_joined lines =
     ++ (codes "r path 3 2\na in v0 : 4\na in w62 v1 : 2\na in v1 : 0\n" ++ lines)
 
 both_steps : answer_to joined_constants
-    (of_joined (codes "c step -0 -1 +2\nc step -2 +3\nv unsupported\nend\n"))
-    ≡ codes "check 1: unsupported\naccepted\n"
+    (of_joined (codes "c step -0 -1 +2\nc step -2 +3\nv sat w61 w61\nend\n"))
+    ≡ codes "check 1: sat\naccepted\n"
 unfolding computing
 both_steps = refl
 
-not_yet : answer_to joined_constants (of_joined (codes "v sat w61 w61\nend\n"))
+other_values : answer_to joined_constants (of_joined (codes "v sat w61 w62\nend\n"))
     ≡ codes "refused at line 12: wrong verdict\n"
 unfolding computing
-not_yet = refl
+other_values = refl
 
-another_rest : answer_to joined_constants (of_joined (codes "c step -0 -1 +3\nv unsupported\nend\n"))
+it_is_decided : answer_to joined_constants (of_joined (codes "v unsupported\nend\n"))
+    ≡ codes "refused at line 12: wrong verdict\n"
+unfolding computing
+it_is_decided = refl
+
+another_rest : answer_to joined_constants (of_joined (codes "c step -0 -1 +3\nv sat w61 w61\nend\n"))
     ≡ codes "refused at line 12: rule broken\n"
 unfolding computing
 another_rest = refl

@@ -143,17 +143,6 @@ abbrev mutual
   are_structure no_terms = true
   are_structure (with_term term terms) = is_structure term && are_structure terms
 
--- No constants are joined in the term: each concatenation in it is of words.
-abbrev mutual
-  pub is_unjoined : Term → Bool
-  is_unjoined (apply symbol.str_concat terms) = are_texts terms
-  is_unjoined (apply s terms) = are_unjoined terms
-  is_unjoined _ = true
-
-  pub are_unjoined : Terms → Bool
-  are_unjoined no_terms = true
-  are_unjoined (with_term term terms) = is_unjoined term && are_unjoined terms
-
 abbrev pub is_brought : Feature → Bool
 is_brought (a_symbol s) = is_brought_symbol s
 is_brought (a_sort sort) = is_brought_sort sort
@@ -163,5 +152,5 @@ is_brought lets = true
 is_brought functions = true
 is_brought definitions = true
 is_brought (a_statement_of t) = is_structure t
-is_brought (a_check_of t) = is_structure t && is_unjoined t
+is_brought (a_check_of t) = is_structure t
 is_brought proofs = true

@@ -91,10 +91,11 @@ abbrev mutual
   lengths_in_each no_terms = []
   lengths_in_each (with_term term terms) = lengths_in term ++ lengths_in_each terms
 
--- the Int constants that occur in a term, and the lengths of String constants
+-- the Int constants that occur in a term, and the lengths of String constants; in a concatenation there are none
 abbrev mutual
   pub variables_in : Term → List Variable
   variables_in (constant serial integer) = int_constant serial ∷ []
+  variables_in (apply symbol.str_concat terms) = []
   variables_in (apply symbol.str_len terms) = lengths_in_each terms
   variables_in (apply s terms) = variables_in_each terms
   variables_in _ = []

@@ -5,7 +5,7 @@ use Rattle.sb_meaning.specs.Terms.{Term, boolean, integer, text, constant, word,
 use Rattle.sb_meaning.specs.Terms as symbol
 use Rattle.sb_meaning.specs.Values.{Int, Truth}
 use Rattle.sb_meaning.specs.Examples.{one, two, x, as_and_more}
-use Rattle.sb_script.specs.Brought.{is_text, is_regex, asked, is_membership, is_structure, is_unjoined, a_statement_of, a_check_of, is_brought}
+use Rattle.sb_script.specs.Brought.{is_text, is_regex, asked, is_membership, is_structure, a_statement_of, a_check_of, is_brought}
 use Rattle.sb_script.specs.Fragment.{fits, are_in_fragment, is_decided}
 use Rattle.sb_script.specs.Rules.{repeats_variable, lacks_ground}
 use Rattle.sb_script.specs.State.{Assertion, asserted, a_mark, assumed}
@@ -156,25 +156,22 @@ no_structures =
 none_is_structure : list_any is_structure no_structures ≡ false
 none_is_structure = refl
 
--- Joined constants are of what may stand in a proof, and no check over them is decided.
-joins_no_constants : list_all is_unjoined
-    (p ∷ of_x ∷ two symbol.core_equal aa x ∷ two symbol.str_in_re aa all_words ∷ three symbol.core_distinct x a y
-    ∷ two symbol.str_in_re x (one symbol.str_to_re aa) ∷ []) ≡ true
-joins_no_constants = refl
-
-joins_constants : list_any is_unjoined
-    (two symbol.str_in_re joined all_words ∷ one symbol.core_not (two symbol.core_equal aa joined)
-    ∷ two symbol.core_and p (two symbol.core_equal (two symbol.str_concat x (word [])) a) ∷ []) ≡ false
-joins_constants = refl
-
+-- Constants may be joined, in what stands in a proof and in what is checked.
 abbrev joined_is_a : Term
 joined_is_a = two symbol.core_or p (two symbol.core_equal joined a)
 
 may_be_stated : is_brought (a_statement_of joined_is_a) ≡ true
 may_be_stated = refl
 
-is_not_checked : is_brought (a_check_of joined_is_a) ≡ false
-is_not_checked = refl
+may_be_checked : list_all (λ t. is_brought (a_check_of t))
+    (joined_is_a ∷ two symbol.str_in_re joined all_words ∷ one symbol.core_not (two symbol.core_equal aa joined) ∷ [])
+    ≡ true
+may_be_checked = refl
+
+joined_are_decided : list_all is_decided
+    (asserted joined_is_a ∷ asserted (two symbol.str_in_re joined all_words)
+    ∷ asserted (three symbol.core_equal joined aa (two symbol.str_concat y a)) ∷ []) ≡ true
+joined_are_decided = refl
 
 words_are_decided : list_all is_decided
     (asserted (two symbol.core_equal aa a) ∷ asserted (two symbol.str_in_re aa (one symbol.str_to_re aa))
@@ -182,8 +179,8 @@ words_are_decided : list_all is_decided
 words_are_decided = refl
 
 others_are_not : list_any is_decided
-    (asserted joined_is_a ∷ asserted (two symbol.core_equal x y) ∷ asserted (two symbol.str_in_re x of_y) ∷ a_mark ∷ [])
-    ≡ false
+    (asserted (two symbol.str_in_re (two symbol.str_concat x x) all_words) ∷ asserted (two symbol.core_equal x y)
+    ∷ asserted (two symbol.core_equal joined y) ∷ asserted (two symbol.str_in_re x of_y) ∷ a_mark ∷ []) ≡ false
 others_are_not = refl
 
 -- Sizes: a node of sort RegLan counts one, and a character of a word one; String terms are words and no nodes.

@@ -116,16 +116,16 @@ structure_is_decided = refl
 a_truth_value_is_decided : in_fragment (and_asserted (Symbol (codes "true"))) ≡ true
 a_truth_value_is_decided = refl
 
--- with (= (str.++ "a" "b") x), and with (= (str.++ "a" x) "b"), which is read and not decided
+-- with (= (str.++ "a" "b") x), and with (= (str.++ "a" x) "b")
 a_joined_word_is_decided : in_fragment
     (and_asserted (group (Symbol (codes "=") ∷ group (Symbol (codes "str.++") ∷ Words (codes "a") ∷ Words (codes "b") ∷
     []) ∷ Symbol (codes "x") ∷ []))) ≡ true
 a_joined_word_is_decided = refl
 
-joined_constants_are_not_decided : in_fragment
+joined_constants_are_decided : in_fragment
     (and_asserted (group (Symbol (codes "=") ∷ group (Symbol (codes "str.++") ∷ Words (codes "a") ∷ Symbol (codes "x") ∷
-    []) ∷ Words (codes "b") ∷ []))) ≡ false
-joined_constants_are_not_decided = refl
+    []) ∷ Words (codes "b") ∷ []))) ≡ true
+joined_constants_are_decided = refl
 
 -- (= x x) leaves the fragment, and so does a mark
 is_not_decided : in_fragment
