@@ -7,7 +7,7 @@ ghost use Rattle.sb_clash.specs.Words.{Ascend, AtomOver, Findings, HaveRegexesBe
 ghost use Rattle.sb_rulebook.specs.LineLaws.{is_small_literal};
 ghost use Rattle.sb_trace.specs.Putting.{CountsTapeFault, SpendsWithin};
 ghost use Rattle.sb_trace.specs.Reaching.{ExpandsReached};
-ghost use Rattle.sb_trace.specs.Tracking.{StaysNumbered};
+ghost use Rattle.sb_trace.specs.Tracking.{IsExpandedIn, StaysNumbered};
 ghost use Rattle.sb_clash.specs.Literals.{AreSingle};
 ghost use Rattle.sb_clash.specs.Asked.{Explores};
 ghost use Rattle.sb_clash.specs.Denials.{IsDenial, CanBeDenied, Denying, Ticks, denied_by, sofar};
@@ -74,6 +74,7 @@ pub fn put_denial<L: Tape>(
     ensures ticks { IfOk result (Ticks budget.old budget.new) }
     ensures steps { SpendsWithin budget.old budget.new }
     ensures stays { StaysNumbered trace.old trace.new }
+    ensures expanded_stay { (n : ℕ) → IsExpandedIn trace.old n → IsExpandedIn trace.new n }
     ensures only { OnOk result
         (ExpandsReached arena.new (denied_by arena.new atoms.now clause.now) trace.old trace.new) }
     ensures explores { Explores arena.old arena.new graph.old graph.new }

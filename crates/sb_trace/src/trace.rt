@@ -2,7 +2,7 @@
 
 ghost use Rattle.std.specs.Prelude.{◌≡◌, ◌≢◌, ◌<◌, ◌≤◌, ◌↔◌, ◌++◌, ◌∷◌, ◌+◌, ◌-◌, ◌||◌, ℕ, Bool, [], true, false, nat_eq, Some, None, List, length, slice_get, get_or, drop, map, All, IfOk, OnOk, OnErr, IsSome};
 ghost use Rattle.indexmap.specs.IndexSet.{insert_key};
-ghost use Rattle.std.specs.List.{list_all, list_any};
+ghost use Rattle.std.specs.List.{list_all, list_any, IsDistinct};
 ghost use Rattle.sb_lang.specs.Regex.{Regex};
 ghost use Rattle.sb_lang.specs.Language.{language};
 ghost use Rattle.sb_regex.specs.Numbered.{regex_at, AllNumbers, Extends};
@@ -187,12 +187,13 @@ impl Trace {
         self.put_expansion(number, classes, tape, budget)
     }
 
-    /// No mark is on a number that is not there yet.
-    fn marks_have_numbers(&self)
+    /// No mark is on a number that is not there yet, and each regex has one number. Takes no time.
+    pub fn marks_have_numbers(&self)
         ensures expanded { (n : ℕ) → length self.now.order ≤ n → is_marked self.now.expanded n ≡ false }
         ensures dead { (n : ℕ) → length self.now.order ≤ n → is_marked self.now.dead n ≡ false }
+        ensures each_once { IsDistinct nat_eq self.now.order }
     {
-        let _order = &self.order;
+        let _order = self.order.as_slice();
     }
 
     /// Puts the line of an expansion, unless the budget is spent.
@@ -321,6 +322,7 @@ impl Trace {
         ensures spent { IfOk result (λ e. e ≡ Explore.Spent → budget.new.spent ≡ budget.new.limit) }
         ensures only { OnOk result (ExpandsReached arena.new (regex_at arena.old root) self.old self.new) }
         ensures stays { StaysNumbered self.old self.new }
+        ensures expanded_stay { (n : ℕ) → IsExpandedIn self.old n → IsExpandedIn self.new n }
         ensures extends { Extends arena.old arena.new }
         ensures graph { IsGraph arena.new graph.new }
         ensures marks_stay { KeepsMarks graph.old.dead graph.new.dead }
@@ -360,6 +362,7 @@ impl Trace {
         ensures spent { IfOk result (λ e. e ≡ Explore.Spent → budget.new.spent ≡ budget.new.limit) }
         ensures only { OnOk result (ExpandsReached arena.new (regex_at arena.old root) self.old self.new) }
         ensures stays { StaysNumbered self.old self.new }
+        ensures expanded_stay { (n : ℕ) → IsExpandedIn self.old n → IsExpandedIn self.new n }
         ensures extends { Extends arena.old arena.new }
         ensures graph { IsGraph arena.new graph.new }
         ensures marks { graph.new.dead ≡ graph.old.dead }
@@ -402,6 +405,7 @@ impl Trace {
         ensures spent { IfOk result (λ e. e ≡ Explore.Spent → budget.new.spent ≡ budget.new.limit) }
         ensures only { OnOk result (ExpandsReached arena.new (regex_at arena.old root) self.old self.new) }
         ensures stays { StaysNumbered self.old self.new }
+        ensures expanded_stay { (n : ℕ) → IsExpandedIn self.old n → IsExpandedIn self.new n }
         ensures extends { Extends arena.old arena.new }
         ensures graph { IsGraph arena.new graph.new }
         ensures marks_stay { KeepsMarks graph.old.dead graph.new.dead }
@@ -440,6 +444,7 @@ impl Trace {
         ensures spent { IfOk result (λ done. done ≡ false → budget.new.spent ≡ budget.new.limit) }
         ensures only { OnOk result (ExpandsReached arena.new (regex_at arena.old root) self.old self.new) }
         ensures stays { StaysNumbered self.old self.new }
+        ensures expanded_stay { (n : ℕ) → IsExpandedIn self.old n → IsExpandedIn self.new n }
         ensures extends { Extends arena.old arena.new }
         ensures graph { IsGraph arena.new graph.new }
         ensures marks { graph.new.dead ≡ graph.old.dead }

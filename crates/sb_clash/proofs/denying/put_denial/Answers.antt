@@ -30,6 +30,7 @@ returns-in_err-literals g c =
       only = IfOk-from_err r.result _ r.ensures.0;
       steps = spent_none c.args.budget.now;
       stays = stays_same c.args.trace.now;
+      expanded_stay = λ n was. was;
       explores = explores_none c.requires.graph;
       counts = counts_none r.result p.0 _ p.1 p.2;
     }
@@ -44,6 +45,7 @@ returns-in_err-root g c =
       only = IfOk-from_err r.result _ r.ensures.0;
       steps = spent_none c.args.budget.now;
       stays = stays_same c.args.trace.now;
+      expanded_stay = λ n was. was;
       explores = explores_arena c.graph_stays.ensures c.in_err-root.ensures.extends c.requires.graph;
       counts = counts_none r.result p.0 _ p.1 p.2;
     }
@@ -59,6 +61,7 @@ returns-in_err-explore g c =
       only = IfOk-from_err r.result _ r.ensures.0;
       steps = h.steps;
       stays = h.stays;
+      expanded_stay = h.expanded_stay;
       explores = explores_both (explores_arena c.graph_stays.ensures c.in_ok-root.ensures.extends c.requires.graph)
           (record { extends = h.extends; graph = h.graph; derivatives = h.derivatives_stay; marks = h.marks_stay });
       counts = counts_on Explore r.result p.0 _ _ _ p.1 p.2 h.counts;
@@ -91,6 +94,7 @@ returns-in-Dead g c =
           (λ done. ticks_later c.args.budget.now c.explore.new.budget c.put_line.new.budget done h.steps.spent) line.ticks;
       steps = spent_both c.args.budget.now c.explore.new.budget c.put_line.new.budget h.steps line.steps;
       stays = h.stays;
+      expanded_stay = h.expanded_stay;
       only = IfOk-weaker c.put_line.result _ _
           (λ done ticks. expands_asked c.args.arena.now c.meet.new.arena c.explore.new.arena c.args.trace.now
           c.explore.new.self c.args.atoms.now c.args.serial.0 c.in_ok-root.root c.args.clause.now root.extends h.extends
@@ -122,6 +126,7 @@ returns-in-Spent g c =
       ticks = record { more = λ done. absurd (false≢true done); spent = λ waits. h.spent c.in-Spent.is };
       steps = h.steps;
       stays = h.stays;
+      expanded_stay = h.expanded_stay;
       only = expands_asked c.args.arena.now c.meet.new.arena c.explore.new.arena c.args.trace.now c.explore.new.self
           c.args.atoms.now c.args.serial.0 c.in_ok-root.root c.args.clause.now root.extends h.extends
           c.requires.regexes c.requires.denial.about names h.only;

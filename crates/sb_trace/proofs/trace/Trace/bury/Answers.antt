@@ -1,4 +1,4 @@
-use Rattle.std.proofs.Common.{inl, refl, sym, ◌∙◌, subst, Bool}
+use Rattle.std.proofs.Common.{inl, refl, sym, ◌∙◌, subst, Bool, List, ap, ℕ}
 use Rattle.std.proofs.lemmas.Result.{IfOk-from_err, err_from_is_err_and}
 use Rattle.std.proofs.lemmas.Bool.{true≢false, false≢true}
 use Rattle.sb_trace.proofs.Growing.{traces_both, traces_uncounted, traces_none, stays_same}
@@ -8,6 +8,8 @@ use Rattle.sb_trace.proofs.Reached.{reached_alone, reached_behind, reached_or_be
 use Rattle.sb_regex.specs.Numbered.{regex_at}
 use Rattle.sb_regex.proofs.CallerLemmas.{extends_same}
 use Rattle.sb_trace.specs.Putting.{CountsTapeFault}
+use Rattle.sb_trace.specs.Tracking.{number_in}
+use Rattle.sb_graph.specs.Findings.{is_marked}
 use Rattle.sb_trace.proofs.Exits.{counts_none, counts_on}
 use Rattle.sb_trace.proofs.trace.Trace.bury.Goals as goal
 
@@ -66,6 +68,12 @@ returns g c =
           (h.reached r (reached_alone c.args.arena.now c.args.root c.in_ok-members.members.keys c.in_ok-members.ensures
           c.requires.known)) h.only);
       stays = (h.goes.stays.0, p_order ∙ h.goes.stays.1);
+      expanded_stay = λ n was.
+          let e = h.goes.expanded n was in (
+            e.0,
+            ap (λ (ns : List ℕ). number_in ns n) p_order ∙ e.1,
+            ap (λ (ms : List Bool). is_marked ms e.0) c.put_dead.ensures.expanded ∙ e.2,
+          );
       extends = h.goes.extends;
       graph = h.goes.graph;
       marks = h.goes.marks;
@@ -84,6 +92,7 @@ returns-then-is_dead g c =
       spent = λ stopped. absurd (true≢false stopped);
       only = λ n h. inl h;
       stays = stays_same c.args.self.now;
+      expanded_stay = λ n was. was;
       extends = extends_same c.args.arena.now;
       graph = c.requires.graph;
       marks = refl;
@@ -102,6 +111,7 @@ returns-in_err-members g c =
       spent = IfOk-from_err x.result _ x.ensures.0;
       only = IfOk-from_err x.result _ x.ensures.0;
       stays = stays_same c.args.self.now;
+      expanded_stay = λ n was. was;
       extends = extends_same c.args.arena.now;
       graph = c.requires.graph;
       marks = refl;
@@ -121,6 +131,7 @@ returns-in_err-close g c =
       spent = IfOk-from_err x.result _ x.ensures.0;
       only = IfOk-from_err x.result _ x.ensures.0;
       stays = h.goes.stays;
+      expanded_stay = h.goes.expanded;
       extends = h.goes.extends;
       graph = h.goes.graph;
       marks = h.goes.marks;
@@ -141,6 +152,7 @@ returns-then-not-branch g c =
           (h.reached r (reached_alone c.args.arena.now c.args.root c.in_ok-members.members.keys c.in_ok-members.ensures
           c.requires.known)) h.only;
       stays = h.goes.stays;
+      expanded_stay = h.goes.expanded;
       extends = h.goes.extends;
       graph = h.goes.graph;
       marks = h.goes.marks;
@@ -161,6 +173,12 @@ returns-in_err-put_dead g c =
       spent = IfOk-from_err x.result _ x.ensures.0;
       only = IfOk-from_err x.result _ x.ensures.0;
       stays = (h.goes.stays.0, p_order ∙ h.goes.stays.1);
+      expanded_stay = λ n was.
+          let e = h.goes.expanded n was in (
+            e.0,
+            ap (λ (ns : List ℕ). number_in ns n) p_order ∙ e.1,
+            ap (λ (ms : List Bool). is_marked ms e.0) c.put_dead.ensures.expanded ∙ e.2,
+          );
       extends = h.goes.extends;
       graph = h.goes.graph;
       marks = h.goes.marks;

@@ -76,6 +76,7 @@ returns-in_err-explored g c =
       spent = IfOk-from_err x.result _ x.ensures.0;
       only = IfOk-from_err x.result _ x.ensures.0;
       stays = stays_same c.args.self.now;
+      expanded_stay = λ n was. was;
       extends = h.extends;
       graph = h.graph;
       marks_stay = h.marks_stay;
@@ -170,3 +171,9 @@ explore_front-requires-clause-graph g c = c.in_ok-explored.ensures.graph
 
 pub show-requires-clause-graph : goal.show-requires-clause-graph
 show-requires-clause-graph g c = c.in_ok-explored.ensures.graph
+
+pub returns-in-Found-clause-expanded_stay : goal.returns-in-Found-clause-expanded_stay
+returns-in-Found-clause-expanded_stay g c = c.show.ensures.expanded_stay
+
+pub returns-in-Limit-clause-expanded_stay : goal.returns-in-Limit-clause-expanded_stay
+returns-in-Limit-clause-expanded_stay g c = c.explore_front.ensures.expanded_stay

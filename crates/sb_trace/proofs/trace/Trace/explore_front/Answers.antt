@@ -105,6 +105,7 @@ returns-in_err-members g c =
       spent = IfOk-from_err x.result _ x.ensures.0;
       only = IfOk-from_err x.result _ x.ensures.0;
       stays = stays_same c.args.self.now;
+      expanded_stay = λ n was. was;
       extends = extends_same c.args.arena.now;
       graph = c.requires.graph;
       marks_stay = λ n h. h;
@@ -126,6 +127,7 @@ returns-in_err-gather g c =
       spent = IfOk-from_err x.result _ x.ensures.0;
       only = IfOk-from_err x.result _ x.ensures.0;
       stays = stays_same c.args.self.now;
+      expanded_stay = λ n was. was;
       extends = first.extends;
       graph = first.graph;
       marks_stay = λ n h. ap (λ marks. is_marked marks n) first.marks ∙ h;
@@ -148,6 +150,7 @@ returns-in_err-explored g c =
       spent = IfOk-from_err x.result _ x.ensures.0;
       only = IfOk-from_err x.result _ x.ensures.0;
       stays = stays_same c.args.self.now;
+      expanded_stay = λ n was. was;
       extends = extends_more c.args.arena.now c.gather.new.arena c.answer.new.arena first.extends next.extends;
       graph = next.graph;
       marks_stay = λ n h. next.marks_stay n (ap (λ marks. is_marked marks n) first.marks ∙ h);
@@ -170,6 +173,7 @@ returns-in_err-_done g c =
       spent = IfOk-from_err x.result _ x.ensures.0;
       only = IfOk-from_err x.result _ x.ensures.0;
       stays = done.goes.stays;
+      expanded_stay = done.goes.expanded;
       extends = extends_more c.args.arena.now c.gather.new.arena c.expand_each.new.arena first.extends
           done.goes.extends;
       graph = done.goes.graph;
@@ -274,3 +278,9 @@ returns-clause-counts g c = c.in_ok-_done.ensures.counts
 
 pub returns-clause-dead : goal.returns-clause-dead
 returns-clause-dead g c = λ dead. absurd (Prim.cc (dead))
+
+pub returns-then-branch-clause-expanded_stay : goal.returns-then-branch-clause-expanded_stay
+returns-then-branch-clause-expanded_stay g c = c.show.ensures.expanded_stay
+
+pub returns-clause-expanded_stay : goal.returns-clause-expanded_stay
+returns-clause-expanded_stay g c = c.in_ok-_done.ensures.goes.expanded

@@ -29,6 +29,7 @@ returns-in_err-bury-in-Dead g c =
       spent = IfOk-from_err x.result _ x.ensures.0;
       only = IfOk-from_err x.result _ x.ensures.0;
       stays = b.stays;
+      expanded_stay = b.expanded_stay;
       extends = b.extends;
       graph = b.graph;
       marks = b.marks;
@@ -102,3 +103,12 @@ returns-in-Alive-clause-spent g c = λ spent. absurd (Prim.cc (spent))
 
 pub returns-in-Alive-clause-dead : goal.returns-in-Alive-clause-dead
 returns-in-Alive-clause-dead g c = λ dead. absurd (Prim.cc (dead))
+
+pub returns-in-Alive-clause-expanded_stay : goal.returns-in-Alive-clause-expanded_stay
+returns-in-Alive-clause-expanded_stay g c = λ n was. was
+
+pub returns-then-branch-clause-expanded_stay : goal.returns-then-branch-clause-expanded_stay
+returns-then-branch-clause-expanded_stay g c = c.in_ok-bury-in-Dead.ensures.expanded_stay
+
+pub returns-else-branch-clause-expanded_stay : goal.returns-else-branch-clause-expanded_stay
+returns-else-branch-clause-expanded_stay g c = c.in_ok-bury-in-Dead.ensures.expanded_stay
