@@ -149,7 +149,6 @@ grown_conjunction adds old new ls ordered e other below g = λ regexes given.
     (λ rs. ap (are_below (length old)) e ∙ below_in_order (length old) ls below)
     (λ sorts is before l. known_below (length old) ordered before l
     (ap (are_below (length old)) e ∙ below_in_order (length old) ls below))
-    (λ is. refl)
 
 -- Signs.
 
@@ -213,7 +212,6 @@ grown_iff adds old new l m formed p q g = λ regexes given.
     (λ sorts is before e. known_below (length old) (l ∷ m ∷ []) before e
     (and_from (is_below (length old) l) (is_below (length old) m && true) p
     (and_from (is_below (length old) m) true q refl)))
-    (λ is. refl)
 
 greater_is : (o : Ordering) → is_gt o ≡ true → o ≡ Greater
 greater_is Less e = absurd (false≢true e)

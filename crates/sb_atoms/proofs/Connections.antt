@@ -16,9 +16,9 @@ use Rattle.sb_fragment.specs.declared.shape.Shape.TheVariants as shape
 use Rattle.sb_fragment.specs.Memberships.{is_in_re}
 use Rattle.sb_fragment.specs.Shapes.{IsComparison, IsConnected, IsShape, parts_of, comparison_of}
 use Rattle.sb_fragment.proofs.CallerLemmas.{connected_structure}
-use Rattle.sb_atoms.specs.Growing.{Demand, meets}
+use Rattle.sb_atoms.specs.Translated.{has_declared}
 use Rattle.sb_atoms.specs.Reaching.{is_connective, is_boolean, are_several, are_truths, is_connection, connected_parts}
-use Rattle.sb_atoms.proofs.Found.{met_parts}
+use Rattle.sb_atoms.proofs.Found.{declared_parts}
 
 few : (ts : List Term) → length ts < 2 → are_several ts ≡ false
 few [] h = refl
@@ -130,5 +130,5 @@ pub structure_down : GoesDown connected_parts is_structure
 structure_down t h = parts_pass is_structure t (is_connection t) (λ is.
     let c = applied t is in sym (connected_structure t c.0 c.1) ∙ h)
 
-pub met_down : (demand : Demand) → GoesDown connected_parts (meets demand)
-met_down demand t h = parts_pass (meets demand) t (is_connection t) (λ is. met_parts demand t h)
+pub declared_down : (sorts : List Sort) → GoesDown connected_parts (has_declared sorts)
+declared_down sorts t h = parts_pass (has_declared sorts) t (is_connection t) (λ is. declared_parts sorts t h)

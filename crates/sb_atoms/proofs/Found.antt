@@ -15,7 +15,7 @@ use Rattle.sb_meaning.specs.Truth.{meaning_of}
 use Rattle.sb_regex.specs.Numbered.{regex_at}
 use Rattle.sb_regex.specs.Numbered as regex
 use Rattle.sb_regex.proofs.CallerLemmas.{names_at, names_below, long_kept}
-use Rattle.sb_script.specs.Brought.{asked, is_regex, is_structure, is_unjoined, are_unjoined}
+use Rattle.sb_script.specs.Brought.{asked, is_regex, is_structure}
 use Rattle.sb_script.specs.Pieces.{Piece, constant_piece}
 use Rattle.sb_script.specs.Sizes.{is_regular}
 use Rattle.sb_script.proofs.CallerLemmas.{IsAsking, a_membership, a_word_behind, a_word_in_front, asked_looks}
@@ -33,17 +33,17 @@ use Rattle.sb_atoms.specs.Numbered.{Names, over, atoms_in, HasRegexBelow, HaveRe
 use Rattle.sb_atoms.specs.Translated.{brought_translation, has_declared, have_declared}
 use Rattle.sb_fragment.specs.Compared.{compared}
 use Rattle.sb_atoms.specs.Connecting.{signed, with_sign}
-use Rattle.sb_atoms.specs.Growing.{Demand, of_sorts, of_pieces, meets, pieces_meet, is_below, are_below, Grown, GrownByGates, GrownByOne, Gives, GivesLike, IsLiteralOf, Finds, AreReady, Moves}
+use Rattle.sb_atoms.specs.Growing.{are_declared_pieces, is_below, are_below, Grown, GrownByGates, GrownByOne, Gives, GivesLike, IsLiteralOf, Finds, AreReady, Moves}
 use Rattle.sb_fragment.specs.Memberships.{in_re}
 use Rattle.sb_fragment.specs.Shapes.{parts_of}
-use Rattle.sb_atoms.specs.Shapes.{IsAtomOf, meet_pairs, member_literal}
+use Rattle.sb_atoms.specs.Shapes.{IsAtomOf, have_declared_pairs, member_literal}
 use Rattle.sb_atoms.proofs.CallerLemmas.{atoms_more}
 pub use Rattle.sb_fragment.proofs.CallerLemmas.{all_at}
 use Rattle.sb_fragment.proofs.CallerLemmas.{compared_all}
 use Rattle.sb_atoms.proofs.Growth.{grown_one, grown_longer, moves_both, moves_given, moves_none, moved, grown_regexes}
 use Rattle.sb_atoms.proofs.Connected.{all_push, all_stop, all_stay, all_below_more, below_push}
 use Rattle.sb_atoms.proofs.Structured.{signed_none}
-use Rattle.sb_atoms.proofs.TextFacts.{texts_unjoined, membership_some}
+use Rattle.sb_atoms.proofs.TextFacts.{membership_some}
 use Rattle.sb_atoms.proofs.Translating.{apart_in, apart_bool}
 
 named_below : (new : List (AtomOver ℕ)) (l : Lit) (a : AtomOver ℕ) → Names new l.atom a
@@ -142,14 +142,14 @@ member_past adds rs new ps R past =
 
 pub member_moves : (adds : Bool) (rs more : List Regex) (old new : List (AtomOver ℕ)) (ps : List Piece) (R : Term)
     (a : AtomOver ℕ) → regex.Extends rs more → IsAtomOf more ps R (Some a) → are_pieces ps ≡ true
-    → GrownByOne adds old new a → Moves adds (λ demand. pieces_meet demand ps) rs more old new
+    → GrownByOne adds old new a → Moves adds (λ sorts. are_declared_pieces sorts ps) rs more old new
 member_moves adds rs more old new ps R a e of formed g = record {
   arena = e;
-  atoms = grown_one adds (length more) (λ demand. pieces_meet demand ps) old new a g (its_regex more ps R a of)
-      (rw of.1 formed) (λ rs. rw of.1 refl) (λ sorts is before l. rw of.1 is) (λ is. rw of.1 is);
+  atoms = grown_one adds (length more) (λ sorts. are_declared_pieces sorts ps) old new a g (its_regex more ps R a of)
+      (rw of.1 formed) (λ rs. rw of.1 refl) (λ sorts is before l. rw of.1 is);
 }
 
-pub ready_moved : {adds : Bool} {given : Demand → Bool} (ts : List Term) (ms : List Measure) (ks : List Known)
+pub ready_moved : {adds : Bool} {given : List Sort → Bool} (ts : List Term) (ms : List Measure) (ks : List Known)
     (rs more : List Regex) (old new : List (AtomOver ℕ)) → AreMeasures ts ms → AreNormals ts more ks
     → HaveRegexesBelow (length rs) old → Moves adds given rs more old new → AreReady ts ms ks more new
 ready_moved ts ms ks rs more old new right normals below m = record {
@@ -160,9 +160,9 @@ ready_moved ts ms ks rs more old new right normals below m = record {
 
 -- What is asked of terms.
 
-declared_asked : (sorts : List Sort) (t : Term) (serial : ℕ) (R : Term) → asked t ≡ Some (serial, R)
+declared_serial : (sorts : List Sort) (t : Term) (serial : ℕ) (R : Term) → asked t ≡ Some (serial, R)
     → has_declared sorts t ≡ true → is_declared sorts text serial ≡ true
-declared_asked sorts t serial R h d = step (asked_looks t serial R h)
+declared_serial sorts t serial R h d = step (asked_looks t serial R h)
   where
     step : IsAsking serial t R → is_declared sorts text serial ≡ true
     step (a_membership is) =
@@ -174,11 +174,10 @@ declared_asked sorts t serial R h d = step (asked_looks t serial R h)
         (and_parts (is_declared sorts text serial) true (ap (has_declared sorts) (sym is) ∙ d)).0
 
 -- of one constant's word
-pub met_asked : (demand : Demand) (t : Term) (serial : ℕ) (R : Term) → asked t ≡ Some (serial, R)
-    → meets demand t ≡ true → pieces_meet demand (constant_piece serial ∷ []) ≡ true
-met_asked (of_sorts sorts) t serial R h d =
-    and_from (is_declared sorts text serial) true (declared_asked sorts t serial R h d) refl
-met_asked of_pieces t serial R h u = refl
+pub declared_asked : (sorts : List Sort) (t : Term) (serial : ℕ) (R : Term) → asked t ≡ Some (serial, R)
+    → has_declared sorts t ≡ true → are_declared_pieces sorts (constant_piece serial ∷ []) ≡ true
+declared_asked sorts t serial R h d =
+    and_from (is_declared sorts text serial) true (declared_serial sorts t serial R h d) refl
 
 declared_each : (sorts : List Sort) (us : Terms) → have_declared sorts us ≡ true
     → list_all (has_declared sorts) (terms_in us) ≡ true
@@ -187,7 +186,7 @@ declared_each sorts (with_term u us) h =
     let p = and_parts (has_declared sorts u) (have_declared sorts us) h in
     and_from (has_declared sorts u) (list_all (has_declared sorts) (terms_in us)) p.0 (declared_each sorts us p.1)
 
-declared_parts : (sorts : List Sort) (t : Term) → has_declared sorts t ≡ true
+pub declared_parts : (sorts : List Sort) (t : Term) → has_declared sorts t ≡ true
     → list_all (has_declared sorts) (parts_of t) ≡ true
 declared_parts sorts (constant serial sort) h = refl
 declared_parts sorts (word w) h = refl
@@ -195,34 +194,17 @@ declared_parts sorts (numeral n) h = refl
 declared_parts sorts (apply s terms) h = declared_each sorts terms h
 declared_parts sorts (parameter place sort) h = refl
 
-unjoined_each : (us : Terms) → are_unjoined us ≡ true → list_all is_unjoined (terms_in us) ≡ true
-unjoined_each no_terms h = refl
-unjoined_each (with_term u us) h =
-    let p = and_parts (is_unjoined u) (are_unjoined us) h in
-    and_from (is_unjoined u) (list_all is_unjoined (terms_in us)) p.0 (unjoined_each us p.1)
-
-unjoined_parts : (t : Term) → is_unjoined t ≡ true → list_all is_unjoined (parts_of t) ≡ true
-unjoined_parts (constant serial sort) h = refl
-unjoined_parts (word w) h = refl
-unjoined_parts (numeral n) h = refl
-unjoined_parts (parameter place sort) h = refl
-unjoined_parts (apply symbol.str_concat terms) h = unjoined_each terms (texts_unjoined terms h)
-unjoined_parts (apply _ terms) h = unjoined_each terms h
-
-pub met_parts : (demand : Demand) (t : Term) → meets demand t ≡ true
-    → list_all (meets demand) (parts_of t) ≡ true
-met_parts (of_sorts sorts) t h = declared_parts sorts t h
-met_parts of_pieces t h = unjoined_parts t h
-
-pub met_compared : (demand : Demand) (distinct : Bool) (t : Term) → meets demand t ≡ true
-    → meet_pairs demand (compared distinct (parts_of t)) ≡ true
-met_compared demand distinct t h = compared_all (meets demand) distinct (parts_of t) (met_parts demand t h)
+pub declared_compared : (sorts : List Sort) (distinct : Bool) (t : Term) → has_declared sorts t ≡ true
+    → have_declared_pairs sorts (compared distinct (parts_of t)) ≡ true
+declared_compared sorts distinct t h =
+    compared_all (has_declared sorts) distinct (parts_of t) (declared_parts sorts t h)
 
 -- of a membership, by its String term
-pub met_text : (demand : Demand) (t u R : Term) → t ≡ in_re u R → meets demand t ≡ true → meets demand u ≡ true
-met_text demand t u R is h =
-    (and_parts (meets demand u) (meets demand R && true)
-    (met_parts demand (in_re u R) (ap (meets demand) (sym is) ∙ h))).0
+pub declared_text : (sorts : List Sort) (t u R : Term) → t ≡ in_re u R → has_declared sorts t ≡ true
+    → has_declared sorts u ≡ true
+declared_text sorts t u R is h =
+    (and_parts (has_declared sorts u) (has_declared sorts R && true)
+    (declared_parts sorts (in_re u R) (ap (has_declared sorts) (sym is) ∙ h))).0
 
 -- A membership, by what it is asked of.
 
@@ -241,24 +223,24 @@ text_regex_of t u R is h = ap is_structure (sym is) ∙ h
 
 -- What is found of a list, one by one.
 
-pub record Collected {X : Type 0} (f : List Atom → X → Option Lit) (adds : Bool) (given : Demand → Bool)
+pub record Collected {X : Type 0} (f : List Atom → X → Option Lit) (adds : Bool) (given : List Sort → Bool)
     (rs more : List Regex) (old new : List (AtomOver ℕ)) (xs : List X) (ls : List Lit) : Type 0
   where
     pub is : Some ls ≡ together (map (f (atoms_in more new)) xs)
     pub below : are_below (length new) ls ≡ true
     pub moves : Moves adds given rs more old new
 
-pub collected_start : {X : Type 0} (f : List Atom → X → Option Lit) (adds : Bool) (given : Demand → Bool)
+pub collected_start : {X : Type 0} (f : List Atom → X → Option Lit) (adds : Bool) (given : List Sort → Bool)
     (rs : List Regex) (old : List (AtomOver ℕ)) (ls : List Lit) → ls ≡ [] → Collected f adds given rs rs old old [] ls
 collected_start f adds given rs old ls e =
     rw e (record { is = refl; below = refl; moves = moves_none adds given rs old })
 
 pub collected_step : {X : Type 0} (f : List Atom → X → Option Lit) → ((x : X) → Stays (λ atoms. f atoms x))
-    → (adds : Bool) (given own : Demand → Bool) (rs ss us : List Regex) (old mid new : List (AtomOver ℕ))
+    → (adds : Bool) (given own : List Sort → Bool) (rs ss us : List Regex) (old mid new : List (AtomOver ℕ))
     (xs : List X) (i : ℕ) (x : X) (ls all : List Lit) (l : Lit) (found : Option Lit)
     → Collected f adds given rs ss old mid (take i xs) ls → i < length xs → x ≡ get_or xs i x
     → HaveRegexesBelow (length ss) mid → found ≡ Some l → Finds is_below adds us new (λ atoms. f atoms x) found
-    → ((demand : Demand) → given demand ≡ true → own demand ≡ true) → Moves adds own ss us mid new
+    → ((sorts : List Sort) → given sorts ≡ true → own sorts ≡ true) → Moves adds own ss us mid new
     → all ≡ ls ++ l ∷ [] → Collected f adds given rs us old new (take (i + 1) xs) all
 collected_step f s adds given own rs ss us old mid new xs i x ls all l found h within is below some g wider m e = rw e (record {
   is = all_push (f (atoms_in us new)) xs i x ls l within is
@@ -279,7 +261,7 @@ collected_stop f adds us new xs i x found within is none g = record {
   below = λ ls e. absurd (some-none ls (sym e));
 }
 
-pub collected_end : {X : Type 0} (f : List Atom → X → Option Lit) (adds : Bool) (given : Demand → Bool)
+pub collected_end : {X : Type 0} (f : List Atom → X → Option Lit) (adds : Bool) (given : List Sort → Bool)
     (rs more : List Regex) (old new : List (AtomOver ℕ)) (xs : List X) (i : ℕ) (ls : List Lit)
     → Collected f adds given rs more old new (take i xs) ls → length xs ≤ i
     → Finds are_below adds more new (λ atoms. together (map (f atoms) xs)) (Some ls)
@@ -359,12 +341,11 @@ constant_finds adds rs new t serial a found is e h = record {
 
 pub constant_moves : (adds : Bool) (rs : List Regex) (old new : List (AtomOver ℕ)) (t : Term) (serial : ℕ)
     (a : AtomOver ℕ) → t ≡ constant serial boolean → a ≡ bool_atom serial → GrownByOne adds old new a
-    → regex.Extends rs rs → Moves adds (λ demand. meets demand t) rs rs old new
+    → regex.Extends rs rs → Moves adds (λ sorts. has_declared sorts t) rs rs old new
 constant_moves adds rs old new t serial a is e g same = record {
   arena = same;
-  atoms = grown_one adds (length rs) (λ demand. meets demand t) old new a g (rw e tt) (rw e refl)
-      (λ rs. rw e refl)
-      (λ sorts d before l. rw e (ap (has_declared sorts) (sym is) ∙ d)) (λ d. rw e refl);
+  atoms = grown_one adds (length rs) (λ sorts. has_declared sorts t) old new a g (rw e tt) (rw e refl)
+      (λ rs. rw e refl) (λ sorts d before l. rw e (ap (has_declared sorts) (sym is) ∙ d));
 }
 
 -- The literals of parts.

@@ -1,9 +1,6 @@
 -- Tables of atoms that grow, and arenas beside them.
 use Rattle.std.proofs.Common.{◌≡◌, ℕ, zero, suc, ◌+◌, ◌≤◌, Bool, true, false, ◌⊎◌, inl, inr, Some, List, [], ◌∷◌, ◌++◌, length, slice_get, Option, refl, sym, ap, ap₂, ◌∙◌, arith, length-append, append_assoc}
-use Rattle.std.specs.List.{list_all}
-use Rattle.std.proofs.lemmas.Bool.{and_from}
 use Rattle.std.proofs.lemmas.List.{append-nil}
-use Rattle.std.proofs.lemmas.List.Folds.{list_all-append}
 use Rattle.std.proofs.lemmas.Option.{slice_get_within, same_Some}
 use Rattle.sb_lang.specs.Regex.{Regex}
 use Rattle.sb_meaning.specs.Terms.{Sort, Term}
@@ -13,10 +10,9 @@ use Rattle.sb_rulebook.specs.Atoms.{Atom, AtomOver, is_well_formed}
 use Rattle.sb_rulebook.specs.AtomRules.{has_its_parts}
 use Rattle.sb_rulebook.specs.Tables.{names_below}
 use Rattle.sb_rulebook.proofs.CallerLemmas.{Stays}
-use Rattle.sb_script.specs.Brought.{is_unjoined}
 use Rattle.sb_atoms.specs.Numbered.{Names, Extends, over, atoms_in, HasRegexBelow, HaveRegexesBelow, NameEarlier}
-use Rattle.sb_atoms.specs.Translated.{is_unjoined_atom, AreDefined}
-use Rattle.sb_atoms.specs.Growing.{Demand, of_sorts, of_pieces, meets, Grown, GrownByGates, GrownByOne, Moves}
+use Rattle.sb_atoms.specs.Translated.{has_declared, AreDefined}
+use Rattle.sb_atoms.specs.Growing.{Grown, GrownByGates, GrownByOne, Moves}
 use Rattle.sb_atoms.proofs.CallerLemmas.{regex_kept, atoms_kept, atoms_more}
 
 nothing : {X : Type 0} (x : X) (n : ℕ) → slice_get {X = X} [] n ≡ Some x → ⊥
@@ -35,15 +31,9 @@ split (y ∷ xs) ys (suc i) x h = elim (split xs ys i x h) [
     later : (n m j : ℕ) → n ≡ m + j → suc n ≡ suc m + j
     later n m j e = omega (arith, e)
 
-each_passes : {X : Type 0} (test : X → Bool) (xs : List X)
-    → ((i : ℕ) (x : X) → slice_get xs i ≡ Some x → test x ≡ true) → list_all test xs ≡ true
-each_passes test [] h = refl
-each_passes test (x ∷ xs) h =
-    and_from (test x) (list_all test xs) (h 0 x refl) (each_passes test xs (λ i y at. h (suc i) y at))
-
 -- The table of atoms.
 
-pub grown_none : (adds : Bool) (regexes : ℕ) (given : Demand → Bool) (old : List (AtomOver ℕ))
+pub grown_none : (adds : Bool) (regexes : ℕ) (given : List Sort → Bool) (old : List (AtomOver ℕ))
     → Grown adds regexes given old old
 grown_none adds regexes given old = record {
   more = [];
@@ -53,10 +43,9 @@ grown_none adds regexes given old = record {
   formed = λ i a h. absurd (nothing a i h);
   earlier = λ i a h. absurd (nothing a i h);
   parts = λ sorts g i a h before l. absurd (nothing a i h);
-  unjoined = λ g i a h. absurd (nothing a i h);
 }
 
-grown_same : (adds : Bool) (regexes : ℕ) (given : Demand → Bool) (old new : List (AtomOver ℕ)) → new ≡ old
+grown_same : (adds : Bool) (regexes : ℕ) (given : List Sort → Bool) (old new : List (AtomOver ℕ)) → new ≡ old
     → Grown adds regexes given old new
 grown_same adds regexes given old new e = rw e (grown_none adds regexes given old)
 
@@ -67,13 +56,12 @@ one_only a b (suc i) h = absurd (nothing b i h)
 longer_by_one : (old : List (AtomOver ℕ)) (a : AtomOver ℕ) → old ++ a ∷ [] ≡ old → ⊥
 longer_by_one old a e = omega (arith, ap length e, length-append old (a ∷ []))
 
-pub grown_one : (adds : Bool) (regexes : ℕ) (given : Demand → Bool) (old new : List (AtomOver ℕ)) (a : AtomOver ℕ)
+pub grown_one : (adds : Bool) (regexes : ℕ) (given : List Sort → Bool) (old new : List (AtomOver ℕ)) (a : AtomOver ℕ)
     → GrownByOne adds old new a → HasRegexBelow regexes a → is_well_formed a ≡ true
     → ((rs : List Regex) → names_below (length old) (over rs a) ≡ true)
-    → ((sorts : List Sort) → given (of_sorts sorts) ≡ true → (before : List Atom) → length before ≡ length old
-    → has_its_parts sorts before a ≡ true) → (given of_pieces ≡ true → is_unjoined_atom a ≡ true)
-    → Grown adds regexes given old new
-grown_one adds regexes given old new a g below formed earlier parts unjoined = step g.one
+    → ((sorts : List Sort) → given sorts ≡ true → (before : List Atom) → length before ≡ length old
+    → has_its_parts sorts before a ≡ true) → Grown adds regexes given old new
+grown_one adds regexes given old new a g below formed earlier parts = step g.one
   where
     step : (new ≡ old) ⊎ (new ≡ old ++ a ∷ []) → Grown adds regexes given old new
     step (inl e) = grown_same adds regexes given old new e
@@ -90,11 +78,10 @@ grown_one adds regexes given old new a g below formed earlier parts unjoined = s
       parts = λ sorts is i b h before l.
           let p = one_only a b i h in
           rw (← p.1) (parts sorts is before (omega (arith, l, p.0)));
-      unjoined = λ is i b h. let p = one_only a b i h in rw (← p.1) (unjoined is);
     }
 
-pub grown_given : (adds : Bool) (regexes : ℕ) (given wider : Demand → Bool) (old new : List (AtomOver ℕ))
-    → ((demand : Demand) → wider demand ≡ true → given demand ≡ true) → Grown adds regexes given old new
+pub grown_given : (adds : Bool) (regexes : ℕ) (given wider : List Sort → Bool) (old new : List (AtomOver ℕ))
+    → ((sorts : List Sort) → wider sorts ≡ true → given sorts ≡ true) → Grown adds regexes given old new
     → Grown adds regexes wider old new
 grown_given adds regexes given wider old new f g = record {
   more = g.more;
@@ -103,11 +90,10 @@ grown_given adds regexes given wider old new f g = record {
   regex = g.regex;
   formed = g.formed;
   earlier = g.earlier;
-  parts = λ sorts is. g.parts sorts (f (of_sorts sorts) is);
-  unjoined = λ is. g.unjoined (f of_pieces is);
+  parts = λ sorts is. g.parts sorts (f sorts is);
 }
 
-pub grown_both : (adds : Bool) (n m : ℕ) (given : Demand → Bool) (old mid new : List (AtomOver ℕ)) → n ≤ m
+pub grown_both : (adds : Bool) (n m : ℕ) (given : List Sort → Bool) (old mid new : List (AtomOver ℕ)) → n ≤ m
     → Grown adds n given old mid → Grown adds m given mid new → Grown adds m given old new
 grown_both adds n m given old mid new le p q = record {
   more = p.more ++ q.more;
@@ -130,10 +116,6 @@ grown_both adds n m given old mid new le p q = record {
     | inr t ↦ q.parts sorts is t.0 a t.2 before
         (omega (arith, l, t.1, ap length p.is, length-append old p.more))
   ];
-  unjoined = λ is i a h. elim (split p.more q.more i a h) [
-    | inl k ↦ p.unjoined is i a k
-    | inr t ↦ q.unjoined is t.0 a t.2
-  ];
 }
 
 pub gates_none : (adds : Bool) (old : List (AtomOver ℕ)) → GrownByGates adds old old
@@ -144,22 +126,22 @@ pub gates_both : (adds : Bool) (old mid new : List (AtomOver ℕ)) → GrownByGa
 gates_both adds old mid new p q = λ regexes given.
     grown_both adds regexes regexes given old mid new (omega arith) (p regexes given) (q regexes given)
 
-pub grown_longer : {adds : Bool} {regexes : ℕ} {given : Demand → Bool} (old new : List (AtomOver ℕ))
+pub grown_longer : {adds : Bool} {regexes : ℕ} {given : List Sort → Bool} (old new : List (AtomOver ℕ))
     → Grown adds regexes given old new → length old ≤ length new
 grown_longer old new g = omega (arith, ap length g.is, length-append old g.more)
 
 pub gates_longer : (adds : Bool) (old new : List (AtomOver ℕ)) → GrownByGates adds old new → length old ≤ length new
 gates_longer adds old new g = grown_longer old new (g 0 (λ sorts. true))
 
-pub grown_still : (regexes : ℕ) (given : Demand → Bool) (old new : List (AtomOver ℕ))
+pub grown_still : (regexes : ℕ) (given : List Sort → Bool) (old new : List (AtomOver ℕ))
     → Grown false regexes given old new → new ≡ old
 grown_still regexes given old new g = g.is ∙ ap (λ xs. old ++ xs) (g.still refl) ∙ append-nil old
 
-pub grown_extends : {adds : Bool} {regexes : ℕ} {given : Demand → Bool} (old new : List (AtomOver ℕ))
+pub grown_extends : {adds : Bool} {regexes : ℕ} {given : List Sort → Bool} (old new : List (AtomOver ℕ))
     → Grown adds regexes given old new → Extends old new
 grown_extends old new g = record { more = g.more; is = g.is }
 
-pub grown_regexes : {adds : Bool} {given : Demand → Bool} (n m : ℕ) (old new : List (AtomOver ℕ)) → n ≤ m
+pub grown_regexes : {adds : Bool} {given : List Sort → Bool} (n m : ℕ) (old new : List (AtomOver ℕ)) → n ≤ m
     → HaveRegexesBelow n old → Grown adds m given old new → HaveRegexesBelow m new
 grown_regexes n m old new le below g = rw g.is (λ i a h. elim (split old g.more i a h) [
   | inl k ↦ regex_kept n m a le (below i a k)
@@ -167,7 +149,7 @@ grown_regexes n m old new le below g = rw g.is (λ i a h. elim (split old g.more
 ])
 
 pub grown_defined : {adds : Bool} (regexes : ℕ) (t : Term) (old new : List (AtomOver ℕ))
-    → Grown adds regexes (λ demand. meets demand t) old new → AreDefined old new t
+    → Grown adds regexes (λ sorts. has_declared sorts t) old new → AreDefined old new t
 grown_defined regexes t old new g = rw g.is (λ i a from h. elim (split old g.more i a h) [
   | inl k ↦ absurd (early i a from k)
   | inr p ↦ (g.formed p.0 a p.2, λ sorts before is l. g.parts sorts is p.0 a p.2 before (l ∙ p.1))
@@ -176,16 +158,7 @@ grown_defined regexes t old new g = rw g.is (λ i a from h. elim (split old g.mo
     early : (i : ℕ) (a : AtomOver ℕ) → length old ≤ i → Names old i a → ⊥
     early i a from k = omega (arith, from, slice_get_within old i a k)
 
-pub grown_unjoined : {adds : Bool} (regexes : ℕ) (t : Term) (old new : List (AtomOver ℕ))
-    → Grown adds regexes (λ demand. meets demand t) old new → is_unjoined t ≡ true
-    → list_all is_unjoined_atom old ≡ true → list_all is_unjoined_atom new ≡ true
-grown_unjoined regexes t old new g is h =
-    ap (list_all is_unjoined_atom) g.is
-    ∙ list_all-append is_unjoined_atom old g.more
-    ∙ and_from (list_all is_unjoined_atom old) (list_all is_unjoined_atom g.more) h
-    (each_passes is_unjoined_atom g.more (g.unjoined is))
-
-pub grown_earlier : {adds : Bool} {regexes : ℕ} {given : Demand → Bool} (old new : List (AtomOver ℕ))
+pub grown_earlier : {adds : Bool} {regexes : ℕ} {given : List Sort → Bool} (old new : List (AtomOver ℕ))
     → Grown adds regexes given old new → NameEarlier (length old) new
 grown_earlier old new g = rw g.is (λ i a from h rs. elim (split old g.more i a h) [
   | inl k ↦ absurd (early i a from k)
@@ -206,39 +179,39 @@ carried {A} {make} x old new s g h rs =
 
 -- The arena too.
 
-pub moves_none : (adds : Bool) (given : Demand → Bool) (rs : List Regex) (old : List (AtomOver ℕ))
+pub moves_none : (adds : Bool) (given : List Sort → Bool) (rs : List Regex) (old : List (AtomOver ℕ))
     → Moves adds given rs rs old old
 moves_none adds given rs old = record { arena = extends_same rs; atoms = grown_none adds (length rs) given old }
 
-pub moves_arena : (adds : Bool) (given : Demand → Bool) (rs more : List Regex) (old : List (AtomOver ℕ))
+pub moves_arena : (adds : Bool) (given : List Sort → Bool) (rs more : List Regex) (old : List (AtomOver ℕ))
     → regex.Extends rs more → Moves adds given rs more old old
 moves_arena adds given rs more old e = record { arena = e; atoms = grown_none adds (length more) given old }
 
-pub moves_gates : (adds : Bool) (given : Demand → Bool) (rs : List Regex) (old new : List (AtomOver ℕ))
+pub moves_gates : (adds : Bool) (given : List Sort → Bool) (rs : List Regex) (old new : List (AtomOver ℕ))
     → GrownByGates adds old new → Moves adds given rs rs old new
 moves_gates adds given rs old new g = record { arena = extends_same rs; atoms = g (length rs) given }
 
-pub moves_given : (adds : Bool) (given wider : Demand → Bool) (rs more : List Regex) (old new : List (AtomOver ℕ))
-    → ((demand : Demand) → wider demand ≡ true → given demand ≡ true) → Moves adds given rs more old new
+pub moves_given : (adds : Bool) (given wider : List Sort → Bool) (rs more : List Regex) (old new : List (AtomOver ℕ))
+    → ((sorts : List Sort) → wider sorts ≡ true → given sorts ≡ true) → Moves adds given rs more old new
     → Moves adds wider rs more old new
 moves_given adds given wider rs more old new f m =
     record { arena = m.arena; atoms = grown_given adds (length more) given wider old new f m.atoms }
 
-pub moves_both : (adds : Bool) (given : Demand → Bool) (rs ss us : List Regex) (old mid new : List (AtomOver ℕ))
+pub moves_both : (adds : Bool) (given : List Sort → Bool) (rs ss us : List Regex) (old mid new : List (AtomOver ℕ))
     → Moves adds given rs ss old mid → Moves adds given ss us mid new → Moves adds given rs us old new
 moves_both adds given rs ss us old mid new p q = record {
   arena = extends_more rs ss us p.arena q.arena;
   atoms = grown_both adds (length ss) (length us) given old mid new (long_kept ss us q.arena) p.atoms q.atoms;
 }
 
-pub moves_table : {adds : Bool} {given : Demand → Bool} (rs ss : List Regex) (old new : List (AtomOver ℕ))
+pub moves_table : {adds : Bool} {given : List Sort → Bool} (rs ss : List Regex) (old new : List (AtomOver ℕ))
     → HaveRegexesBelow (length rs) old → (m : Moves adds given rs ss old new)
     → atoms_in ss new ≡ atoms_in rs old ++ atoms_in ss m.atoms.more
 moves_table rs ss old new below m =
     ap (atoms_in ss) m.atoms.is ∙ atoms_more ss old m.atoms.more
     ∙ ap (λ atoms. atoms ++ atoms_in ss m.atoms.more) (atoms_kept rs ss old m.arena below)
 
-pub moved : {A : Type 0} {make : List Atom → Option A} {adds : Bool} {given : Demand → Bool} (x : A)
+pub moved : {A : Type 0} {make : List Atom → Option A} {adds : Bool} {given : List Sort → Bool} (x : A)
     (rs ss : List Regex) (old new : List (AtomOver ℕ)) → Stays make → HaveRegexesBelow (length rs) old
     → Moves adds given rs ss old new → Some x ≡ make (atoms_in rs old) → Some x ≡ make (atoms_in ss new)
 moved {A} {make} x rs ss old new s below m h =

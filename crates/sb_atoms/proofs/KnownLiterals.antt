@@ -5,7 +5,7 @@ use Rattle.std.proofs.lemmas.Option.{same_Some}
 use Rattle.sb_facts.proofs.CallerLemmas.{some-none, after_map}
 use Rattle.sb_lang.specs.Regex.{Regex}
 use Rattle.sb_lit.specs.declared.clause.Lit.{Lit}
-use Rattle.sb_meaning.specs.Terms.{Term}
+use Rattle.sb_meaning.specs.Terms.{Sort, Term}
 use Rattle.sb_rulebook.specs.Atoms.{Atom, AtomOver}
 use Rattle.sb_rulebook.specs.Parts.{together}
 use Rattle.sb_rulebook.specs.Translation.{translation}
@@ -13,7 +13,7 @@ use Rattle.sb_term.specs.Numbered.{term_at, terms_at}
 use Rattle.sb_fragment.specs.declared.shape.Connective.{Connective}
 use Rattle.sb_atoms.specs.Numbered.{atoms_in, HaveRegexesBelow}
 use Rattle.sb_atoms.specs.Connecting.{connected}
-use Rattle.sb_atoms.specs.Growing.{Demand, is_below, are_below, GrownByGates, GivesLike, Finds, Moves}
+use Rattle.sb_atoms.specs.Growing.{is_below, are_below, GrownByGates, GivesLike, Finds, Moves}
 use Rattle.sb_atoms.specs.Shapes.{literals_of, connected_literal}
 use Rattle.sb_atoms.specs.Truths.{AllOf}
 use Rattle.sb_term.specs.Descending.{known_at, AreKnown}
@@ -25,7 +25,7 @@ use Rattle.sb_atoms.proofs.Structured.{front_none, none_behind, later_none}
 
 -- What was found stays.
 
-still_none : {adds : Bool} (given : Demand → Bool) (make : List Atom → Option Lit) (rs ss : List Regex)
+still_none : {adds : Bool} (given : List Sort → Bool) (make : List Atom → Option Lit) (rs ss : List Regex)
     (old new : List (AtomOver ℕ)) (b : Bool) → adds ≡ b → HaveRegexesBelow (length rs) old
     → Moves adds given rs ss old new → Finds is_below adds rs old make None → None ≡ make (atoms_in ss new)
 still_none given make rs ss old new true on below m h = sym (h.none on refl (atoms_in ss new))
@@ -35,7 +35,7 @@ still_none given make rs ss old new false off below m h =
     ∙ ap make (sym (atoms_kept rs ss old m.arena below))
     ∙ sym (ap (λ atoms. make (atoms_in ss atoms)) (grown_still (length ss) given old new g.atoms))
 
-pub finds_moved : (adds : Bool) (given : Demand → Bool) (rs ss : List Regex) (old new : List (AtomOver ℕ))
+pub finds_moved : (adds : Bool) (given : List Sort → Bool) (rs ss : List Regex) (old new : List (AtomOver ℕ))
     (t : Term) (found : Option Lit) → HaveRegexesBelow (length rs) old → Moves adds given rs ss old new
     → Finds is_below adds rs old (λ atoms. translation atoms t) found
     → Finds is_below adds ss new (λ atoms. translation atoms t) found
@@ -50,7 +50,7 @@ finds_moved adds given rs ss old new t (Some l) below m h = record {
   below = λ k e. below_more (length old) (length new) k (grown_longer old new m.atoms) (h.below k e);
 }
 
-pub known_moved : (adds : Bool) (given : Demand → Bool) (rs ss : List Regex) (old new : List (AtomOver ℕ))
+pub known_moved : (adds : Bool) (given : List Sort → Bool) (rs ss : List Regex) (old new : List (AtomOver ℕ))
     (ts : List Term) (known : List (ℕ × Option Lit)) (is : List ℕ) → HaveRegexesBelow (length rs) old
     → Moves adds given rs ss old new
     → AreKnown None (λ i found. Finds is_below adds rs old (λ atoms. translation atoms (term_at ts i)) found) known is

@@ -11,16 +11,13 @@ use Rattle.sb_meaning.specs.Terms.{Sort, boolean, integer, text, reglan, Term, T
 use Rattle.sb_meaning.specs.Terms as symbol
 use Rattle.sb_meaning.specs.Values.{Valuation}
 use Rattle.sb_meaning.specs.Truth.{Meaning, means_word, word_in, meaning_of_value, meaning_of, meanings_of}
-use Rattle.sb_script.specs.Brought.{is_unjoined}
 use Rattle.sb_script.specs.Pieces.{Piece, constant_piece, word_piece, onto_pieces, before_pieces, concatenation, is_short, if_short, pieces_of, all_pieces, are_single, single_pieces}
 use Rattle.sb_rulebook.specs.Atoms.{are_pieces}
 use Rattle.sb_rulebook.specs.AtomRules.{is_declared, is_declared_piece}
 use Rattle.sb_problem.specs.Parts.{are_written}
-use Rattle.sb_problem.specs.Words.{letters_of}
-use Rattle.sb_problem.proofs.CallerLemmas.{text_pieces}
 use Rattle.sb_atoms.specs.Given.{GivesValues, GivesEach}
-use Rattle.sb_atoms.specs.Translated.{has_declared, have_declared, are_unjoined_pieces}
-use Rattle.sb_atoms.specs.Growing.{Demand, of_sorts, of_pieces, meets, pieces_meet}
+use Rattle.sb_atoms.specs.Translated.{has_declared, have_declared}
+use Rattle.sb_atoms.specs.Growing.{are_declared_pieces}
 use Rattle.sb_atoms.specs.Shapes.{ArePiecesOf}
 use Rattle.sb_atoms.specs.Truths.{word_at, piece_word, joined_word}
 
@@ -223,31 +220,7 @@ mutual
       ∙ and_from (list_all (is_declared_piece sorts) ps) (list_all (list_all (is_declared_piece sorts)) rest)
       (pieces_declared sorts term ps first q.0) (all_pieces_declared sorts terms rest there q.1)))
 
--- Constants that are not joined.
-
-one_at_most : (w : List ℕ) → are_unjoined_pieces (onto_pieces (word_piece w) []) ≡ true
-one_at_most [] = refl
-one_at_most (c ∷ w) = refl
-
-pieces_unjoined : (t : Term) (ps : List Piece) → pieces_of t ≡ Some ps → is_unjoined t ≡ true
-    → are_unjoined_pieces ps ≡ true
-pieces_unjoined (constant serial text) ps h u =
-    let one : constant_piece serial ∷ [] ≡ ps = Prim.cc (h) in ap are_unjoined_pieces (sym one)
-pieces_unjoined (constant serial boolean) ps h u = absurd (Prim.cc (h))
-pieces_unjoined (constant serial integer) ps h u = absurd (Prim.cc (h))
-pieces_unjoined (constant serial reglan) ps h u = absurd (Prim.cc (h))
-pieces_unjoined (word w) ps h u =
-    let own = onto_pieces (word_piece w) [] in
-    ap are_unjoined_pieces (sym (some_if (is_short own) own ps h)) ∙ one_at_most w
-pieces_unjoined (numeral n) ps h u = absurd (Prim.cc (h))
-pieces_unjoined (apply symbol.str_concat terms) ps h u =
-    let t = apply symbol.str_concat terms in
-    ap are_unjoined_pieces (text_pieces t ps u h) ∙ one_at_most (letters_of t)
-pieces_unjoined (apply _ terms) ps h u = absurd (Prim.cc (h))
-pieces_unjoined (parameter place sort) ps h u = absurd (Prim.cc (h))
-
--- what is asked of the term is true of its pieces
-pub met_pieces : (demand : Demand) (t : Term) (ps : List Piece) → single_pieces t ≡ Some ps → meets demand t ≡ true
-    → pieces_meet demand ps ≡ true
-met_pieces (of_sorts sorts) t ps h d = pieces_declared sorts t ps (single_are t ps h) d
-met_pieces of_pieces t ps h u = pieces_unjoined t ps (single_are t ps h) u
+-- the pieces of a term whose constants are declared
+pub single_declared : (sorts : List Sort) (t : Term) (ps : List Piece) → single_pieces t ≡ Some ps
+    → has_declared sorts t ≡ true → are_declared_pieces sorts ps ≡ true
+single_declared sorts t ps h d = pieces_declared sorts t ps (single_are t ps h) d

@@ -9,7 +9,7 @@ use Rattle.sb_lit.specs.declared.clause.Lit.{Lit}
 use Rattle.sb_meaning.specs.Terms.{Term, Terms, word, apply, no_terms, with_term}
 use Rattle.sb_meaning.specs.Terms as symbol
 use Rattle.sb_meaning.specs.Truth.{means_word, meaning_of, applied}
-use Rattle.sb_script.specs.Brought.{is_text, are_texts, is_unjoined, are_unjoined}
+use Rattle.sb_script.specs.Brought.{is_text, are_texts}
 use Rattle.sb_script.specs.Fragment.{is_word_pair}
 use Rattle.sb_script.specs.Pieces.{Piece, is_ground, are_ground, word_of, are_single, pieces_of, single_pieces, ground_word}
 use Rattle.sb_script.specs.Sizes.{size_of, has_short_words, is_regular}
@@ -37,17 +37,6 @@ mutual
   texts_ground (with_term t terms) h =
       let p = and_parts (is_text t) (are_texts terms) h in
       and_from (is_ground t) (are_ground terms) (text_ground t p.0) (texts_ground terms p.1)
-
-text_unjoined : (t : Term) → is_text t ≡ true → is_unjoined t ≡ true
-text_unjoined (word w) h = refl
-text_unjoined (apply symbol.str_concat terms) h = h
-text_unjoined _ h = absurd (false≢true h)
-
-pub texts_unjoined : (terms : Terms) → are_texts terms ≡ true → are_unjoined terms ≡ true
-texts_unjoined no_terms h = refl
-texts_unjoined (with_term t terms) h =
-    let p = and_parts (is_text t) (are_texts terms) h in
-    and_from (is_unjoined t) (are_unjoined terms) (text_unjoined t p.0) (texts_unjoined terms p.1)
 
 short_by_size : (t : Term) → is_text t ≡ true → has_short_words t ≡ nat_le (size_of t) 65535
 short_by_size (word w) h = refl

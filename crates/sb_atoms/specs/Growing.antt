@@ -13,10 +13,8 @@ use Rattle.sb_fragment.specs.declared.measure.Measure.{Measure}
 use Rattle.sb_fragment.specs.Measures.{AreMeasures}
 use Rattle.sb_problem.specs.declared.normals.Known.{Known}
 use Rattle.sb_problem.specs.Known.{AreNormals}
-use Rattle.sb_script.specs.Brought.{is_unjoined}
 use Rattle.sb_script.specs.Pieces.{Piece}
 use Rattle.sb_atoms.specs.Numbered.{Names, IsWith, over, atoms_in, HasRegexBelow, HaveRegexesBelow}
-use Rattle.sb_atoms.specs.Translated.{has_declared, are_unjoined_pieces, is_unjoined_atom}
 
 abbrev pub is_below : ℕ → Lit → Bool
 is_below n l = nat_lt l.atom n
@@ -24,24 +22,13 @@ is_below n l = nat_lt l.atom n
 abbrev pub are_below : ℕ → List Lit → Bool
 are_below n ls = list_all (is_below n) ls
 
--- what may be asked of a term: that the constants in it are declared, with these sorts, and that none are joined in it
-pub data Demand : Type 0 where
-  of_sorts : List Sort → Demand
-  of_pieces : Demand
+-- the constants among pieces are declared, with these sorts
+abbrev pub are_declared_pieces : List Sort → List Piece → Bool
+are_declared_pieces sorts ps = list_all (is_declared_piece sorts) ps
 
-abbrev pub meets : Demand → Term → Bool
-meets (of_sorts sorts) t = has_declared sorts t
-meets of_pieces t = is_unjoined t
-
--- the pieces of a term that meets it
-abbrev pub pieces_meet : Demand → List Piece → Bool
-pieces_meet (of_sorts sorts) ps = list_all (is_declared_piece sorts) ps
-pieces_meet of_pieces ps = are_unjoined_pieces ps
-
--- The table has more atoms, or where none is to be added the same. Each of them names no literal but of the atoms before
--- it, and is right where it stands, given what is said of the constants of a term; and is no membership of several
--- pieces, given that none are joined.
-pub record Grown (adds : Bool) (regexes : ℕ) (given : Demand → Bool) (old new : List (AtomOver ℕ)) : Type 0 where
+-- The table has more atoms, or where none is to be added the same. Each of them names no literal but of the atoms
+-- before it, and is right where it stands, given what is said of the constants of a term.
+pub record Grown (adds : Bool) (regexes : ℕ) (given : List Sort → Bool) (old new : List (AtomOver ℕ)) : Type 0 where
   pub more : List (AtomOver ℕ)
   pub is : new ≡ old ++ more
   pub still : adds ≡ false → more ≡ []
@@ -49,13 +36,12 @@ pub record Grown (adds : Bool) (regexes : ℕ) (given : Demand → Bool) (old ne
   pub formed : (i : ℕ) (a : AtomOver ℕ) → Names more i a → is_well_formed a ≡ true
   pub earlier : (i : ℕ) (a : AtomOver ℕ) → Names more i a → (rs : List Regex)
       → names_below (length old + i) (over rs a) ≡ true
-  pub parts : (sorts : List Sort) → given (of_sorts sorts) ≡ true → (i : ℕ) (a : AtomOver ℕ) → Names more i a
+  pub parts : (sorts : List Sort) → given sorts ≡ true → (i : ℕ) (a : AtomOver ℕ) → Names more i a
       → (before : List Atom) → length before ≡ length old + i → has_its_parts sorts before a ≡ true
-  pub unjoined : given of_pieces ≡ true → (i : ℕ) (a : AtomOver ℕ) → Names more i a → is_unjoined_atom a ≡ true
 
 -- whatever the regexes are, and with no constants
 abbrev pub GrownByGates : Bool → List (AtomOver ℕ) → List (AtomOver ℕ) → Type 0
-GrownByGates adds old new = (regexes : ℕ) (given : Demand → Bool) → Grown adds regexes given old new
+GrownByGates adds old new = (regexes : ℕ) (given : List Sort → Bool) → Grown adds regexes given old new
 
 -- the one atom is new at most
 pub record GrownByOne (adds : Bool) (old new : List (AtomOver ℕ)) (atom : AtomOver ℕ) : Type 0 where
@@ -109,7 +95,7 @@ pub record AreReady (ts : List Term) (ms : List Measure) (ks : List Known) (rs :
     pub regexes : HaveRegexesBelow (length rs) atoms
 
 -- the arena and the table of atoms are larger
-pub record Moves (adds : Bool) (given : Demand → Bool) (rs more : List Regex) (old new : List (AtomOver ℕ)) : Type 0
+pub record Moves (adds : Bool) (given : List Sort → Bool) (rs more : List Regex) (old new : List (AtomOver ℕ)) : Type 0
   where
     pub arena : regex.Extends rs more
     pub atoms : Grown adds (length more) given old new

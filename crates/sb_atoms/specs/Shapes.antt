@@ -3,7 +3,7 @@ use Rattle.std.specs.Prelude.{◌≡◌, ℕ, Bool, true, false, ◌&&◌, List,
 use Rattle.std.specs.List.{list_all}
 use Rattle.sb_lit.specs.declared.clause.Lit.{Lit}
 use Rattle.sb_lang.specs.Regex.{Regex}
-use Rattle.sb_meaning.specs.Terms.{Term}
+use Rattle.sb_meaning.specs.Terms.{Sort, Term}
 use Rattle.sb_problem.specs.Normals.{IsRegexOf}
 use Rattle.sb_script.specs.Pieces.{Piece, single_pieces}
 use Rattle.sb_script.specs.Sizes.{is_regular}
@@ -13,7 +13,7 @@ use Rattle.sb_rulebook.specs.Translation.{translation, conjunction, positive, wo
 use Rattle.sb_fragment.specs.declared.shape.Connective.{Connective}
 use Rattle.sb_fragment.specs.Compared.{compared}
 use Rattle.sb_atoms.specs.Connecting.{signed, connected}
-use Rattle.sb_atoms.specs.Growing.{Demand, meets}
+use Rattle.sb_atoms.specs.Translated.{has_declared}
 
 -- the literals of all of these
 abbrev pub literals_of : List Atom → List Term → Option (List Lit)
@@ -32,8 +32,8 @@ words_literal atoms distinct ts =
 abbrev pub connected_literal : List Atom → Connective → List Term → Option Lit
 connected_literal atoms c ts = option_and_then (connected c atoms) (literals_of atoms ts)
 
-abbrev pub meet_pairs : Demand → List (Term × Term) → Bool
-meet_pairs demand ps = list_all (λ p. meets demand p.0 && meets demand p.1) ps
+abbrev pub have_declared_pairs : List Sort → List (Term × Term) → Bool
+have_declared_pairs sorts ps = list_all (λ p. has_declared sorts p.0 && has_declared sorts p.1) ps
 
 -- the literal of the membership of the pieces in the regular expression
 abbrev pub member_literal : List Atom → List Piece → Term → Option Lit

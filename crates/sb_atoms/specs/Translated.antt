@@ -1,12 +1,11 @@
 -- The literal of a term of Boolean structure, and the atoms that are added for it.
-use Rattle.std.specs.Prelude.{◌≡◌, ◌≤◌, ℕ, Bool, true, false, ◌&&◌, if◌then◌else◌, List, [], ◌∷◌, length, Option, None}
+use Rattle.std.specs.Prelude.{◌≡◌, ◌≤◌, ℕ, Bool, true, false, ◌&&◌, if◌then◌else◌, List, length, Option, None}
 use Rattle.sb_lit.specs.declared.clause.Lit.{Lit}
 use Rattle.sb_meaning.specs.Terms.{Sort, Term, Terms, constant, apply, no_terms, with_term}
-use Rattle.sb_rulebook.specs.Atoms.{Atom, AtomOver, in_atom, is_well_formed}
+use Rattle.sb_rulebook.specs.Atoms.{Atom, AtomOver, is_well_formed}
 use Rattle.sb_rulebook.specs.AtomRules.{is_declared, has_its_parts}
 use Rattle.sb_rulebook.specs.Translation.{translation}
 use Rattle.sb_script.specs.Brought.{is_structure}
-use Rattle.sb_script.specs.Pieces.{Piece}
 use Rattle.sb_atoms.specs.Numbered.{Names}
 
 -- The literal of a term of Boolean structure; of another there is none.
@@ -16,17 +15,6 @@ brought_translation atoms t = if is_structure t then translation atoms t else No
 -- the term has no literal, whatever the table is
 abbrev pub HasNoLiteral : Term → Type 0
 HasNoLiteral t = (atoms : List Atom) → brought_translation atoms t ≡ None
-
--- no constant stands beside another piece
-abbrev pub are_unjoined_pieces : List Piece → Bool
-are_unjoined_pieces [] = true
-are_unjoined_pieces (p ∷ []) = true
-are_unjoined_pieces (p ∷ q ∷ ps) = false
-
--- the atom is no membership of several pieces
-abbrev pub is_unjoined_atom : AtomOver ℕ → Bool
-is_unjoined_atom (in_atom ps r) = are_unjoined_pieces ps
-is_unjoined_atom _ = true
 
 -- each constant in the term is declared, with its sort
 abbrev mutual

@@ -6,7 +6,7 @@ ghost use Rattle.sb_regex.specs.Numbered as regex;
 ghost use Rattle.sb_term.specs.Descending.{HaveParts, PartsAre, known_at, AreKnown};
 ghost use Rattle.sb_term.specs.Numbered.{term_at};
 ghost use Rattle.sb_script.specs.Pieces.{constant_piece};
-ghost use Rattle.sb_script.specs.Brought.{is_regex, is_structure, is_unjoined};
+ghost use Rattle.sb_script.specs.Brought.{is_regex, is_structure};
 ghost use Rattle.sb_problem.specs.Known.{AreNormals};
 ghost use Rattle.sb_problem.specs.Patterns.{number_of, pattern_in};
 ghost use Rattle.sb_fragment.specs.Measures.{AreMeasures};
@@ -18,10 +18,10 @@ ghost use Rattle.sb_rulebook.specs.Translation as rules;
 ghost use Rattle.sb_atoms.specs.Connecting as connecting;
 ghost use Rattle.sb_proof.specs.Lines.{atom_in, piece_in};
 ghost use Rattle.sb_atoms.specs.Numbered.{atoms_in, HaveRegexesBelow, Extends, NameEarlier};
-ghost use Rattle.sb_atoms.specs.Translated.{brought_translation, is_unjoined_atom, AreDefined, HasNoLiteral};
-ghost use Rattle.sb_atoms.specs.Growing.{is_below, are_below, meets, pieces_meet, GivesLike, GrownByGates, Finds, AreReady, Moves};
+ghost use Rattle.sb_atoms.specs.Translated.{brought_translation, has_declared, AreDefined, HasNoLiteral};
+ghost use Rattle.sb_atoms.specs.Growing.{is_below, are_below, are_declared_pieces, GivesLike, GrownByGates, Finds, AreReady, Moves};
 ghost use Rattle.sb_atoms.specs.Reaching.{connected_parts};
-ghost use Rattle.sb_atoms.specs.Shapes.{IsAtomOf, meet_pairs, member_literal, word_literals, words_literal};
+ghost use Rattle.sb_atoms.specs.Shapes.{IsAtomOf, have_declared_pairs, member_literal, word_literals, words_literal};
 
 use crate::connect::signed;
 use crate::pieces::{sides_of, single_pieces};
@@ -121,7 +121,7 @@ impl Atoms {
         requires ready { AreReady table.now measures.old normals.old arena.old self.old }
         ensures ok { IfOk result (λ found. Finds is_below adds arena.new self.new
             (λ atoms. member_literal atoms (map piece_in pieces.items) (pattern_in table.now pattern)) found) }
-        ensures moves { Moves adds (λ demand. pieces_meet demand (map piece_in pieces.items))
+        ensures moves { Moves adds (λ sorts. are_declared_pieces sorts (map piece_in pieces.items))
             arena.old arena.new self.old self.new }
         ensures ready { AreReady table.now measures.new normals.new arena.new self.new }
     {
@@ -150,7 +150,7 @@ impl Atoms {
         ensures ok { IfOk result (λ found. Finds is_below adds arena.new self.new
             (λ atoms. rules.membership atoms (term_at table.now text) (regex_of (pattern_in table.now pattern)))
             found) }
-        ensures moves { Moves adds (λ demand. meets demand (term_at table.now text))
+        ensures moves { Moves adds (λ sorts. has_declared sorts (term_at table.now text))
             arena.old arena.new self.old self.new }
         ensures ready { AreReady table.now measures.new normals.new arena.new self.new }
     {
@@ -176,7 +176,7 @@ impl Atoms {
         requires ready { AreReady table.now measures.old normals.old arena.old self.old }
         ensures ok { IfOk result (λ found. Finds is_below adds arena.new self.new
             (λ atoms. rules.translation atoms (term_at table.now id)) found) }
-        ensures moves { Moves adds (λ demand. meets demand (term_at table.now id))
+        ensures moves { Moves adds (λ sorts. has_declared sorts (term_at table.now id))
             arena.old arena.new self.old self.new }
         ensures ready { AreReady table.now measures.new normals.new arena.new self.new }
     {
@@ -202,7 +202,7 @@ impl Atoms {
         ensures ok { IfOk result (λ found. Finds is_below adds arena.new self.new
             (λ atoms. rules.word_equality atoms (term_at table.now one) (term_at table.now other)) found) }
         ensures moves { Moves adds
-            (λ demand. meets demand (term_at table.now one) && meets demand (term_at table.now other))
+            (λ sorts. has_declared sorts (term_at table.now one) && has_declared sorts (term_at table.now other))
             arena.old arena.new self.old self.new }
         ensures ready { AreReady table.now measures.new normals.new arena.new self.new }
     {
@@ -231,7 +231,7 @@ impl Atoms {
         requires ready { AreReady table.now measures.old normals.old arena.old self.old }
         ensures ok { IfOk result (λ found. Finds are_below adds arena.new self.new
             (λ atoms. word_literals atoms distinct (terms_of_pairs table.now pairs.now)) (option_map (λ v. v.items) found)) }
-        ensures moves { Moves adds (λ demand. meet_pairs demand (terms_of_pairs table.now pairs.now))
+        ensures moves { Moves adds (λ sorts. have_declared_pairs sorts (terms_of_pairs table.now pairs.now))
             arena.old arena.new self.old self.new }
         ensures ready { AreReady table.now measures.new normals.new arena.new self.new }
     {
@@ -261,7 +261,7 @@ impl Atoms {
         requires ready { AreReady table.now measures.old normals.old arena.old self.old }
         ensures ok { IfOk result (λ found. Finds is_below adds arena.new self.new
             (λ atoms. words_literal atoms distinct (parts_of (term_at table.now id))) found) }
-        ensures moves { Moves adds (λ demand. meets demand (term_at table.now id))
+        ensures moves { Moves adds (λ sorts. has_declared sorts (term_at table.now id))
             arena.old arena.new self.old self.new }
         ensures ready { AreReady table.now measures.new normals.new arena.new self.new }
     {
@@ -308,7 +308,7 @@ impl Atoms {
             (λ atoms. rules.translation atoms (term_at table.now i)) (known_at None known.now.entries i)) id }
         ensures ok { IfOk result (λ found. Finds is_below adds arena.new self.new
             (λ atoms. rules.translation atoms (term_at table.now id)) found) }
-        ensures moves { Moves adds (λ demand. meets demand (term_at table.now id))
+        ensures moves { Moves adds (λ sorts. has_declared sorts (term_at table.now id))
             arena.old arena.new self.old self.new }
         ensures ready { AreReady table.now measures.new normals.new arena.new self.new }
     {
@@ -349,7 +349,7 @@ impl Atoms {
         requires ready { AreReady table.now measures.old normals.old arena.old self.old }
         ensures ok { OnOk result (AreKnown None (λ i found. Finds is_below adds arena.new self.new
             (λ atoms. rules.translation atoms (term_at table.now i)) found) known.new.entries ids.now) }
-        ensures moves { Moves adds (λ demand. list_all (λ i. meets demand (term_at table.now i)) ids.now)
+        ensures moves { Moves adds (λ sorts. list_all (λ i. has_declared sorts (term_at table.now i)) ids.now)
             arena.old arena.new self.old self.new }
         ensures ready { AreReady table.now measures.new normals.new arena.new self.new }
     {
@@ -378,7 +378,7 @@ impl Atoms {
         requires ready { AreReady table.now measures.old normals.old arena.old self.old }
         ensures ok { IfOk result (λ found. Finds is_below adds arena.new self.new
             (λ atoms. rules.translation atoms (term_at table.now id)) found) }
-        ensures moves { Moves adds (λ demand. meets demand (term_at table.now id))
+        ensures moves { Moves adds (λ sorts. has_declared sorts (term_at table.now id))
             arena.old arena.new self.old self.new }
         ensures ready { AreReady table.now measures.new normals.new arena.new self.new }
     {
@@ -402,7 +402,7 @@ impl Atoms {
         requires ready { AreReady table.now measures.old normals.old arena.old self.old }
         ensures ok { IfOk result (λ found. Finds is_below adds arena.new self.new
             (λ atoms. brought_translation atoms (term_at table.now id)) found) }
-        ensures moves { Moves adds (λ demand. meets demand (term_at table.now id))
+        ensures moves { Moves adds (λ sorts. has_declared sorts (term_at table.now id))
             arena.old arena.new self.old self.new }
         ensures ready { AreReady table.now measures.new normals.new arena.new self.new }
     {
@@ -443,8 +443,6 @@ impl Atoms {
         ensures extends { Extends self.old self.new }
         ensures defined { AreDefined self.old self.new (term_at table.now id) }
         ensures earlier { NameEarlier (length self.old) self.new }
-        ensures unjoined { is_unjoined (term_at table.now id) ≡ true → list_all is_unjoined_atom self.old ≡ true
-            → list_all is_unjoined_atom self.new ≡ true }
         ensures regexes { HaveRegexesBelow (length arena.new) self.new }
         ensures right { AreMeasures table.now measures.new }
         ensures normals { AreNormals table.now arena.new normals.new }

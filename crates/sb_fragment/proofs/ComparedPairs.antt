@@ -68,35 +68,6 @@ two_more true test x xs = refl
 two_more false test x [] = refl
 two_more false test x (y ∷ xs) = ap (λ b. b && each_two false test (y ∷ xs)) (sym (and-true (test x y)))
 
-facing_pass : {X : Type 0} (test : X → Bool) (distinct : Bool) (xs : List X) → list_all test xs ≡ true
-    → list_all test (facing distinct xs) ≡ true
-facing_pass test true xs h = h
-facing_pass test false [] h = refl
-facing_pass test false (x ∷ xs) h =
-    and_from (test x) true (and_parts (test x) (list_all test xs) h).0 refl
-
-row_same : {X : Type 0} (test : X → Bool) (p q : X → Bool) (xs : List X) → list_all test xs ≡ true
-    → ((x : X) → test x ≡ true → p x ≡ q x) → list_all p xs ≡ list_all q xs
-row_same test p q [] h same = refl
-row_same test p q (x ∷ xs) h same =
-    let parts = and_parts (test x) (list_all test xs) h in
-    ap₂ ◌&&◌ (same x parts.0) (row_same test p q xs parts.1 same)
-
--- two relations that are one between those that pass
-pub two_same : {X : Type 0} (distinct : Bool) (test : X → Bool) (p q : X → X → Bool) (xs : List X)
-    → list_all test xs ≡ true → ((x y : X) → test x ≡ true → test y ≡ true → p x y ≡ q x y)
-    → each_two distinct p xs ≡ each_two distinct q xs
-two_same true test p q [] h same = refl
-two_same false test p q [] h same = refl
-two_same distinct test p q (x ∷ xs) h same =
-    let parts = and_parts (test x) (list_all test xs) h in
-    two_more distinct p x xs
-    ∙ (ap₂ ◌&&◌
-    (row_same test (p x) (q x) (facing distinct xs) (facing_pass test distinct xs parts.1)
-    (λ y. same x y parts.0))
-    (two_same distinct test p q xs parts.1 same)
-    ∙ sym (two_more distinct q x xs))
-
 -- what holds of both of each two holds of all, where there are two
 pub two_all : {X : Type 0} (distinct : Bool) (test : X → X → Bool) (P : X → Type 0) (x y : X) (xs : List X)
     → ((a b : X) → test a b ≡ true → P a × P b) → each_two distinct test (x ∷ y ∷ xs) ≡ true

@@ -1,11 +1,10 @@
 -- Which terms of Boolean structure are within the limits on sizes, by their shapes.
-use Rattle.std.proofs.Common.{◌≡◌, ℕ, ◌<◌, Bool, true, false, ◌&&◌, List, length, get_or, slice_get, Some, refl, sym, subst, ap, ap₂, ◌∙◌, arith}
+use Rattle.std.proofs.Common.{◌≡◌, ℕ, ◌<◌, Bool, true, false, ◌&&◌, List, length, get_or, Some, refl, sym, subst, ap, ap₂, ◌∙◌, arith}
 use Rattle.std.specs.List.{list_all}
-use Rattle.std.proofs.lemmas.Bool.{and_parts, false≢true}
-use Rattle.std.proofs.lemmas.Option.{slice_get-get_or}
+use Rattle.std.proofs.lemmas.Bool.{false≢true}
 use Rattle.std.proofs.Math.Bool.{and-true}
 use Rattle.sb_meaning.specs.Terms.{Sort, boolean, integer, text, reglan, Term, Terms, constant, apply, str_to_re, no_terms, with_term, terms_in}
-use Rattle.sb_script.specs.Brought.{asked, is_regex, is_structure, is_unjoined, are_unjoined}
+use Rattle.sb_script.specs.Brought.{asked, is_regex, is_structure}
 use Rattle.sb_script.specs.Fragment.{fits, each_fits, is_word_pair, is_linear_pair, sort_of_first}
 use Rattle.sb_script.specs.Sizes.{is_regular}
 use Rattle.sb_script.proofs.CallerLemmas.{asked_regular}
@@ -14,7 +13,6 @@ use Rattle.sb_problem.specs.Patterns.{literal_of, number_of, pattern_in}
 use Rattle.sb_problem.specs.declared.pattern.Pattern.{Pattern}
 use Rattle.sb_problem.specs.declared.pattern.Pattern.TheVariants.{Expression, Word}
 use Rattle.sb_fragment.specs.declared.fitting.Fit.{Fit}
-use Rattle.sb_fragment.specs.declared.sides.Side.{Side}
 use Rattle.sb_fragment.specs.declared.measure.Measure.{Measure}
 use Rattle.sb_fragment.specs.declared.shape.Connective.{Connective}
 use Rattle.sb_fragment.specs.declared.shape.Connective.TheVariants as connective
@@ -24,19 +22,14 @@ use Rattle.sb_fragment.specs.Measures.{IsMeasure, AreMeasures}
 use Rattle.sb_fragment.specs.Measured.{joined, no_measure, applied_measure, within}
 use Rattle.sb_fragment.specs.Memberships.{in_re, is_in_re}
 use Rattle.sb_fragment.specs.Shapes.{IsApplied, IsComparison, IsConnected, IsShape, parts_of, truth_of, comparison_of}
-use Rattle.sb_fragment.specs.Fitting.{AreFit, IsFit, fit_with, fit_by, is_side, are_sides_of_one, regex_fit, side_in}
-use Rattle.sb_fragment.proofs.ComparedPairs.{two_same}
+use Rattle.sb_fragment.specs.Fitting.{AreFit, IsFit, fit_with, fit_by, is_single, regex_fit}
 use Rattle.sb_fragment.proofs.MeasureFacts.{literal_is, regular_is}
-use Rattle.sb_fragment.proofs.SideFacts.{sides_are_pairs, single_sides}
+use Rattle.sb_fragment.proofs.SideFacts.{measured_at}
 use Rattle.sb_fragment.proofs.Structured.{asked_structure, always_structure, alone_structure, connected_structure, words_structure}
 
 fits_of_all : (terms : Terms) → each_fits terms ≡ list_all fits (terms_in terms)
 fits_of_all no_terms = refl
 fits_of_all (with_term t terms) = ap (λ b. fits t && b) (fits_of_all terms)
-
-unjoined_of_all : (terms : Terms) → are_unjoined terms ≡ list_all is_unjoined (terms_in terms)
-unjoined_of_all no_terms = refl
-unjoined_of_all (with_term t terms) = ap (λ b. is_unjoined t && b) (unjoined_of_all terms)
 
 -- by the sort of the first
 abbrev by_sort : Sort → Bool → List Term → Bool → Bool
@@ -74,75 +67,44 @@ always_fits : (t : Term) (truth : Bool) → IsApplied t (truth_of truth) → fit
 always_fits t true h = rw h.is (fits_of_all h.terms)
 always_fits t false h = rw h.is (fits_of_all h.terms)
 
--- Arguments in which no constants are joined.
-
-compared_unjoined : (t : Term) (distinct : Bool) (k : Sort) → IsComparison t distinct k
-    → is_unjoined t ≡ list_all is_unjoined (parts_of t)
-compared_unjoined t true k h = rw h.is (unjoined_of_all h.terms)
-compared_unjoined t false k h = rw h.is (unjoined_of_all h.terms)
-
-connected_unjoined : (t : Term) (c : Connective) → IsConnected t c
-    → is_unjoined t ≡ list_all is_unjoined (parts_of t)
-connected_unjoined t connective.Not h = rw h.is (unjoined_of_all h.terms)
-connected_unjoined t connective.And h = rw h.is (unjoined_of_all h.terms)
-connected_unjoined t connective.Or h = rw h.is (unjoined_of_all h.terms)
-connected_unjoined t connective.Implies h = rw h.is (unjoined_of_all h.terms)
-connected_unjoined t connective.Xor h = rw h.is (unjoined_of_all h.terms)
-connected_unjoined t connective.Ite h = rw h.is (unjoined_of_all h.terms)
-connected_unjoined t (connective.Compare distinct) h = compared_unjoined t distinct boolean h.0
-
-always_unjoined : (t : Term) (truth : Bool) → IsApplied t (truth_of truth)
-    → is_unjoined t ≡ list_all is_unjoined (parts_of t)
-always_unjoined t true h = rw h.is (unjoined_of_all h.terms)
-always_unjoined t false h = rw h.is (unjoined_of_all h.terms)
-
 -- Structure and limits together.
 
 by_parts : (t : Term) (parts : Fit) → AreFit (parts_of t) parts → is_structure t ≡ list_all is_structure (parts_of t)
-    → fits t ≡ list_all fits (parts_of t) → is_unjoined t ≡ list_all is_unjoined (parts_of t) → IsFit t parts
-by_parts t parts h s f u = record {
-  structure = h.structure ∙ sym s;
-  fitting = λ unjoined. h.fitting (sym u ∙ unjoined) ∙ sym (ap₂ ◌&&◌ s f);
-}
+    → fits t ≡ list_all fits (parts_of t) → IsFit t parts
+by_parts t parts h s f = record { structure = h.structure ∙ sym s; fitting = h.fitting ∙ sym (ap₂ ◌&&◌ s f) }
 
 pub always_fit : (t : Term) (truth : Bool) (parts : Fit) → IsApplied t (truth_of truth) → AreFit (parts_of t) parts
     → IsFit t parts
-always_fit t truth parts h p =
-    by_parts t parts p (always_structure t truth h) (always_fits t truth h) (always_unjoined t truth h)
+always_fit t truth parts h p = by_parts t parts p (always_structure t truth h) (always_fits t truth h)
 
 pub alone_fit : (t : Term) (parts : Fit) → IsShape t shape.Alone → AreFit (parts_of t) parts → IsFit t parts
-alone_fit t parts h p =
-    by_parts t parts p (alone_structure t h) (compared_fits t h.0 h.1) (compared_unjoined t h.0 boolean h.1)
+alone_fit t parts h p = by_parts t parts p (alone_structure t h) (compared_fits t h.0 h.1)
 
 pub connected_fit : (t : Term) (c : Connective) (parts : Fit) → IsConnected t c → AreFit (parts_of t) parts
     → IsFit t parts
-connected_fit t c parts h p =
-    by_parts t parts p (connected_structure t c h) (connected_fits t c h) (connected_unjoined t c h)
+connected_fit t c parts h p = by_parts t parts p (connected_structure t c h) (connected_fits t c h)
 
 pub words_fit : (t : Term) (distinct : Bool) (ts : List Term) (all : Bool) → IsShape t (shape.Words distinct)
-    → ts ≡ parts_of t → all ≡ each_two distinct are_sides_of_one ts → IsFit t (fit_with true all)
+    → ts ≡ parts_of t → all ≡ each_two distinct is_word_pair ts → IsFit t (fit_with true all)
 words_fit t distinct ts all h same e = record {
   structure = sym (words_structure t distinct h);
-  fitting = λ unjoined.
-      let each = sym (compared_unjoined t distinct text h) ∙ unjoined in
-      e
-      ∙ (ap (each_two distinct are_sides_of_one) same
-      ∙ (two_same distinct is_unjoined are_sides_of_one is_word_pair (parts_of t) each sides_are_pairs
-      ∙ (sym (words_fits t distinct h) ∙ ap (λ b. b && fits t) (sym (words_structure t distinct h)))));
+  fitting = e
+      ∙ (ap (each_two distinct is_word_pair) same
+      ∙ (sym (words_fits t distinct h) ∙ ap (λ b. b && fits t) (sym (words_structure t distinct h))));
 }
 
 pub asked_fit : (t : Term) (serial : ℕ) (R : Term) (fit : Fit) → asked t ≡ Some (serial, R) → fit ≡ regex_fit R
     → IsFit t fit
 asked_fit t serial R fit h e = rw e (record {
   structure = sym (asked_structure t serial R h);
-  fitting = λ unjoined. sym (ap₂ ◌&&◌ (asked_structure t serial R h) (asked_regular t serial R h));
+  fitting = sym (ap₂ ◌&&◌ (asked_structure t serial R h) (asked_regular t serial R h));
 })
 
 pub constant_fit : (t : Term) (serial : ℕ) → t ≡ constant serial boolean → IsFit t (fit_with true true)
-constant_fit t serial h = rw h (record { structure = refl; fitting = λ u. refl })
+constant_fit t serial h = rw h (record { structure = refl; fitting = refl })
 
 pub other_fit : (t : Term) → is_structure t ≡ false → IsFit t (fit_with false false)
-other_fit t h = record { structure = sym h; fitting = λ u. ap (λ b. b && fits t) (sym h) }
+other_fit t h = record { structure = sym h; fitting = ap (λ b. b && fits t) (sym h) }
 
 -- Memberships.
 
@@ -152,21 +114,17 @@ member_by true false true = refl
 member_by true false false = refl
 member_by false w s = refl
 
-pub member_fit : (ts : List Term) (id a b : ℕ) (fit : Fit) (side : Side)
-    → term_at ts id ≡ in_re (term_at ts a) (term_at ts b)
-    → side ≡ side_in (term_at ts a) → fit ≡ regex_fit (term_at ts b)
-    → (now : Bool) → now ≡ (fit.fits && is_side (term_at ts a)) → IsFit (term_at ts id) (fit_with fit.is_structure now)
-member_fit ts id a b fit side is s f now n =
+pub member_fit : (ts : List Term) (id a b : ℕ) (fit : Fit) (single now : Bool)
+    → term_at ts id ≡ in_re (term_at ts a) (term_at ts b) → single ≡ is_single (term_at ts a)
+    → fit ≡ regex_fit (term_at ts b) → now ≡ (fit.fits && single)
+    → IsFit (term_at ts id) (fit_with fit.is_structure now)
+member_fit ts id a b fit single now is s f n =
     let t = term_at ts a in
     let R = term_at ts b in
     rw is (record {
       structure = ap (λ (x : Fit). x.is_structure) f;
-      fitting = λ unjoined.
-          let parts = and_parts (is_unjoined t) (is_unjoined R && true) unjoined in
-          n
-          ∙ (ap (λ (x : Fit). x.fits && is_side t) f
-          ∙ (member_by (is_regex R) (is_regular R) (is_side t)
-          ∙ ap (λ x. is_regex R && (x && is_regular R)) (sym (single_sides t parts.0))));
+      fitting = n
+          ∙ (ap₂ (λ (x : Fit) c. x.fits && c) f s ∙ member_by (is_regex R) (is_regular R) (is_single t));
     })
 
 pub no_member : (t : Term) (fit : Fit) → is_in_re t ≡ false → is_in_re t ≡ true → IsFit t fit
@@ -177,11 +135,6 @@ measured_fit : (R : Term) (m : Measure) → IsMeasure R m → fit_by m.is_regex 
 measured_fit R m is = ap₂ fit_by is.regex (regular_is R m is)
 
 -- by its number
-measured_at : (ts : List Term) (ms : List Measure) (i n : ℕ) (d : Measure) → AreMeasures ts ms → n ≡ i → i < length ms
-    → IsMeasure (term_at ts i) (get_or ms n d)
-measured_at ts ms i n d h e l =
-    h.each i (get_or ms n d) (ap (slice_get ms) (sym e) ∙ slice_get-get_or ms n d (omega (arith, e, l)))
-
 pub number_fit : (ts : List Term) (ms : List Measure) (i n : ℕ) (d : Measure) → AreMeasures ts ms → n ≡ i
     → i < length ms → fit_by (get_or ms n d).is_regex (within (get_or ms n d)) ≡ regex_fit (term_at ts i)
 number_fit ts ms i n d h e l = measured_fit (term_at ts i) (get_or ms n d) (measured_at ts ms i n d h e l)

@@ -2,17 +2,18 @@
 use Rattle.std.proofs.Common.{◌≡◌, ℕ, suc, ◌+◌, ◌<◌, Bool, true, false, inl, inr, not, ◌&&◌, ◌==◌}
 use Rattle.std.proofs.Common.{nat_le, if◌then◌else◌, Some, List, [], ◌∷◌, ◌++◌, length, get_or, refl, sym, ap, ap₂}
 use Rattle.std.proofs.Common.{◌∙◌, arith, length-append, subst}
+use Rattle.std.specs.Prelude.{is_some}
 use Rattle.std.specs.List.{All, list_all}
 use Rattle.std.proofs.lemmas.Bool.Decides.{nat_tests}
 use Rattle.std.proofs.lemmas.Option.{slice_get-get_or}
-use Rattle.std.proofs.lemmas.Bool.{and_parts}
-use Rattle.std.proofs.Math.Bool.{and_assoc, and-true, and-false}
+use Rattle.std.proofs.Math.Bool.{and_assoc}
 use Rattle.sb_facts.proofs.CallerLemmas.{get_push}
-use Rattle.sb_meaning.specs.Terms.{Symbol, Term, apply, terms_of}
+use Rattle.sb_meaning.specs.Terms.{Sort, boolean, integer, text, reglan, Symbol, Term, constant, apply, terms_of}
 use Rattle.sb_meaning.specs.Terms as symbol
-use Rattle.sb_script.specs.Brought.{is_regex, are_regexes, is_structure, is_text, are_texts, is_unjoined, are_unjoined}
+use Rattle.sb_meaning.specs.Sorts.{is_same_sort}
+use Rattle.sb_script.specs.Brought.{is_regex, are_regexes, is_structure, is_text, are_texts}
 use Rattle.sb_script.specs.Fragment.{fits, is_decided}
-use Rattle.sb_script.specs.Pieces.{are_ground}
+use Rattle.sb_script.specs.Pieces.{are_ground, pieces_of}
 use Rattle.sb_script.specs.Sizes.{size_of, sizes_of, has_short_words, have_short_words, is_regular}
 use Rattle.sb_script.specs.State.{asserted}
 use Rattle.sb_script.proofs.CallerLemmas.{terms_in_of}
@@ -20,16 +21,17 @@ use Rattle.sb_term.specs.declared.term.Term as code
 use Rattle.sb_term.specs.declared.term.Term.TheVariants as node
 use Rattle.sb_term.specs.Nodes.{node_term}
 use Rattle.sb_term.specs.Numbered.{term_at, terms_at}
-use Rattle.sb_term.specs.Symbols.{symbol_in}
+use Rattle.sb_term.specs.Symbols.{sort_in, symbol_in}
 use Rattle.sb_problem.specs.Patterns.{literal_of}
 use Rattle.sb_fragment.specs.declared.fitting.Fit.{Fit}
 use Rattle.sb_fragment.specs.declared.measure.Measure.{Measure}
 use Rattle.sb_fragment.specs.Measures.{within_limit, IsMeasure, AreMeasures}
-use Rattle.sb_fragment.specs.Measured.{is_text_by, is_unjoined_by, is_regex_by, is_short_by, size_by, joined, no_measure, within, total}
+use Rattle.sb_fragment.specs.Measured.{is_text_by, has_pieces_by, is_regex_by, is_short_by, size_by, joined, no_measure, within, total}
 use Rattle.sb_fragment.specs.Measured.{applied_measure, node_measure, with_fit}
 use Rattle.sb_fragment.specs.declared.measures.Sides.{Sides}
 use Rattle.sb_fragment.specs.Shapes.{parts_of, sides_in}
 use Rattle.sb_fragment.specs.Fitting.{AreFit, IsFit, fit_with}
+use Rattle.sb_fragment.proofs.SideFacts.{joined_have, text_has}
 
 within_sum : (a b : ℕ) → within_limit (within_limit a + within_limit b) ≡ within_limit (a + b)
 within_sum a b = grind (arith, nat_tests)
@@ -49,7 +51,7 @@ both_moved false b c d = refl
 -- what is known of terms together
 pub record IsTotal (ts : List Term) (m : Measure) : Type 0 where
   pub text : m.is_text ≡ are_texts (terms_of ts)
-  pub unjoined : m.is_unjoined ≡ list_all is_unjoined ts
+  pub pieces : m.has_pieces ≡ list_all (λ t. is_some (pieces_of t)) ts
   pub constants : m.is_ground ≡ are_ground (terms_of ts)
   pub regex : m.is_regex ≡ are_regexes (terms_of ts)
   pub short : m.is_short ≡ have_short_words (terms_of ts)
@@ -60,7 +62,7 @@ pub record IsTotal (ts : List Term) (m : Measure) : Type 0 where
 total_more : (t : Term) (ts : List Term) (m n : Measure) → IsMeasure t m → IsTotal ts n → IsTotal (t ∷ ts) (joined m n)
 total_more t ts m n p q = record {
   text = ap₂ ◌&&◌ p.text q.text;
-  unjoined = ap₂ ◌&&◌ p.unjoined q.unjoined;
+  pieces = ap₂ ◌&&◌ p.pieces q.pieces;
   constants = ap₂ ◌&&◌ p.constants q.constants;
   regex = ap₂ ◌&&◌ p.regex q.regex;
   short = ap₂ ◌&&◌ p.short q.short;
@@ -72,7 +74,7 @@ total_more t ts m n p q = record {
 of_none : IsTotal [] no_measure
 of_none = record {
   text = refl;
-  unjoined = refl;
+  pieces = refl;
   constants = refl;
   regex = refl;
   short = refl;
@@ -174,47 +176,39 @@ text_applied : (s : Symbol) (ts : List Term) (texts : Bool) → texts ≡ are_te
 text_applied symbol.str_concat ts texts h = h
 text_applied _ ts texts h = refl
 
-unjoined_all : (ts : List Term) → are_unjoined (terms_of ts) ≡ list_all is_unjoined ts
-unjoined_all [] = refl
-unjoined_all (t ∷ ts) = ap (λ b. is_unjoined t && b) (unjoined_all ts)
-
-unjoined_applied : (s : Symbol) (ts : List Term) (texts unjoined : Bool) → texts ≡ are_texts (terms_of ts)
-    → unjoined ≡ list_all is_unjoined ts → is_unjoined_by s texts unjoined ≡ is_unjoined (apply s (terms_of ts))
-unjoined_applied symbol.str_concat ts texts unjoined h k = h
-unjoined_applied _ ts texts unjoined h k = k ∙ sym (unjoined_all ts)
-
--- what it says of Boolean structure, with whether constants are joined
-decided_by : (f u s w g : Bool) → u ≡ w → (w ≡ true → f ≡ (s && g)) → (f && u) ≡ ((s && w) && g)
-decided_by f u s true g e h = ap₂ ◌&&◌ (h refl) e ∙ moved s g
+pieces_applied : (s : Symbol) (ts : List Term) (texts : Bool) (size : ℕ) (pieces : Bool)
+    → texts ≡ are_texts (terms_of ts) → size ≡ within_limit (sizes_of (terms_of ts))
+    → pieces ≡ list_all (λ t. is_some (pieces_of t)) ts
+    → has_pieces_by s texts size pieces ≡ is_some (pieces_of (apply s (terms_of ts)))
+pieces_applied symbol.str_concat ts texts size pieces h k p = step texts h
   where
-    moved : (s g : Bool) → ((s && g) && true) ≡ ((s && true) && g)
-    moved true true = refl
-    moved true false = refl
-    moved false g = refl
-decided_by f u s false g e h = ap (λ b. f && b) e ∙ (and-false f ∙ sym (none s g))
-  where
-    none : (s g : Bool) → ((s && false) && g) ≡ false
-    none true g = refl
-    none false g = refl
+    step : (b : Bool) → b ≡ are_texts (terms_of ts)
+        → (if b then nat_le size 65535 else pieces) ≡ is_some (pieces_of (apply symbol.str_concat (terms_of ts)))
+    step true e =
+        ap (λ n. nat_le n 65535) k
+        ∙ (within_short (sizes_of (terms_of ts)) ∙ sym (text_has (apply symbol.str_concat (terms_of ts)) (sym e)))
+    step false e = p ∙ joined_have ts (sym e)
+pieces_applied _ ts texts size pieces h k p = refl
 
-fit_decided : (t : Term) (fit : Fit) (u : Bool) → IsFit t fit → u ≡ is_unjoined t
-    → (fit.fits && u) ≡ is_decided (asserted t)
-fit_decided t fit u h e = decided_by fit.fits u (is_structure t) (is_unjoined t) (fits t) e h.fitting
+-- a constant is a piece by its sort
+constant_has : (n : ℕ) (s : Sort) → is_same_sort text s ≡ is_some (pieces_of (constant n s))
+constant_has n boolean = refl
+constant_has n integer = refl
+constant_has n text = refl
+constant_has n reglan = refl
 
 applied_is : (s : Symbol) (ts : List Term) (n : ℕ) (all : Measure) (fit : Fit) → n ≡ length ts → IsTotal ts all
     → IsFit (apply s (terms_of ts)) fit → IsMeasure (apply s (terms_of ts)) (with_fit fit (applied_measure s n all))
-applied_is s ts n all fit e h f =
-    let unjoined = unjoined_applied s ts all.is_text all.is_unjoined h.text h.unjoined in
-    record {
-      text = text_applied s ts all.is_text h.text;
-      unjoined = unjoined;
-      constants = h.constants;
-      regex = by_parts n all.is_text all.is_regex e h.text h.regex ∙ sym (regex_applied s ts);
-      short = short_applied s ts all.is_short all.size h.short h.size;
-      size = size_applied s ts all.size h.size;
-      structure = f.structure;
-      fitting = fit_decided (apply s (terms_of ts)) fit (is_unjoined_by s all.is_text all.is_unjoined) f unjoined;
-    }
+applied_is s ts n all fit e h f = record {
+  text = text_applied s ts all.is_text h.text;
+  pieces = pieces_applied s ts all.is_text all.size all.has_pieces h.text h.size h.pieces;
+  constants = h.constants;
+  regex = by_parts n all.is_text all.is_regex e h.text h.regex ∙ sym (regex_applied s ts);
+  short = short_applied s ts all.is_short all.size h.short h.size;
+  size = size_applied s ts all.size h.size;
+  structure = f.structure;
+  fitting = f.fitting;
+}
   where
     by_parts : (k : ℕ) (b c : Bool) → k ≡ length ts → b ≡ are_texts (terms_of ts) → c ≡ are_regexes (terms_of ts)
         → is_regex_by s k b c ≡ is_regex_by s (length ts) (are_texts (terms_of ts)) (are_regexes (terms_of ts))
@@ -228,46 +222,46 @@ node_is : (ts : List Term) (d : code.Term) (all : Measure) (fit : Fit) → IsTot
     → IsFit (node_term ts d) fit → IsMeasure (node_term ts d) (with_fit fit (node_measure all d))
 node_is ts (node.Constant n s) all fit h f = record {
   text = refl;
-  unjoined = refl;
+  pieces = constant_has n.0 (sort_in s);
   constants = refl;
   regex = refl;
   short = refl;
   size = refl;
   structure = f.structure;
-  fitting = fit_decided (node_term ts (node.Constant n s)) fit true f refl;
+  fitting = f.fitting;
 }
 node_is ts (node.Word w) all fit h f = record {
   text = refl;
-  unjoined = refl;
+  pieces = sym (text_has (node_term ts (node.Word w)) refl);
   constants = refl;
   regex = refl;
   short = refl;
   size = refl;
   structure = f.structure;
-  fitting = fit_decided (node_term ts (node.Word w)) fit true f refl;
+  fitting = f.fitting;
 }
 node_is ts (node.Numeral n) all fit h f = record {
   text = refl;
-  unjoined = refl;
+  pieces = refl;
   constants = refl;
   regex = refl;
   short = refl;
   size = refl;
   structure = f.structure;
-  fitting = fit_decided (node_term ts (node.Numeral n)) fit true f refl;
+  fitting = f.fitting;
 }
 node_is ts (node.Apply s is) all fit h f =
     applied_is (symbol_in s) (terms_at ts is.items) (length is.items) all fit (length_terms_at ts is.items)
     (subst (λ us. IsTotal us all) (terms_in_of (terms_at ts is.items)) h) f
 node_is ts (node.Parameter n s) all fit h f = record {
   text = refl;
-  unjoined = refl;
+  pieces = refl;
   constants = refl;
   regex = refl;
   short = refl;
   size = refl;
   structure = f.structure;
-  fitting = fit_decided (node_term ts (node.Parameter n s)) fit true f refl;
+  fitting = f.fitting;
 }
 
 -- of the numbers of its arguments
@@ -276,22 +270,20 @@ total_of_parts : (ts : List Term) (ms : List Measure) (is : List ℕ) (us : List
 total_of_parts ts ms is us all h l same sum =
     subst (IsTotal us) (sym sum) (subst (λ vs. IsTotal vs (total ms is)) same (total_is ts ms is h l))
 
--- where no constants are joined, all are decided that are Boolean structure and within the limits
-all_decided : (ts : List Term) → list_all is_unjoined ts ≡ true
+-- all are decided that are Boolean structure and fit
+all_decided : (ts : List Term)
     → list_all (λ t. is_decided (asserted t)) ts ≡ (list_all is_structure ts && list_all fits ts)
-all_decided [] h = refl
-all_decided (t ∷ ts) h =
-    let parts = and_parts (is_unjoined t) (list_all is_unjoined ts) h in
-    ap₂ (λ a b. ((is_structure t && a) && fits t) && b) parts.0 (all_decided ts parts.1)
-    ∙ (ap (λ a. (a && fits t) && (list_all is_structure ts && list_all fits ts)) (and-true (is_structure t))
-    ∙ both_moved (is_structure t) (fits t) (list_all is_structure ts) (list_all fits ts))
+all_decided [] = refl
+all_decided (t ∷ ts) =
+    ap (λ b. (is_structure t && fits t) && b) (all_decided ts)
+    ∙ both_moved (is_structure t) (fits t) (list_all is_structure ts) (list_all fits ts)
 
 pub parts_fit : (ts : List Term) (ms : List Measure) (is : List ℕ) (us : List Term) (all : Measure) → AreMeasures ts ms
     → All (λ i. i < length ms) is → terms_at ts is ≡ us → all ≡ total ms is
     → AreFit us (fit_with all.is_structure all.fits)
 parts_fit ts ms is us all h l same sum =
     let t = total_of_parts ts ms is us all h l same sum in
-    record { structure = t.structure; fitting = λ u. t.fitting ∙ all_decided us u }
+    record { structure = t.structure; fitting = t.fitting ∙ all_decided us }
 
 pub measure_is : (ts : List Term) (ms : List Measure) (is : List ℕ) (d : code.Term) (t : Term) (all plain : Measure)
     (fit : Fit) → AreMeasures ts ms → All (λ i. i < length ms) is → terms_at ts is ≡ parts_of t → all ≡ total ms is
@@ -305,7 +297,7 @@ pub literal_is : (t : Term) (m : Measure) → IsMeasure t m
     → IsMeasure (literal_of t) (applied_measure symbol.str_to_re 1 (joined m no_measure))
 literal_is t m h =
     applied_is symbol.str_to_re (t ∷ []) 1 (joined m no_measure) (fit_with false false) refl
-    (total_more t [] m no_measure h of_none) (record { structure = refl; fitting = λ u. refl })
+    (total_more t [] m no_measure h of_none) (record { structure = refl; fitting = refl })
 
 -- One more measure.
 

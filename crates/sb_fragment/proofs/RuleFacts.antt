@@ -6,7 +6,7 @@ use Rattle.std.specs.Prelude.{Option, Some, None}
 use Rattle.std.proofs.lemmas.Bool.{and_parts, and_from, and_right, or_right}
 use Rattle.std.proofs.lemmas.List.{take_more}
 use Rattle.sb_meaning.specs.Terms.{Term}
-use Rattle.sb_script.specs.Brought.{is_structure, is_unjoined}
+use Rattle.sb_script.specs.Brought.{is_structure}
 use Rattle.sb_script.specs.Rules.{each_once, keeps, one_ground}
 use Rattle.sb_script.specs.State.{Assertion, asserted}
 use Rattle.sb_term.specs.declared.assertion.Assertion as code
@@ -69,21 +69,14 @@ pub keeps_both_by : (t : Term) (once ground_side : Bool) → once ≡ keeps each
 keeps_both_by t once ground_side e h f k =
     ap₂ (λ a b. not (not a) && not (not b)) (sym e ∙ h) (sym f ∙ k)
 
-brought_by : (t : Term) (m : Measure) (b : Bool) → IsMeasure t m → b ≡ (m.is_structure && m.is_unjoined)
-    → (is_structure t && is_unjoined t) ≡ b
-brought_by t m b h e = sym (e ∙ ap₂ ◌&&◌ h.structure h.unjoined)
+pub is_too_large : (t : Term) (m : Measure) → IsMeasure t m → m.is_structure ≡ true
+    → is_decided (asserted t) ≡ false → keeps_both t ≡ true → is_broken TooLarge (asserted t) ≡ true
+is_too_large t m h brought outside kept =
+    let inside = sym h.structure ∙ brought in
+    and_from (is_structure t && not (fits t)) (keeps_both t)
+    (and_from (is_structure t) (not (fits t)) inside (ap not (ap (λ b. b && fits t) (sym inside) ∙ outside))) kept
 
-pub is_too_large : (t : Term) (m : Measure) (b : Bool) → IsMeasure t m → b ≡ (m.is_structure && m.is_unjoined)
-    → b ≡ true → is_decided (asserted t) ≡ false → keeps_both t ≡ true → is_broken TooLarge (asserted t) ≡ true
-is_too_large t m b h e brought outside kept =
-    let inside = brought_by t m b h e ∙ brought in
-    and_from ((is_structure t && is_unjoined t) && not (fits t)) (keeps_both t)
-    (and_from (is_structure t && is_unjoined t) (not (fits t)) inside
-    (ap not (ap (λ x. x && fits t) (sym inside) ∙ outside)))
-    kept
-
-pub is_not_brought : (t : Term) (m : Measure) (b : Bool) → IsMeasure t m → b ≡ (m.is_structure && m.is_unjoined)
-    → b ≡ false → keeps_both t ≡ true → is_broken NotBrought (asserted t) ≡ true
-is_not_brought t m b h e other kept =
-    and_from (not (is_structure t && is_unjoined t)) (keeps_both t)
-    (ap not (brought_by t m b h e ∙ other)) kept
+pub is_not_brought : (t : Term) (m : Measure) → IsMeasure t m → m.is_structure ≡ false → keeps_both t ≡ true
+    → is_broken NotBrought (asserted t) ≡ true
+is_not_brought t m h other kept =
+    and_from (not (is_structure t)) (keeps_both t) (ap not (sym h.structure ∙ other)) kept

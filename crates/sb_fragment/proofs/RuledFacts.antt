@@ -418,8 +418,7 @@ meeting_end whole met (t ∷ left) none h = absurd (omega (arith, none))
 
 pub lessens_without : (ts : List Term) (i : ℕ) (before : List ℕ) → Lessens ts i before before
 lessens_without ts i before =
-    let f = fewer_without ts i before before refl in
-    record { below = f.below; lighter = f.lighter }
+    record { below = λ n l h. h; lighter = (fewer_without ts i before before refl).lighter }
 
 parts_less : (t : Term) → sizes (terms_of (parts_of t)) < size t
 parts_less (apply s terms) = omega (arith, ap sizes (of_in terms))
@@ -432,17 +431,17 @@ parts_less (word w) = omega arith
 parts_less (numeral n) = omega arith
 parts_less (parameter n sort) = omega arith
 
-pub lessens_parts : (ts : List Term) (i : ℕ) (is before after : List ℕ) → i < length ts
+pub lessens_parts : (ts : List Term) (i : ℕ) (is before after : List ℕ)
     → terms_at ts is ≡ parts_of (term_at ts i) → All (λ j. j < i) is → after ≡ before ++ is
     → Lessens ts i before after
-lessens_parts ts i is before after l same low put =
+lessens_parts ts i is before after same low put =
     let all = ap (λ js. sizes (terms_of (terms_at ts js))) put
     ∙ (ap (λ us. sizes (terms_of us)) (map-append (term_at ts) before is)
     ∙ weight-append (terms_at ts before) (terms_at ts is)) in
     let few = ap (λ us. sizes (terms_of us)) same in
     record {
-      below = λ h. ap (list_all (λ j. nat_lt j (length ts))) put
-          ∙ all_append (λ j. nat_lt j (length ts)) before is h (below_all (length ts) i is (omega (arith, l)) low);
+      below = λ n m h. ap (list_all (λ j. nat_lt j n)) put
+          ∙ all_append (λ j. nat_lt j n) before is h (below_all n i is (omega (arith, m)) low);
       lighter = omega (arith, all, few, parts_less (term_at ts i), weight_last ts before i);
     }
 

@@ -1,36 +1,32 @@
--- String terms that are compared, where no constants are joined in them.
-use Rattle.std.proofs.Common.{◌≡◌, ℕ, zero, suc, ◌<◌, ◌≤◌, Bool, true, false, ◌&&◌, nat_le, if◌then◌else◌, List, [], ◌∷◌, length, drop, get_or, slice_get, Option, Some, None, MatchOption, refl, sym, ap, ap₂, subst, ◌∙◌, arith}
-use Rattle.std.specs.Prelude.{◌||◌, is_some}
+-- String terms that are compared, or asked to be in a regular expression: their pieces and the constants in them.
+use Rattle.std.proofs.Common.{◌≡◌, ℕ, zero, suc, ◌<◌, ◌≤◌, Bool, true, false, ◌&&◌, nat_le, if◌then◌else◌, List, [], ◌∷◌, ◌++◌, length, drop, get_or, slice_get, Option, Some, None, option_map, refl, sym, ap, ap₂, ◌∙◌, arith}
+use Rattle.std.specs.Prelude.{is_some, option_and_then}
 use Rattle.std.specs.List.{list_all}
 use Rattle.std.proofs.lemmas.Bool.{false≢true}
 use Rattle.std.proofs.lemmas.Bool.Decides.{nat_tests}
 use Rattle.std.proofs.lemmas.List.{drop_all}
-use Rattle.std.proofs.lemmas.Option.{slice_get-get_or}
+use Rattle.std.proofs.lemmas.Option.{none-some, same_Some, slice_get-get_or}
 use Rattle.std.proofs.Math.Bool.{and-true, and-false}
-use Rattle.sb_meaning.specs.Terms.{text, Term, constant, word, apply}
+use Rattle.sb_facts.proofs.CallerLemmas.{after_map}
+use Rattle.sb_meaning.specs.Terms.{text, Term, Terms, constant, word, apply, no_terms, with_term, terms_of}
 use Rattle.sb_meaning.specs.Terms as symbol
-use Rattle.sb_script.specs.Brought.{is_text, is_unjoined}
+use Rattle.sb_script.specs.Brought.{is_text, are_texts}
 use Rattle.sb_script.specs.Fragment.{is_word_pair}
-use Rattle.sb_script.specs.Pieces.{single_pieces, ground_word}
-use Rattle.sb_script.specs.Sizes.{size_of, has_short_words}
-use Rattle.sb_term.specs.declared.term.Serial.{Serial}
+use Rattle.sb_script.specs.Pieces.{Piece, constant_piece, word_piece, onto_pieces, before_pieces, concatenation, if_short, are_single, pieces_of, all_pieces, single_pieces, ground_word}
+use Rattle.sb_script.specs.Rules.{constants_joined, constants_joined_in, has_each_once, stand_once}
+use Rattle.sb_script.specs.Sizes.{size_of}
 use Rattle.sb_term.specs.Numbered.{term_at, terms_at}
-use Rattle.sb_problem.specs.Normals.{is_text_constant}
-use Rattle.sb_problem.proofs.CallerLemmas.{no_ground_word, short_ground_word, long_ground_word, text_single, long_single}
+use Rattle.sb_problem.specs.Taking.{constants_in, spelled}
+use Rattle.sb_problem.proofs.CallerLemmas.{after_then, short_is, short_text, long_text, other_opens, no_ground_word, short_ground_word, long_ground_word, text_single, single_constants}
 use Rattle.sb_fragment.specs.declared.measure.Measure.{Measure}
 use Rattle.sb_fragment.specs.declared.sides.Side.{Side}
 use Rattle.sb_fragment.specs.declared.sides.Behind.{Behind}
 use Rattle.sb_fragment.specs.Compared.{each_two, facing}
-use Rattle.sb_fragment.specs.Fitting.{is_short_text, is_side, are_sides_of_one, side_in, is_nothing, behind_in, row_fits, with_side}
+use Rattle.sb_fragment.specs.Fitting.{is_short_text, is_single, side_in, is_nothing, behind_in, row_fits, with_side}
 use Rattle.sb_fragment.specs.Measures.{IsMeasure, AreMeasures}
 use Rattle.sb_fragment.proofs.ComparedPairs.{two_more}
 
--- A word within the limit, by its size.
-
-short_by_size : (t : Term) → is_text t ≡ true → has_short_words t ≡ nat_le (size_of t) 65535
-short_by_size (word w) h = refl
-short_by_size (apply symbol.str_concat terms) h = refl
-short_by_size _ h = absurd (false≢true h)
+-- Words, by their size.
 
 at_most : (n : ℕ) → nat_le n 65535 ≡ true → n ≤ 65535
 at_most n h = grind (arith, nat_tests, h)
@@ -38,49 +34,108 @@ at_most n h = grind (arith, nat_tests, h)
 more : (n : ℕ) → nat_le n 65535 ≡ false → 65535 < n
 more n h = grind (arith, nat_tests, h)
 
--- what is said of a word by whether it is within the limit
-by_size : (t : Term) (P : Bool → Type 0) → is_text t ≡ true → (size_of t ≤ 65535 → P true)
-    → (65535 < size_of t → P false) → P (has_short_words t)
-by_size t P h few many = subst P (sym (short_by_size t h)) (step (nat_le (size_of t) 65535) refl)
+-- what is said of a term by whether it is within the limit
+by_size : (t : Term) (P : Bool → Type 0) → (size_of t ≤ 65535 → P true) → (65535 < size_of t → P false)
+    → P (nat_le (size_of t) 65535)
+by_size t P few many = step (nat_le (size_of t) 65535) refl
   where
     step : (b : Bool) → nat_le (size_of t) 65535 ≡ b → P b
     step true e = few (at_most (size_of t) e)
     step false e = many (more (size_of t) e)
 
-pub ground_words : (t : Term) → is_some (ground_word t) ≡ is_short_text t
+pub text_has : (t : Term) → is_text t ≡ true → is_some (pieces_of t) ≡ nat_le (size_of t) 65535
+text_has t h =
+    by_size t (λ b. is_some (pieces_of t) ≡ b) (λ few. ap is_some (short_text t h few))
+    (λ many. ap is_some (long_text t h many))
+
+pub ground_words : (t : Term) → is_some (ground_word t) ≡ (is_text t && is_some (pieces_of t))
 ground_words t = step (is_text t) refl
   where
-    step : (b : Bool) → is_text t ≡ b → is_some (ground_word t) ≡ (b && has_short_words t)
-    step true h = by_size t (λ b. is_some (ground_word t) ≡ b) h (λ few. ap is_some (short_ground_word t h few))
+    step : (b : Bool) → is_text t ≡ b → is_some (ground_word t) ≡ (b && is_some (pieces_of t))
+    step true h =
+        by_size t (λ b. is_some (ground_word t) ≡ b) (λ few. ap is_some (short_ground_word t h few))
         (λ many. ap is_some (long_ground_word t h many))
+        ∙ sym (text_has t h)
     step false h = ap is_some (no_ground_word t h)
 
--- what is no word, and has pieces, is a constant, where no constants are joined
-other_single : (t : Term) → is_text t ≡ false → is_unjoined t ≡ true → is_some (single_pieces t) ≡ is_text_constant t
-other_single (constant serial text) h u = refl
-other_single (word w) h u = absurd (false≢true (sym h))
-other_single (apply symbol.str_concat terms) h u = absurd (false≢true (sym h ∙ u))
-other_single _ h u = refl
+-- The pieces of a concatenation.
 
-text_is_no_constant : (t : Term) → is_text t ≡ true → is_text_constant t ≡ false
-text_is_no_constant (word w) h = refl
-text_is_no_constant (apply symbol.str_concat terms) h = refl
-text_is_no_constant _ h = absurd (false≢true h)
+have_both : (o : Option (List Piece)) (r : Option (List (List Piece)))
+    → is_some (option_and_then (λ ps. option_map (λ pss. ps ∷ pss) r) o) ≡ (is_some o && is_some r)
+have_both None r = refl
+have_both (Some ps) None = refl
+have_both (Some ps) (Some pss) = refl
 
-text_side : (s : Bool) (t : Term) → is_text t ≡ true → (s || is_text_constant t) ≡ s
-text_side true t h = refl
-text_side false t h = text_is_no_constant t h
+all_have : (ts : List Term) → is_some (all_pieces (terms_of ts)) ≡ list_all (λ t. is_some (pieces_of t)) ts
+all_have [] = refl
+all_have (t ∷ ts) =
+    have_both (pieces_of t) (all_pieces (terms_of ts)) ∙ ap (λ b. is_some (pieces_of t) && b) (all_have ts)
 
-pub single_sides : (t : Term) → is_unjoined t ≡ true → is_some (single_pieces t) ≡ is_side t
-single_sides t u = step (is_text t) refl
+mapped_some : (o : Option (List (List Piece))) → is_some (option_map concatenation o) ≡ is_some o
+mapped_some None = refl
+mapped_some (Some pss) = refl
+
+pub joined_have : (ts : List Term) → are_texts (terms_of ts) ≡ false
+    → list_all (λ t. is_some (pieces_of t)) ts ≡ is_some (pieces_of (apply symbol.str_concat (terms_of ts)))
+joined_have ts h =
+    sym (all_have ts)
+    ∙ (sym (mapped_some (all_pieces (terms_of ts))) ∙ sym (ap is_some (other_opens (terms_of ts) h)))
+
+-- The constants among pieces.
+
+onto_constants : (w : List ℕ) (ps : List Piece) → constants_in (onto_pieces (word_piece w) ps) ≡ constants_in ps
+onto_constants [] ps = refl
+onto_constants (c ∷ w) [] = refl
+onto_constants (c ∷ w) (constant_piece serial ∷ ps) = refl
+onto_constants (c ∷ w) (word_piece v ∷ ps) = refl
+
+before_constants : (ps qs : List Piece) → constants_in (before_pieces ps qs) ≡ constants_in ps ++ constants_in qs
+before_constants [] qs = refl
+before_constants (constant_piece serial ∷ ps) qs = ap (λ ns. serial ∷ ns) (before_constants ps qs)
+before_constants (word_piece w ∷ ps) qs = onto_constants w (before_pieces ps qs) ∙ before_constants ps qs
+
+mutual
+  piece_constants : (t : Term) (ps : List Piece) → pieces_of t ≡ Some ps → constants_in ps ≡ constants_joined t
+  piece_constants (constant serial text) ps e = ap constants_in (sym (same_Some (constant_piece serial ∷ []) ps e))
+  piece_constants (word w) ps e = ap constants_in (sym (short_is (spelled w) ps e)) ∙ onto_constants w []
+  piece_constants (apply symbol.str_concat terms) ps e =
+      after_then (λ pss. if_short (concatenation pss)) (all_pieces terms) ps e (λ pss all short.
+      ap constants_in (sym (short_is (concatenation pss) ps short)) ∙ pieces_constants terms pss all)
+  piece_constants _ ps e = absurd (none-some ps e)
+
+  pieces_constants : (ts : Terms) (pss : List (List Piece)) → all_pieces ts ≡ Some pss
+      → constants_in (concatenation pss) ≡ constants_joined_in ts
+  pieces_constants no_terms pss e = ap (λ qss. constants_in (concatenation qss)) (sym (same_Some [] pss e))
+  pieces_constants (with_term t ts) pss e =
+      after_then (λ ps. option_map (λ qss. ps ∷ qss) (all_pieces ts)) (pieces_of t) pss e (λ ps first rest.
+      after_map (λ qss. ps ∷ qss) (all_pieces ts) pss rest (λ qss others is.
+      ap (λ xss. constants_in (concatenation xss)) (sym is)
+      ∙ (before_constants ps (concatenation qss)
+      ∙ ap₂ (λ ms ns. ms ++ ns) (piece_constants t ps first) (pieces_constants ts qss others))))
+
+by_test : (b : Bool) (ps : List Piece) → is_some (if b then Some ps else None) ≡ b
+by_test true ps = refl
+by_test false ps = refl
+
+-- pieces, in which each constant stands once at most
+pub singles : (t : Term) → is_single t ≡ (is_some (pieces_of t) && has_each_once t)
+singles t = step (pieces_of t) refl
   where
-    step : (b : Bool) → is_text t ≡ b
-        → is_some (single_pieces t) ≡ ((b && has_short_words t) || is_text_constant t)
-    step true h =
-        by_size t (λ b. is_some (single_pieces t) ≡ b) h (λ few. ap is_some (text_single t h few))
-        (λ many. ap is_some (long_single t h many))
-        ∙ sym (text_side (has_short_words t) t h)
-    step false h = other_single t h u
+    step : (o : Option (List Piece)) → pieces_of t ≡ o
+        → is_some (option_and_then (λ ps. if are_single ps then Some ps else None) o)
+        ≡ (is_some o && has_each_once t)
+    step None e = refl
+    step (Some ps) e =
+        by_test (are_single ps) ps ∙ (single_constants ps ∙ ap stand_once (piece_constants t ps e))
+
+short_is_single : (t : Term) → is_short_text t ≡ true → is_single t ≡ true
+short_is_single t h = step (is_text t) refl
+  where
+    step : (b : Bool) → is_text t ≡ b → is_single t ≡ true
+    step true k =
+        by_size t (λ b. is_single t ≡ true) (λ few. ap is_some (text_single t k few))
+        (λ many. absurd (false≢true (sym (ap is_some (long_ground_word t k many)) ∙ h)))
+    step false k = absurd (false≢true (sym (ap is_some (no_ground_word t k)) ∙ h))
 
 -- Two of them.
 
@@ -89,34 +144,34 @@ by_option : {A : Type 0} (o : Option A) (x y : Bool)
 by_option None x y = refl
 by_option (Some w) x y = refl
 
--- a and b by whether they are words within the limit, and constants
-two_ways : (s c t d : Bool)
-    → (if s then t || d else (c && t)) ≡ (if t then s || c else (s && (t || d)))
-two_ways true c true d = refl
-two_ways true c false d = refl
-two_ways false c true d = and-true c
-two_ways false c false d = and-false c
+-- two by whether they are words within the limit, and single
+two_ways : (s c r d : Bool) → (s ≡ true → c ≡ true) → (r ≡ true → d ≡ true)
+    → (if r then c else (s && d)) ≡ (if s then d else (c && r))
+two_ways true c true d one other = one refl ∙ sym (other refl)
+two_ways true c false d one other = refl
+two_ways false c true d one other = sym (and-true c)
+two_ways false c false d one other = sym (and-false c)
 
-pub sides_are_pairs : (a b : Term) → is_unjoined a ≡ true → is_unjoined b ≡ true
-    → are_sides_of_one a b ≡ is_word_pair a b
-sides_are_pairs a b u v =
-    two_ways (is_short_text a) (is_text_constant a) (is_short_text b) (is_text_constant b)
-    ∙ (ap₂ (λ x y. if x then is_side a else y) (sym (ground_words b))
-    (ap₂ ◌&&◌ (sym (ground_words a)) (sym (single_sides b v)))
-    ∙ (ap (λ x. if is_some (ground_word b) then x else (is_some (ground_word a) && is_some (single_pieces b)))
-    (sym (single_sides a u))
-    ∙ sym (by_option (ground_word b) (is_some (single_pieces a))
-    (is_some (ground_word a) && is_some (single_pieces b)))))
+pair_by : (t u : Term)
+    → is_word_pair t u ≡ (if is_short_text t then is_single u else (is_single t && is_short_text u))
+pair_by t u =
+    by_option (ground_word u) (is_single t) (is_short_text t && is_single u)
+    ∙ two_ways (is_short_text t) (is_single t) (is_short_text u) (is_single u) (short_is_single t) (short_is_single u)
 
 -- One in front of others.
 
-row_all : (t : Term) (us : List Term)
-    → list_all (are_sides_of_one t) us ≡ row_fits (side_in t) (behind_in us)
-row_all t us = step (is_short_text t) (is_text_constant t) us
+row_by : (t : Term) (us : List Term)
+    → list_all (is_word_pair t) us
+    ≡ list_all (λ u. if is_short_text t then is_single u else (is_single t && is_short_text u)) us
+row_by t [] = refl
+row_by t (u ∷ us) = ap₂ ◌&&◌ (pair_by t u) (row_by t us)
+
+row_all : (t : Term) (us : List Term) → list_all (is_word_pair t) us ≡ row_fits (side_in t) (behind_in us)
+row_all t us = row_by t us ∙ step (is_short_text t) (is_single t) us
   where
     step : (s c : Bool) (us : List Term)
-        → list_all (λ u. if s then is_side u else (c && is_short_text u)) us
-        ≡ (if s then list_all is_side us else if c then list_all is_short_text us else is_nothing us)
+        → list_all (λ u. if s then is_single u else (c && is_short_text u)) us
+        ≡ (if s then list_all is_single us else if c then list_all is_short_text us else is_nothing us)
     step true c us = refl
     step false true us = refl
     step false false [] = refl
@@ -138,7 +193,7 @@ nothing_dropped : (ts : List Term) (is : List ℕ) (k : ℕ) → k ≡ length is
 nothing_dropped ts is k e = ap (terms_at ts) (drop_all k is (omega (arith, e)))
 
 pub record AreBehind (distinct : Bool) (us : List Term) (all : Bool) (behind : Behind) : Type 0 where
-  pub fit : all ≡ each_two distinct are_sides_of_one us
+  pub fit : all ≡ each_two distinct is_word_pair us
   pub behind_is : behind ≡ behind_in (facing distinct us)
 
 pub behind_none : (distinct : Bool) (ts : List Term) (is : List ℕ) (k : ℕ) (behind : Behind) → k ≡ length is
@@ -160,33 +215,46 @@ behind_step distinct ts is k x all row now side behind next l there s r n b h =
       fit = n
           ∙ (ap₂ ◌&&◌
           (r ∙ (ap₂ row_fits s h.behind_is ∙ sym (row_all (term_at ts x) (facing distinct rest)))) h.fit
-          ∙ sym (two_more distinct are_sides_of_one (term_at ts x) rest));
+          ∙ sym (two_more distinct is_word_pair (term_at ts x) rest));
       behind_is = b ∙ (ap₂ (with_side distinct) s h.behind_is ∙ behind_more distinct (term_at ts x) rest);
     })
 
 pub behind_end : (distinct : Bool) (ts : List Term) (is : List ℕ) (k : ℕ) (all : Bool) (behind : Behind) → k ≡ 0
     → AreBehind distinct (terms_at ts (drop k is)) all behind
-    → all ≡ each_two distinct are_sides_of_one (terms_at ts is)
+    → all ≡ each_two distinct is_word_pair (terms_at ts is)
 behind_end distinct ts is k all behind e h =
-    h.fit ∙ ap (λ n. each_two distinct are_sides_of_one (terms_at ts (drop n is))) e
+    h.fit ∙ ap (λ n. each_two distinct is_word_pair (terms_at ts (drop n is))) e
 
 -- What a term is as a side, by its measure.
 
-constant_some : (t : Term) (found : Option Serial)
-    → MatchOption found (is_text_constant t ≡ false) (λ serial. t ≡ constant serial.0 text)
-    → is_some found ≡ is_text_constant t
-constant_some t None h = sym h
-constant_some t (Some serial) h = sym (ap is_text_constant h)
+pub measured_at : (ts : List Term) (ms : List Measure) (i n : ℕ) (d : Measure) → AreMeasures ts ms → n ≡ i
+    → i < length ms → IsMeasure (term_at ts i) (get_or ms n d)
+measured_at ts ms i n d h e l =
+    h.each i (get_or ms n d) (ap (slice_get ms) (sym e) ∙ slice_get-get_or ms n d (omega (arith, e, l)))
+
+-- without pieces
+pub no_single : (ts : List Term) (ms : List Measure) (i n : ℕ) (d : Measure) → AreMeasures ts ms → n ≡ i
+    → i < length ms → (get_or ms n d).has_pieces ≡ false → false ≡ is_single (term_at ts i)
+no_single ts ms i n d h e l none =
+    let t = term_at ts i in
+    sym (singles t
+    ∙ ap (λ b. b && has_each_once t) (sym (measured_at ts ms i n d h e l).pieces ∙ none))
+
+pub once_single : (ts : List Term) (ms : List Measure) (i n : ℕ) (d : Measure) (once : Bool) → AreMeasures ts ms
+    → n ≡ i → i < length ms → (get_or ms n d).has_pieces ≡ true → once ≡ has_each_once (term_at ts i)
+    → once ≡ is_single (term_at ts i)
+once_single ts ms i n d once h e l some is =
+    let t = term_at ts i in
+    is
+    ∙ sym (singles t
+    ∙ ap (λ b. b && has_each_once t) (sym (measured_at ts ms i n d h e l).pieces ∙ some))
 
 abbrev made_side : Bool → Bool → Side
-made_side s c = record { is_short = s; is_constant = c }
+made_side s c = record { is_short = s; is_single = c }
 
-pub side_measured : (ts : List Term) (ms : List Measure) (i n : ℕ) (d : Measure) (found : Option Serial) (some : Bool)
-    → AreMeasures ts ms → n ≡ i → i < length ms
-    → MatchOption found (is_text_constant (term_at ts i) ≡ false) (λ serial. term_at ts i ≡ constant serial.0 text)
-    → some ≡ is_some found
-    → made_side ((get_or ms n d).is_text && (get_or ms n d).is_short) some ≡ side_in (term_at ts i)
-side_measured ts ms i n d found some h e l constants is =
-    let measure : IsMeasure (term_at ts i) (get_or ms n d) =
-    h.each i (get_or ms n d) (ap (slice_get ms) (sym e) ∙ slice_get-get_or ms n d (omega (arith, e, l))) in
-    ap₂ made_side (ap₂ ◌&&◌ measure.text measure.short) (is ∙ constant_some (term_at ts i) found constants)
+pub side_measured : (ts : List Term) (ms : List Measure) (i n : ℕ) (d : Measure) (single : Bool) → AreMeasures ts ms
+    → n ≡ i → i < length ms → single ≡ is_single (term_at ts i)
+    → made_side ((get_or ms n d).is_text && (get_or ms n d).has_pieces) single ≡ side_in (term_at ts i)
+side_measured ts ms i n d single h e l is =
+    let measure = measured_at ts ms i n d h e l in
+    ap₂ made_side (ap₂ ◌&&◌ measure.text measure.pieces ∙ sym (ground_words (term_at ts i))) is

@@ -5,35 +5,28 @@ use Rattle.std.specs.List.{list_all, flat_map}
 use Rattle.std.proofs.lemmas.Bool.{and_parts, false≢true}
 use Rattle.std.proofs.lemmas.Option.{none-some}
 use Rattle.std.proofs.Math.Bool.{and-false}
-use Rattle.sb_facts.proofs.CallerLemmas.{after_map, then_some}
+use Rattle.sb_facts.proofs.CallerLemmas.{then_some}
 use Rattle.sb_meaning.specs.Terms.{Sort, boolean, integer, reglan, Term, Terms, text, constant, word, apply, parameter, no_terms, with_term, terms_in}
 use Rattle.sb_meaning.specs.Terms as symbol
 use Rattle.sb_meaning.specs.Sorts.{sort_of, is_same_sort}
 use Rattle.sb_meaning.specs.Truth.{is_chain, are_pairs}
-use Rattle.sb_script.specs.Brought.{is_regex, are_regexes, is_text, are_texts, is_structure, are_structure, is_unjoined, are_unjoined}
+use Rattle.sb_script.specs.Brought.{is_regex, are_regexes, is_text, is_structure, are_structure}
 use Rattle.sb_script.specs.Sums.{Variable}
 use Rattle.sb_script.specs.Fragment.{variables_in, variables_in_each, are_bounded, is_unmarked, fits, each_fits, is_word_pair, is_linear_pair, is_decided}
 use Rattle.sb_script.specs.Fragment.{are_inside, are_in_fragment}
-use Rattle.sb_script.specs.Pieces.{Piece, concatenation, word_of, if_short, are_single, pieces_of, all_pieces, single_pieces, ground_word}
+use Rattle.sb_script.specs.Pieces.{Piece, word_of, are_single, pieces_of, single_pieces, ground_word}
 use Rattle.sb_script.specs.Sizes.{is_regular}
 use Rattle.sb_script.specs.State.{Assertion, asserted, a_mark, live, terms_in as asserted_terms}
-use Rattle.sb_problem.proofs.CallerLemmas.{after_then}
 use Rattle.sb_fragment.specs.Compared.{each_two}
 use Rattle.sb_fragment.specs.Rules.{FragmentIsOfEach}
 use Rattle.sb_fragment.proofs.ComparedPairs.{two_all}
 
 -- Words and regular expressions.
 
-mutual
-  text_free : (t : Term) → is_text t ≡ true → variables_in t ≡ []
-  text_free (word w) h = refl
-  text_free (apply symbol.str_concat terms) h = texts_free terms h
-  text_free _ h = absurd (false≢true h)
-
-  texts_free : (ts : Terms) → are_texts ts ≡ true → variables_in_each ts ≡ []
-  texts_free no_terms h = refl
-  texts_free (with_term t ts) h = let parts = and_parts (is_text t) (are_texts ts) h in
-      ap₂ (λ xs ys. xs ++ ys) (text_free t parts.0) (texts_free ts parts.1)
+text_free : (t : Term) → is_text t ≡ true → variables_in t ≡ []
+text_free (word w) h = refl
+text_free (apply symbol.str_concat terms) h = refl
+text_free _ h = absurd (false≢true h)
 
 joined : (R : Term) (Rs : Terms) → (is_regex R && are_regexes Rs) ≡ true → (is_regex R ≡ true → variables_in R ≡ [])
     → (are_regexes Rs ≡ true → variables_in_each Rs ≡ []) → variables_in_each (with_term R Rs) ≡ []
@@ -67,21 +60,11 @@ mutual
 
 -- String terms that have pieces.
 
-mutual
-  piece_free : (t : Term) (ps : List Piece) → pieces_of t ≡ Some ps → variables_in t ≡ []
-  piece_free (constant serial text) ps e = refl
-  piece_free (word w) ps e = refl
-  piece_free (apply symbol.str_concat terms) ps e =
-      after_then (λ pss. if_short (concatenation pss)) (all_pieces terms) ps e (λ pss all short.
-      pieces_free terms pss all)
-  piece_free _ ps e = absurd (none-some ps e)
-
-  pieces_free : (ts : Terms) (pss : List (List Piece)) → all_pieces ts ≡ Some pss → variables_in_each ts ≡ []
-  pieces_free no_terms pss e = refl
-  pieces_free (with_term t ts) pss e =
-      after_then (λ ps. option_map (λ qss. ps ∷ qss) (all_pieces ts)) (pieces_of t) pss e (λ ps first rest.
-      after_map (λ qss. ps ∷ qss) (all_pieces ts) pss rest (λ qss others is.
-      ap₂ (λ xs ys. xs ++ ys) (piece_free t ps first) (pieces_free ts qss others)))
+piece_free : (t : Term) (ps : List Piece) → pieces_of t ≡ Some ps → variables_in t ≡ []
+piece_free (constant serial text) ps e = refl
+piece_free (word w) ps e = refl
+piece_free (apply symbol.str_concat terms) ps e = refl
+piece_free _ ps e = absurd (none-some ps e)
 
 some_free : (t : Term) → is_some (pieces_of t) ≡ true → variables_in t ≡ []
 some_free t h = step (pieces_of t) refl h
@@ -119,18 +102,17 @@ each_free (with_term t ts) h =
     ap₂ (λ xs ys. xs ++ ys) (h 0 t (omega arith)) (each_free ts (λ k d l. h (suc k) d (omega (arith, l))))
 
 -- one String term alone
-alone_free : (t : Term) → is_same_sort text (sort_of t) ≡ true → is_unjoined t ≡ true → variables_in t ≡ []
-alone_free (constant serial text) h u = refl
-alone_free (word w) h u = refl
-alone_free (apply symbol.str_concat terms) h u = texts_free terms u
-alone_free (parameter place sort) h u = refl
-alone_free _ h u = absurd (false≢true h)
+alone_free : (t : Term) → is_same_sort text (sort_of t) ≡ true → variables_in t ≡ []
+alone_free (constant serial text) h = refl
+alone_free (word w) h = refl
+alone_free (apply symbol.str_concat terms) h = refl
+alone_free (parameter place sort) h = refl
+alone_free _ h = absurd (false≢true h)
 
-words_free : (distinct : Bool) (t : Term) (ts : Terms) → sort_of t ≡ text → are_unjoined (with_term t ts) ≡ true
+words_free : (distinct : Bool) (t : Term) (ts : Terms) → sort_of t ≡ text
     → each_two distinct is_word_pair (t ∷ terms_in ts) ≡ true → variables_in_each (with_term t ts) ≡ []
-words_free distinct t no_terms sort u h =
-    ap (λ xs. xs ++ []) (alone_free t (ap (is_same_sort text) sort) (and_parts (is_unjoined t) true u).0)
-words_free distinct t (with_term v ts) sort u h =
+words_free distinct t no_terms sort h = ap (λ xs. xs ++ []) (alone_free t (ap (is_same_sort text) sort))
+words_free distinct t (with_term v ts) sort h =
     let all = two_all distinct is_word_pair (λ x. variables_in x ≡ []) t v (terms_in ts) pair_free h in
     ap₂ (λ xs ys. xs ++ ys) all.0 (ap₂ (λ xs ys. xs ++ ys) all.1.0 (each_free ts all.1.1))
 
@@ -144,42 +126,40 @@ by_sort text truths fit sums words vs h k f g = g refl k
 by_sort reglan truths fit sums words vs h k f g = absurd (false≢true h)
 
 mutual
-  of_structure : (t : Term) → is_structure t ≡ true → is_unjoined t ≡ true → fits t ≡ true → variables_in t ≡ []
-  of_structure (constant serial boolean) h u f = refl
-  of_structure (apply symbol.core_true terms) h u f = of_each terms h u f
-  of_structure (apply symbol.core_false terms) h u f = of_each terms h u f
-  of_structure (apply symbol.core_not terms) h u f = of_each terms h u f
-  of_structure (apply symbol.core_and terms) h u f = of_each terms h u f
-  of_structure (apply symbol.core_or terms) h u f = of_each terms h u f
-  of_structure (apply symbol.core_implies terms) h u f = of_each terms h u f
-  of_structure (apply symbol.core_xor terms) h u f = of_each terms h u f
-  of_structure (apply symbol.core_ite terms) h u f = of_each terms h u f
-  of_structure (apply symbol.core_equal no_terms) h u f = refl
-  of_structure (apply symbol.core_equal (with_term t ts)) h u f =
+  of_structure : (t : Term) → is_structure t ≡ true → fits t ≡ true → variables_in t ≡ []
+  of_structure (constant serial boolean) h f = refl
+  of_structure (apply symbol.core_true terms) h f = of_each terms h f
+  of_structure (apply symbol.core_false terms) h f = of_each terms h f
+  of_structure (apply symbol.core_not terms) h f = of_each terms h f
+  of_structure (apply symbol.core_and terms) h f = of_each terms h f
+  of_structure (apply symbol.core_or terms) h f = of_each terms h f
+  of_structure (apply symbol.core_implies terms) h f = of_each terms h f
+  of_structure (apply symbol.core_xor terms) h f = of_each terms h f
+  of_structure (apply symbol.core_ite terms) h f = of_each terms h f
+  of_structure (apply symbol.core_equal no_terms) h f = refl
+  of_structure (apply symbol.core_equal (with_term t ts)) h f =
       by_sort (sort_of t) (are_structure (with_term t ts)) (each_fits (with_term t ts))
       (is_chain is_linear_pair (t ∷ terms_in ts)) (is_chain is_word_pair (t ∷ terms_in ts))
-      (variables_in_each (with_term t ts)) h f (λ s g. of_each (with_term t ts) s u g)
-      (λ k w. words_free false t ts k u w)
-  of_structure (apply symbol.core_distinct no_terms) h u f = refl
-  of_structure (apply symbol.core_distinct (with_term t ts)) h u f =
+      (variables_in_each (with_term t ts)) h f (of_each (with_term t ts))
+      (words_free false t ts)
+  of_structure (apply symbol.core_distinct no_terms) h f = refl
+  of_structure (apply symbol.core_distinct (with_term t ts)) h f =
       by_sort (sort_of t) (are_structure (with_term t ts)) (each_fits (with_term t ts))
       (are_pairs is_linear_pair (t ∷ terms_in ts)) (are_pairs is_word_pair (t ∷ terms_in ts))
-      (variables_in_each (with_term t ts)) h f (λ s g. of_each (with_term t ts) s u g)
-      (λ k w. words_free true t ts k u w)
-  of_structure (apply symbol.str_in_re (with_term t (with_term R no_terms))) h u f =
+      (variables_in_each (with_term t ts)) h f (of_each (with_term t ts))
+      (words_free true t ts)
+  of_structure (apply symbol.str_in_re (with_term t (with_term R no_terms))) h f =
       let parts = and_parts (is_some (single_pieces t)) (is_regular R) f in
       ap₂ (λ xs ys. xs ++ (ys ++ [])) (single_free t parts.0) (no_variables R h)
-  of_structure _ h u f = absurd (false≢true h)
+  of_structure _ h f = absurd (false≢true h)
 
-  of_each : (ts : Terms) → are_structure ts ≡ true → are_unjoined ts ≡ true → each_fits ts ≡ true
+  of_each : (ts : Terms) → are_structure ts ≡ true → each_fits ts ≡ true
       → variables_in_each ts ≡ []
-  of_each no_terms h u f = refl
-  of_each (with_term t ts) h u f =
+  of_each no_terms h f = refl
+  of_each (with_term t ts) h f =
       let structure = and_parts (is_structure t) (are_structure ts) h in
-      let apart = and_parts (is_unjoined t) (are_unjoined ts) u in
       let within = and_parts (fits t) (each_fits ts) f in
-      ap₂ (λ xs ys. xs ++ ys) (of_structure t structure.0 apart.0 within.0)
-      (of_each ts structure.1 apart.1 within.1)
+      ap₂ (λ xs ys. xs ++ ys) (of_structure t structure.0 within.0) (of_each ts structure.1 within.1)
 
 -- All assertions.
 
@@ -187,21 +167,20 @@ no_bounds : (all : List Assertion) → are_inside all ≡ true → list_all fits
     → flat_map variables_in (asserted_terms all) ≡ []
 no_bounds [] h f = refl
 no_bounds (asserted t ∷ all) h f =
-    let parts = and_parts (is_structure t && is_unjoined t) (are_inside all) h in
-    let both = and_parts (is_structure t) (is_unjoined t) parts.0 in
+    let parts = and_parts (is_structure t) (are_inside all) h in
     let within = and_parts (fits t) (list_all fits (asserted_terms all)) f in
-    ap₂ (λ xs ys. xs ++ ys) (of_structure t both.0 both.1 within.0) (no_bounds all parts.1 within.1)
+    ap₂ (λ xs ys. xs ++ ys) (of_structure t parts.0 within.0) (no_bounds all parts.1 within.1)
 no_bounds (a_mark ∷ all) h f = absurd (false≢true h)
 
 unmarked : (all : List Assertion) → are_inside all ≡ true → list_all is_unmarked all ≡ true
 unmarked [] h = refl
-unmarked (asserted t ∷ all) h = unmarked all (and_parts (is_structure t && is_unjoined t) (are_inside all) h).1
+unmarked (asserted t ∷ all) h = unmarked all (and_parts (is_structure t) (are_inside all) h).1
 unmarked (a_mark ∷ all) h = absurd (false≢true h)
 
 fits_of_each : (all : List Assertion) → are_inside all ≡ true
     → list_all fits (asserted_terms all) ≡ list_all is_decided all
 fits_of_each [] h = refl
-fits_of_each (asserted t ∷ all) h = let parts = and_parts (is_structure t && is_unjoined t) (are_inside all) h in
+fits_of_each (asserted t ∷ all) h = let parts = and_parts (is_structure t) (are_inside all) h in
     ap (λ b. fits t && b) (fits_of_each all parts.1)
     ∙ ap (λ b. (b && fits t) && list_all is_decided all) (sym parts.0)
 fits_of_each (a_mark ∷ all) h = absurd (false≢true h)
@@ -214,7 +193,7 @@ outside false f b d h k = refl
 none_decided : (all : List Assertion) → are_inside all ≡ false → list_all is_decided all ≡ false
 none_decided [] h = absurd (false≢true (sym h))
 none_decided (asserted t ∷ all) h =
-    outside (is_structure t && is_unjoined t) (fits t) (are_inside all) (list_all is_decided all) h (none_decided all)
+    outside (is_structure t) (fits t) (are_inside all) (list_all is_decided all) h (none_decided all)
 none_decided (a_mark ∷ all) h = refl
 
 of_three : (u f b d : Bool) → u ≡ true → f ≡ d → (f ≡ true → b ≡ true) → ((u && (f && b)) && true) ≡ d

@@ -50,6 +50,17 @@ one_alone = refl
 two_words : is_fit (two symbol.core_equal (two symbol.str_concat a a) (word (codes "aa"))) ≡ true
 two_words = refl
 
+-- constants that are joined, each once
+joined_member : is_fit (two symbol.str_in_re (two symbol.str_concat x y) (apply symbol.re_all (terms_of []))) ≡ true
+joined_member = refl
+
+joined_chain : is_fit (apply symbol.core_equal (terms_of (two symbol.str_concat x y ∷ a ∷ two symbol.str_concat a y
+    ∷ []))) ≡ true
+joined_chain = refl
+
+joined_twice : is_fit (two symbol.core_equal (two symbol.str_concat x x) a) ≡ false
+joined_twice = refl
+
 -- two constants are Boolean structure, and do not fit
 two_constants : is_fit (two symbol.core_or p (two symbol.core_equal x y)) ≡ false
 two_constants = refl

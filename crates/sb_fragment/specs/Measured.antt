@@ -1,11 +1,12 @@
 -- Private: the measure of a term from those of its arguments. All but what it says of Boolean structure are made from
 -- them alone; what it says of that comes by the term's shape.
-use Rattle.std.specs.Prelude.{ℕ, ◌+◌, Bool, true, false, not, ◌&&◌, ◌==◌, nat_le, List, [], ◌∷◌, length, get_or}
-use Rattle.sb_meaning.specs.Terms.{Symbol}
+use Rattle.std.specs.Prelude.{ℕ, ◌+◌, Bool, true, false, not, ◌&&◌, ◌==◌, nat_le, if◌then◌else◌, List, [], ◌∷◌, length, get_or}
+use Rattle.sb_meaning.specs.Terms.{Symbol, text}
 use Rattle.sb_meaning.specs.Terms as symbol
+use Rattle.sb_meaning.specs.Sorts.{is_same_sort}
 use Rattle.sb_term.specs.declared.term.Term as code
 use Rattle.sb_term.specs.declared.term.Term.TheVariants as node
-use Rattle.sb_term.specs.Symbols.{symbol_in}
+use Rattle.sb_term.specs.Symbols.{sort_in, symbol_in}
 use Rattle.sb_fragment.specs.declared.measure.Measure.{Measure}
 use Rattle.sb_fragment.specs.declared.fitting.Fit.{Fit}
 use Rattle.sb_fragment.specs.Measures.{within_limit}
@@ -14,9 +15,10 @@ abbrev pub is_text_by : Symbol → Bool → Bool
 is_text_by symbol.str_concat texts = texts
 is_text_by _ texts = false
 
-abbrev pub is_unjoined_by : Symbol → Bool → Bool → Bool
-is_unjoined_by symbol.str_concat texts unjoined = texts
-is_unjoined_by _ texts unjoined = unjoined
+-- a concatenation has pieces where each of its parts has, and where it is a word, by its size
+abbrev pub has_pieces_by : Symbol → Bool → ℕ → Bool → Bool
+has_pieces_by symbol.str_concat texts size pieces = if texts then nat_le size 65535 else pieces
+has_pieces_by _ texts size pieces = false
 
 abbrev pub is_regex_by : Symbol → ℕ → Bool → Bool → Bool
 is_regex_by symbol.str_to_re n texts regexes = (n == 1) && texts
@@ -47,7 +49,7 @@ size_by _ size = within_limit (1 + size)
 abbrev pub joined : Measure → Measure → Measure
 joined a b = record {
   is_text = a.is_text && b.is_text;
-  is_unjoined = a.is_unjoined && b.is_unjoined;
+  has_pieces = a.has_pieces && b.has_pieces;
   is_ground = a.is_ground && b.is_ground;
   is_regex = a.is_regex && b.is_regex;
   is_short = a.is_short && b.is_short;
@@ -60,7 +62,7 @@ joined a b = record {
 abbrev pub no_measure : Measure
 no_measure = record {
   is_text = true;
-  is_unjoined = true;
+  has_pieces = true;
   is_ground = true;
   is_regex = true;
   is_short = true;
@@ -77,7 +79,7 @@ total ms (i ∷ is) = joined (get_or ms i no_measure) (total ms is)
 abbrev pub applied_measure : Symbol → ℕ → Measure → Measure
 applied_measure s n all = record {
   is_text = is_text_by s all.is_text;
-  is_unjoined = is_unjoined_by s all.is_text all.is_unjoined;
+  has_pieces = has_pieces_by s all.is_text all.size all.has_pieces;
   is_ground = all.is_ground;
   is_regex = is_regex_by s n all.is_text all.is_regex;
   is_short = is_short_by s all.is_short all.size;
@@ -90,7 +92,7 @@ applied_measure s n all = record {
 abbrev pub node_measure : Measure → code.Term → Measure
 node_measure all (node.Constant serial sort) = record {
   is_text = false;
-  is_unjoined = true;
+  has_pieces = is_same_sort text (sort_in sort);
   is_ground = false;
   is_regex = false;
   is_short = true;
@@ -100,7 +102,7 @@ node_measure all (node.Constant serial sort) = record {
 }
 node_measure all (node.Word codes) = record {
   is_text = true;
-  is_unjoined = true;
+  has_pieces = nat_le (length codes.items) 65535;
   is_ground = true;
   is_regex = false;
   is_short = nat_le (length codes.items) 65535;
@@ -110,7 +112,7 @@ node_measure all (node.Word codes) = record {
 }
 node_measure all (node.Numeral n) = record {
   is_text = false;
-  is_unjoined = true;
+  has_pieces = false;
   is_ground = true;
   is_regex = false;
   is_short = true;
@@ -121,7 +123,7 @@ node_measure all (node.Numeral n) = record {
 node_measure all (node.Apply s arguments) = applied_measure (symbol_in s) (length arguments.items) all
 node_measure all (node.Parameter place sort) = record {
   is_text = false;
-  is_unjoined = true;
+  has_pieces = false;
   is_ground = false;
   is_regex = false;
   is_short = true;
@@ -132,7 +134,7 @@ node_measure all (node.Parameter place sort) = record {
 
 -- with what it says of Boolean structure
 abbrev pub with_fit : Fit → Measure → Measure
-with_fit fit m = record m { is_structure = fit.is_structure; fits = fit.fits && m.is_unjoined }
+with_fit fit m = record m { is_structure = fit.is_structure; fits = fit.fits }
 
 -- no constants, and sizes within the limits
 abbrev pub within : Measure → Bool

@@ -86,7 +86,7 @@ abbrev pub MeetsMore : Bool → Term → List ℕ → List Term → Type 0
 MeetsMore true whole met left = Meeting whole met left
 MeetsMore false whole met left = has_each_once whole ≡ false
 
--- what is left are numbers of the table, and fewer terms are in it
+-- what is left stays below what the next one is below, and fewer terms are in it
 pub record Lessens (ts : List Term) (next : ℕ) (before after : List ℕ) : Type 0 where
-  pub below : list_all (λ i. nat_lt i (length ts)) before ≡ true → list_all (λ i. nat_lt i (length ts)) after ≡ true
+  pub below : (n : ℕ) → next < n → list_all (λ i. nat_lt i n) before ≡ true → list_all (λ i. nat_lt i n) after ≡ true
   pub lighter : sizes (terms_of (terms_at ts after)) < sizes (terms_of (terms_at ts (before ++ next ∷ [])))

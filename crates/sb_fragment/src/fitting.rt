@@ -1,7 +1,7 @@
 //! Which terms are Boolean structure, and which of them are within the limits on sizes, by what is known of their
 //! arguments.
 
-ghost use Rattle.std.specs.Prelude.{◌≡◌, ◌<◌, ◌≤◌, true, List, length};
+ghost use Rattle.std.specs.Prelude.{◌≡◌, ◌<◌, ◌≤◌, true, List, length, IfOk};
 ghost use Rattle.sb_meaning.specs.Terms.{Term};
 ghost use Rattle.sb_term.specs.Numbered.{term_at};
 ghost use Rattle.sb_problem.specs.Patterns.{number_of, pattern_in};
@@ -14,20 +14,21 @@ ghost use Rattle.sb_fragment.specs.Fitting.{AreFit, IsFit, fit_by, regex_fit};
 use crate::measure::{Measure, is_within, literal_of};
 use crate::memberships::{membership, term_and_regex};
 use crate::shape::{Shape, arguments_of, shape_of};
-use crate::sides::{fit_words, side_of};
+use crate::sides::{fit_words, is_single};
 use sb_problem::Pattern;
 use sb_term::{Table, TermId};
+use std::alloc::{AllocError, Global};
 
 /// What a term, or each of some terms, is as Boolean structure.
 #[derive(Clone, Copy)]
 pub(crate) struct Fit {
     /// It is Boolean structure, whatever the sizes are.
     pub(crate) is_structure: bool,
-    /// It is Boolean structure within the limits on sizes, where no constants are joined in it.
+    /// It is Boolean structure that keeps the rules of memberships and of equalities.
     pub(crate) fits: bool,
 }
 
-/// It is, within the limits.
+/// It is, by all rules.
 const INSIDE: Fit = Fit {
     is_structure: true,
     fits: true,
@@ -61,46 +62,61 @@ fn fit_pattern(measures: &[Measure], pattern: Pattern) -> Fit
 }
 
 /// What the membership of a String term in a regular expression is.
-fn fit_member(table: &Table, measures: &[Measure], id: TermId) -> Fit
+fn fit_member(
+    alloc: Global,
+    table: &Table,
+    measures: &[Measure],
+    id: TermId,
+) -> Result<Fit, AllocError>
     requires number { id < length table.now }
     requires reached { id ≤ length measures.now }
     requires right { AreMeasures table.now measures.now }
     requires member { is_in_re (term_at table.now id) ≡ true }
-    ensures { IsFit (term_at table.now id) result }
+    ensures { IfOk result (λ fit. IsFit (term_at table.now id) fit) }
 {
     let Some(pair) = term_and_regex(table, id) else {
-        return OUTSIDE;
+        return Ok(OUTSIDE);
     };
-    let side = side_of(table, measures, pair.0);
+    let single = is_single(alloc, table, measures, pair.0)?;
     let fit = fit_regex(measures[pair.1.number()]);
-    Fit {
+    Ok(Fit {
         is_structure: fit.is_structure,
-        fits: fit.fits & (side.is_short | side.is_constant),
-    }
+        fits: fit.fits & single,
+    })
 }
 
 /// What a term is, where the measures of the terms before it are there, and each of its arguments is `parts`. Linear in
-/// the number of its arguments; takes no memory.
-pub(crate) fn fit_of(table: &Table, measures: &[Measure], id: TermId, parts: Fit) -> Fit
+/// the number of its arguments, but that String terms which are compared, or asked to be in a regular expression, are
+/// gone over, up to the first constant that stands twice. `AllocError` only for want of memory.
+pub(crate) fn fit_of(
+    alloc: Global,
+    table: &Table,
+    measures: &[Measure],
+    id: TermId,
+    parts: Fit,
+) -> Result<Fit, AllocError>
     requires number { id < length table.now }
     requires reached { id ≤ length measures.now }
     requires right { AreMeasures table.now measures.now }
     requires each { AreFit (parts_of (term_at table.now id)) parts }
-    ensures { IsFit (term_at table.now id) result }
+    ensures { IfOk result (λ fit. IsFit (term_at table.now id) fit) }
 {
     if let Some((_, pattern)) = membership(table, id) {
-        return fit_pattern(measures, pattern);
+        return Ok(fit_pattern(measures, pattern));
     }
     match shape_of(table, id) {
-        Shape::Constant(_) => INSIDE,
-        Shape::Always(_) => parts,
-        Shape::Alone => parts,
-        Shape::Connected(_) => parts,
-        Shape::Member => fit_member(table, measures, id),
-        Shape::Words(distinct) => Fit {
-            is_structure: true,
-            fits: fit_words(table, measures, distinct, arguments_of(table, id)),
-        },
-        Shape::Other => OUTSIDE,
+        Shape::Constant(_) => Ok(INSIDE),
+        Shape::Always(_) => Ok(parts),
+        Shape::Alone => Ok(parts),
+        Shape::Connected(_) => Ok(parts),
+        Shape::Member => fit_member(alloc, table, measures, id),
+        Shape::Words(distinct) => {
+            let fits = fit_words(alloc, table, measures, distinct, arguments_of(table, id))?;
+            Ok(Fit {
+                is_structure: true,
+                fits,
+            })
+        }
+        Shape::Other => Ok(OUTSIDE),
     }
 }

@@ -1,21 +1,23 @@
 //! What is known of a term by its arguments.
 
 ghost use Rattle.std.specs.Prelude.{◌≡◌, ◌<◌, ◌+◌, ◌&&◌, length, All};
-ghost use Rattle.sb_meaning.specs.Terms.{str_to_re};
-ghost use Rattle.sb_term.specs.Symbols.{symbol_in};
+ghost use Rattle.sb_meaning.specs.Terms.{str_to_re, text};
+ghost use Rattle.sb_meaning.specs.Sorts.{is_same_sort};
+ghost use Rattle.sb_term.specs.Symbols.{sort_in, symbol_in};
 ghost use Rattle.sb_fragment.specs.Measures.{within_limit};
-ghost use Rattle.sb_fragment.specs.Measured.{is_text_by, is_unjoined_by, is_regex_by, is_short_by, size_by, joined, no_measure, total, within, node_measure};
+ghost use Rattle.sb_fragment.specs.Measured.{is_text_by, has_pieces_by, is_regex_by, is_short_by, size_by, joined, no_measure, total, within, node_measure};
 ghost use Rattle.sb_fragment.specs.Measured.{applied_measure};
 
-use sb_term::{Symbol, Term, TermId};
+use sb_term::{Sort, Symbol, Term, TermId};
 
 /// What the rules of the fragment ask of a term.
 #[derive(Clone, Copy, PartialEq, Eq)]
 pub struct Measure {
     /// The term is a word: a literal, or a concatenation of such.
     pub is_text: bool,
-    /// No constants are joined in the term: each concatenation in it is a word.
-    pub is_unjoined: bool,
+    /// The term is made of String constants and of words, each of which, and the whole where it is a word, has at most
+    /// 65,535 characters.
+    pub has_pieces: bool,
     /// No constant stands in the term.
     pub is_ground: bool,
     /// The term is a regular expression over words: made by every symbol of that sort, with words as strings.
@@ -27,7 +29,7 @@ pub struct Measure {
     /// The term is Boolean structure, whatever the sizes are: made of Bool constants, of memberships in regular
     /// expressions over words, and of comparisons of String terms.
     pub is_structure: bool,
-    /// The term is Boolean structure in which no constants are joined, within the limits on sizes.
+    /// The term is Boolean structure that keeps all rules of memberships and of equalities, within the limits on sizes.
     pub fits: bool,
 }
 
@@ -37,7 +39,7 @@ const SIZE_LIMIT: u32 = 1_000_000;
 /// What is known of no terms together.
 const NOTHING: Measure = Measure {
     is_text: true,
-    is_unjoined: true,
+    has_pieces: true,
     is_ground: true,
     is_regex: true,
     is_short: true,
@@ -75,7 +77,7 @@ fn join(first: Measure, rest: Measure) -> Measure
 {
     Measure {
         is_text: first.is_text && rest.is_text,
-        is_unjoined: first.is_unjoined && rest.is_unjoined,
+        has_pieces: first.has_pieces && rest.has_pieces,
         is_ground: first.is_ground && rest.is_ground,
         is_regex: first.is_regex && rest.is_regex,
         is_short: first.is_short && rest.is_short,
@@ -109,14 +111,21 @@ fn makes_text(symbol: Symbol, texts: bool) -> bool
     }
 }
 
-/// Whether no constants are joined, where they are words, and none are joined in them, or it is otherwise.
-fn is_unjoined_with(symbol: Symbol, texts: bool, unjoined: bool) -> bool
-    ensures { result ≡ is_unjoined_by (symbol_in symbol) texts unjoined }
+/// Whether a symbol makes a term of pieces of arguments that are words, or are not, have this size, and are of pieces.
+fn pieces_with(symbol: Symbol, texts: bool, size: u32, pieces: bool) -> bool
+    ensures { result ≡ has_pieces_by (symbol_in symbol) texts size pieces }
 {
     match symbol {
-        Symbol::StrConcat => texts,
-        _ => unjoined,
+        Symbol::StrConcat => { if texts { size <= 65_535 } else { pieces } }
+        _ => false,
     }
+}
+
+/// Whether constants of a sort are pieces.
+fn is_string(sort: Sort) -> bool
+    ensures { result ≡ is_same_sort text (sort_in sort) }
+{
+    matches!(sort, Sort::String)
 }
 
 /// Whether a symbol makes a regular expression over words of so many arguments.
@@ -162,7 +171,7 @@ fn applied(symbol: Symbol, count: usize, all: Measure) -> Measure
 {
     Measure {
         is_text: makes_text(symbol, all.is_text),
-        is_unjoined: is_unjoined_with(symbol, all.is_text, all.is_unjoined),
+        has_pieces: pieces_with(symbol, all.is_text, all.size, all.has_pieces),
         is_ground: all.is_ground,
         is_regex: makes_regex(symbol, count, all.is_text, all.is_regex),
         is_short: short_with(symbol, all.is_short, all.size),
@@ -184,9 +193,19 @@ pub(crate) fn plain_of(node: &Term, all: Measure) -> Measure
     ensures { result ≡ node_measure all node.now }
 {
     match node {
-        Term::Constant(..) | Term::Parameter(..) => Measure {
+        Term::Constant(_, sort) => Measure {
             is_text: false,
-            is_unjoined: true,
+            has_pieces: is_string(*sort),
+            is_ground: false,
+            is_regex: false,
+            is_short: true,
+            size: 0,
+            is_structure: false,
+            fits: false,
+        },
+        Term::Parameter(..) => Measure {
+            is_text: false,
+            has_pieces: false,
             is_ground: false,
             is_regex: false,
             is_short: true,
@@ -196,7 +215,7 @@ pub(crate) fn plain_of(node: &Term, all: Measure) -> Measure
         },
         Term::Word(codes) => Measure {
             is_text: true,
-            is_unjoined: true,
+            has_pieces: codes.len() <= 65_535,
             is_ground: true,
             is_regex: false,
             is_short: codes.len() <= 65_535,
@@ -206,7 +225,7 @@ pub(crate) fn plain_of(node: &Term, all: Measure) -> Measure
         },
         Term::Numeral(_) => Measure {
             is_text: false,
-            is_unjoined: true,
+            has_pieces: false,
             is_ground: true,
             is_regex: false,
             is_short: true,

@@ -2,6 +2,7 @@
 
 ghost use Rattle.std.specs.Prelude.{◌≡◌, ◌<◌, ◌≤◌, length, [], IfOk};
 ghost use Rattle.sb_script.specs.Brought.{is_structure};
+ghost use Rattle.sb_script.specs.Rules.{has_each_once};
 ghost use Rattle.sb_script.specs.Sizes.{is_regular};
 ghost use Rattle.sb_script.specs.State.{asserted};
 ghost use Rattle.sb_term.specs.Numbered.{term_at};
@@ -12,6 +13,7 @@ ghost use Rattle.sb_script.specs.Fragment.{is_decided};
 
 use crate::fitting::{Fit, fit_of};
 use crate::measure::{Measure, is_within, literal_of, plain_of, total_of};
+use crate::repeated::has_each_once;
 use crate::shape::arguments_of;
 use sb_problem::Pattern;
 use sb_term::{Table, TermId};
@@ -43,24 +45,29 @@ pub struct Sides {
 }
 
 /// What is known of a term, where the measures of the terms before it are there.
-fn measure_of(table: &Table, measures: &[Measure], id: TermId) -> Measure
+fn measure_of(
+    alloc: Global,
+    table: &Table,
+    measures: &[Measure],
+    id: TermId,
+) -> Result<Measure, AllocError>
     requires number { id < length table.now }
     requires reached { id ≤ length measures.now }
     requires right { AreMeasures table.now measures.now }
-    ensures { IsMeasure (term_at table.now id) result }
+    ensures { IfOk result (λ measure. IsMeasure (term_at table.now id) measure) }
 {
     let all = total_of(measures, arguments_of(table, id));
     let parts = Fit {
         is_structure: all.is_structure,
         fits: all.fits,
     };
-    let fit = fit_of(table, measures, id, parts);
+    let fit = fit_of(alloc, table, measures, id, parts)?;
     let plain = plain_of(table.term(id), all);
-    Measure {
+    Ok(Measure {
         is_structure: fit.is_structure,
-        fits: fit.fits & plain.is_unjoined,
+        fits: fit.fits,
         ..plain
-    }
+    })
 }
 
 /// Measures the terms up to a number.
@@ -70,9 +77,10 @@ fn extend(measures: &mut Vec<Measure>, table: &Table, id: TermId) -> Result<(), 
     ensures right { AreMeasures table.now measures.new.items }
     ensures reached { IfOk result (λ _. id < length measures.new.items) }
 {
+    let alloc = *measures.allocator();
     while measures.len() <= id.number() {
         let next = TermId::new(measures.len())?;
-        let measure = measure_of(table, measures, next);
+        let measure = measure_of(alloc, table, measures, next)?;
         measures.push(measure)?;
     }
     Ok(())
@@ -89,7 +97,8 @@ impl Measures {
     }
 
     /// The measure of a term. Constant time where it, or a term with a larger number, was asked for; else linear in the
-    /// terms since the largest one that was, and their arguments. `AllocError` only for want of memory.
+    /// terms since the largest one that was, and their arguments, but that String terms which are compared there, or
+    /// asked to be in a regular expression, are gone over. `AllocError` only for want of memory.
     pub fn measure(&mut self, table: &Table, id: TermId) -> Result<Measure, AllocError>
         requires number { id < length table.now }
         requires right { AreMeasures table.now self.old }
@@ -141,8 +150,8 @@ impl Measures {
     }
 
     /// Whether a term is decided as an assertion: whether it is Boolean structure over memberships, over comparisons of
-    /// String terms, and over Bool constants, in which no constants are joined, within the limits on sizes. Its cost
-    /// and its error are those of [`Measures::measure`].
+    /// String terms, and over Bool constants, that keeps the rules of these, within the limits on sizes. Its cost and
+    /// its error are those of [`Measures::measure`].
     pub fn fits_structure(&mut self, table: &Table, id: TermId) -> Result<bool, AllocError>
         requires number { id < length table.now }
         requires right { AreMeasures table.now self.old }
@@ -150,6 +159,19 @@ impl Measures {
         ensures right { AreMeasures table.now self.new }
     {
         Ok(self.measure(table, id)?.fits)
+    }
+
+    /// Whether each constant stands once at most in a String term. Goes over the term, up to the first constant that
+    /// stands twice, once it is measured; its error is that of [`Measures::measure`].
+    pub(crate) fn has_each_once(&mut self, table: &Table, id: TermId) -> Result<bool, AllocError>
+        requires number { id < length table.now }
+        requires right { AreMeasures table.now self.old }
+        ensures ok { IfOk result (λ once. once ≡ has_each_once (term_at table.now id)) }
+        ensures right { AreMeasures table.now self.new }
+    {
+        extend(&mut self.measures, table, id)?;
+        let once = has_each_once(self.allocator(), table, &self.measures, id)?;
+        Ok(once)
     }
 
     /// Which side of an equality of two String terms is to be a word: the second one where it is one, else the first.

@@ -12,7 +12,6 @@ ghost use Rattle.sb_fragment.specs.Measures.{AreMeasures};
 ghost use Rattle.sb_fragment.specs.Ruled.{kept_here, place_compared, place_in, row_keeps, rule_in, ruled_parts, side_keeps};
 
 use crate::measures::Measures;
-use crate::repeated::has_each_once;
 use crate::shape::arguments_of;
 use sb_term::{Sort, Symbol, Table, Term, TermId, put_all};
 use std::alloc::{AllocError, Global};
@@ -111,7 +110,7 @@ fn side_keeps(
     ensures right { AreMeasures table.now measures.new }
 {
     match law {
-        Law::EachOnce => has_each_once(measures, table, id),
+        Law::EachOnce => measures.has_each_once(table, id),
         Law::OneGround => {
             let measure = measures.measure(table, id)?;
             Ok(measure.is_ground)
@@ -143,7 +142,7 @@ fn member_once(
     let [term, ..] = arguments else {
         return Ok(true);
     };
-    let once = has_each_once(measures, table, *term)?;
+    let once = measures.has_each_once(table, *term)?;
     Ok(once)
 }
 

@@ -22,8 +22,7 @@ pub enum Reason {
     /// A constant stands in the regular expression of a membership, or on both sides of an equality of String terms.
     NotGround,
     /// The assertion is of another form than those that are decided so far: Boolean structure over memberships in
-    /// regular expressions over words, comparisons of String terms, and Bool constants, in which no constants are
-    /// joined.
+    /// regular expressions over words, comparisons of String terms, and Bool constants.
     NotBrought,
     /// The assertion is of that form, but a word or a regular expression in it is past the limits on sizes.
     TooLarge,
@@ -58,8 +57,7 @@ fn rule_of(measures: &mut Measures, table: &Table, id: TermId) -> Result<Reason,
         return Ok(Reason::NotGround);
     }
     let measure = measures.measure(table, id)?;
-    let brought = measure.is_structure & measure.is_unjoined;
-    if brought {
+    if measure.is_structure {
         Ok(Reason::TooLarge)
     } else {
         Ok(Reason::NotBrought)

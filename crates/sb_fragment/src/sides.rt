@@ -1,28 +1,30 @@
-//! String terms that are compared, where no constants are joined in them.
+//! String terms that are compared, or asked to be in a regular expression, as the rules of the fragment see them.
 
-ghost use Rattle.std.specs.Prelude.{◌≡◌, ◌<◌, length, All};
+ghost use Rattle.std.specs.Prelude.{◌≡◌, ◌<◌, length, All, IfOk};
+ghost use Rattle.sb_script.specs.Fragment.{is_word_pair};
 ghost use Rattle.sb_term.specs.Numbered.{term_at, terms_at};
 ghost use Rattle.sb_fragment.specs.Compared.{each_two};
 ghost use Rattle.sb_fragment.specs.Measures.{AreMeasures};
-ghost use Rattle.sb_fragment.specs.Fitting.{are_sides_of_one, row_fits, side_in, with_side};
+ghost use Rattle.sb_fragment.specs.Fitting.{is_single, row_fits, side_in, with_side};
 
 use crate::measure::Measure;
-use sb_problem::constant_of;
+use crate::repeated::has_each_once;
 use sb_term::{Table, TermId};
+use std::alloc::{AllocError, Global};
 
 /// What a String term is as a side of an equality.
 #[derive(Clone, Copy)]
 pub(crate) struct Side {
     /// It is a word within the limit on sizes.
     pub(crate) is_short: bool,
-    /// It is a String constant.
-    pub(crate) is_constant: bool,
+    /// It is made of words within the limit and of constants, each of which stands once.
+    pub(crate) is_single: bool,
 }
 
 /// What the terms are with which one in front of them is compared.
 #[derive(Clone, Copy)]
 pub(crate) struct Behind {
-    /// Each of them is a word within the limit, or a String constant.
+    /// Each of them is made of words within the limit and of constants, each of which stands once in it.
     pub(crate) sides: bool,
     /// Each of them is a word within the limit.
     pub(crate) shorts: bool,
@@ -30,17 +32,43 @@ pub(crate) struct Behind {
     pub(crate) none: bool,
 }
 
-/// What a term is as a side of an equality.
-pub(crate) fn side_of(table: &Table, measures: &[Measure], id: TermId) -> Side
+/// Whether a term is made of words within the limit and of constants, each of which stands once. Goes over the term,
+/// where it is made of such at all, up to the first constant that stands twice.
+pub(crate) fn is_single(
+    alloc: Global,
+    table: &Table,
+    measures: &[Measure],
+    id: TermId,
+) -> Result<bool, AllocError>
     requires number { id < length measures.now }
     requires right { AreMeasures table.now measures.now }
-    ensures { result ≡ side_in (term_at table.now id) }
+    ensures { IfOk result (λ single. single ≡ is_single (term_at table.now id)) }
 {
-    let measure = measures[id.number()];
-    Side {
-        is_short: measure.is_text & measure.is_short,
-        is_constant: constant_of(table, id).is_some(),
+    let has_pieces = measures[id.number()].has_pieces;
+    if !has_pieces {
+        return Ok(false);
     }
+    let once = has_each_once(alloc, table, measures, id)?;
+    Ok(once)
+}
+
+/// What a term is as a side of an equality.
+fn side_of(
+    alloc: Global,
+    table: &Table,
+    measures: &[Measure],
+    id: TermId,
+) -> Result<Side, AllocError>
+    requires number { id < length measures.now }
+    requires right { AreMeasures table.now measures.now }
+    ensures { IfOk result (λ side. side ≡ side_in (term_at table.now id)) }
+{
+    let single = is_single(alloc, table, measures, id)?;
+    let measure = measures[id.number()];
+    Ok(Side {
+        is_short: measure.is_text & measure.has_pieces,
+        is_single: single,
+    })
 }
 
 /// Whether a side fits with each of those behind it.
@@ -49,7 +77,7 @@ fn fits_row(side: Side, behind: Behind) -> bool
 {
     if side.is_short {
         behind.sides
-    } else if side.is_constant {
+    } else if side.is_single {
         behind.shorts
     } else {
         behind.none
@@ -61,23 +89,25 @@ fn with_side(distinct: bool, side: Side, behind: Behind) -> Behind
     ensures { result ≡ with_side distinct side behind }
 {
     Behind {
-        sides: (side.is_short || side.is_constant) && (!distinct || behind.sides),
+        sides: side.is_single && (!distinct || behind.sides),
         shorts: side.is_short && (!distinct || behind.shorts),
         none: false,
     }
 }
 
 /// Whether String terms fit that are compared: each two where they are to be distinct, else each two neighbours. Of
-/// those that are compared one is a word within the limit, and the other one too, or a constant. Linear.
+/// those that are compared one is a word within the limit, and in the other one each constant stands once. Each is gone
+/// over once.
 pub(crate) fn fit_words(
+    alloc: Global,
     table: &Table,
     measures: &[Measure],
     distinct: bool,
     arguments: &[TermId],
-) -> bool
+) -> Result<bool, AllocError>
     requires numbers { All (λ i. i < length measures.now) arguments.now }
     requires right { AreMeasures table.now measures.now }
-    ensures { result ≡ each_two distinct are_sides_of_one (terms_at table.now arguments.now) }
+    ensures { IfOk result (λ fit. fit ≡ each_two distinct is_word_pair (terms_at table.now arguments.now)) }
 {
     let mut left = arguments.len();
     let mut all = true;
@@ -88,10 +118,10 @@ pub(crate) fn fit_words(
     };
     while left > 0 {
         left -= 1;
-        let side = side_of(table, measures, arguments[left]);
+        let side = side_of(alloc, table, measures, arguments[left])?;
         let fits = fits_row(side, behind);
         all = fits & all;
         behind = with_side(distinct, side, behind);
     }
-    all
+    Ok(all)
 }

@@ -323,7 +323,7 @@ any_constant n [] = refl
 any_constant n (constant_piece serial ∷ ps) = ap (λ b. (n == serial) || b) (any_constant n ps)
 any_constant n (word_piece w ∷ ps) = any_constant n ps
 
-single_constants : (ps : List Piece) → are_single ps ≡ stand_once (constants_in ps)
+pub single_constants : (ps : List Piece) → are_single ps ≡ stand_once (constants_in ps)
 single_constants [] = refl
 single_constants (constant_piece serial ∷ ps) =
     ap₂ (λ a b. not a && b) (any_constant serial ps) (single_constants ps)

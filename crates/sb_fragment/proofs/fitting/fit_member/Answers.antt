@@ -1,7 +1,5 @@
-use Rattle.std.proofs.Common.{false, ◌&&◌, ap, ◌∙◌, arith}
-use Rattle.std.specs.Prelude.{◌||◌}
+use Rattle.std.proofs.Common.{false, refl, ◌∙◌, arith}
 use Rattle.sb_term.specs.Numbered.{term_at}
-use Rattle.sb_fragment.specs.declared.sides.Side.{Side}
 use Rattle.sb_fragment.specs.Fitting.{fit_with}
 use Rattle.sb_fragment.proofs.FittingFacts.{member_fit, no_member, number_fit}
 use Rattle.sb_fragment.proofs.fitting.fit_member.Goals as goal
@@ -10,8 +8,8 @@ pub returns-in_default : goal.returns-in_default
 returns-in_default c =
     no_member (term_at c.args.table.now c.args.id) (fit_with false false) c.in_default.ensures.parts c.requires.member
 
-pub side_of-side-requires : goal.side_of-side-requires
-side_of-side-requires c = record {
+pub is_single-requires : goal.is_single-requires
+is_single-requires c = record {
   number = omega (arith, c.in-Some.ensures.smaller.0, c.requires.reached);
   right = c.requires.right;
 }
@@ -23,5 +21,5 @@ returns c =
     let regex = c.fit_regex-fit.ensures
     ∙ number_fit ts c.args.measures.now c.in-Some.pair.1 c.number.result _ c.requires.right c.number.ensures
     (omega (arith, c.in-Some.ensures.smaller.1, c.requires.reached)) in
-    member_fit ts c.args.id c.in-Some.pair.0 c.in-Some.pair.1 fit c.side_of-side.result c.in-Some.ensures.parts
-    c.side_of-side.ensures regex _ (ap (λ (s : Side). fit.fits && (s.is_short || s.is_constant)) c.side_of-side.ensures)
+    member_fit ts c.args.id c.in-Some.pair.0 c.in-Some.pair.1 fit c.in_ok-single.single _ c.in-Some.ensures.parts
+    c.in_ok-single.ensures regex refl

@@ -45,11 +45,11 @@ returns-in-Connected c =
     connected_fit (term_at c.args.table.now c.args.id) _ c.args.parts (rw c.in-Connected.is at c.shape_of.ensures)
     c.requires.each
 
-pub returns-in-Words : goal.returns-in-Words
-returns-in-Words c =
+pub returns-in_ok-fits-in-Words : goal.returns-in_ok-fits-in-Words
+returns-in_ok-fits-in-Words c =
     words_fit (term_at c.args.table.now c.args.id) c.in-Words.distinct
-    (terms_at c.args.table.now c.arguments_of.result.now) c.fit_words.result (rw c.in-Words.is at c.shape_of.ensures)
-    c.arguments_of.ensures.terms c.fit_words.ensures
+    (terms_at c.args.table.now c.arguments_of.result.now) c.in_ok-fits-in-Words.fits
+    (rw c.in-Words.is at c.shape_of.ensures) c.arguments_of.ensures.terms c.in_ok-fits-in-Words.ensures
 
 pub returns-in-Other : goal.returns-in-Other
 returns-in-Other c = other_fit (term_at c.args.table.now c.args.id) (rw c.in-Other.is at c.shape_of.ensures)

@@ -7,8 +7,8 @@ use Rattle.sb_fragment.proofs.measures.measure_of.Goals as goal
 pub total_of-all-requires : goal.total_of-all-requires
 total_of-all-requires c = λ k d l. omega (arith, c.arguments_of.ensures.below k d l, c.requires.reached)
 
-pub fit_of-fit-requires : goal.fit_of-fit-requires
-fit_of-fit-requires c = record {
+pub fit_of-requires : goal.fit_of-requires
+fit_of-requires c = record {
   number = c.requires.number;
   reached = c.requires.reached;
   right = c.requires.right;
@@ -21,7 +21,7 @@ fit_of-fit-requires c = record {
 pub returns : goal.returns
 returns c =
     measure_is c.args.table.now c.args.measures.now c.arguments_of.result.now c.term.result.now
-    (term_at c.args.table.now c.args.id) c.total_of-all.result c.plain_of-plain.result c.fit_of-fit.result
+    (term_at c.args.table.now c.args.id) c.total_of-all.result c.plain_of-plain.result c.in_ok-fit.fit
     c.requires.right (λ k d l. omega (arith, c.arguments_of.ensures.below k d l, c.requires.reached))
     c.arguments_of.ensures.terms c.total_of-all.ensures c.term.ensures.value c.plain_of-plain.ensures
-    c.fit_of-fit.ensures
+    c.in_ok-fit.ensures

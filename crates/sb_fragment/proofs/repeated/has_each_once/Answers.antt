@@ -1,6 +1,5 @@
-use Rattle.std.proofs.Common.{◌<◌, ◌∷◌, [], length, sym, ap, subst, ◌∙◌}
+use Rattle.std.proofs.Common.{◌<◌, ◌∷◌, [], length, sym, ap, subst, ◌∙◌, arith}
 use Rattle.std.proofs.lemmas.List.{map-append}
-use Rattle.std.proofs.lemmas.Result.{IfOk-from_err}
 use Rattle.sb_meaning.specs.Terms.{terms_of}
 use Rattle.sb_term.specs.Numbered.{term_at, terms_at}
 use Rattle.sb_problem.specs.Waiting.{sizes}
@@ -11,8 +10,7 @@ use Rattle.sb_fragment.proofs.repeated.has_each_once.Goals as goal
 
 pub loop-next-init : goal.loop-next-init
 loop-next-init c = record {
-  right = c.requires.right;
-  below = below_one (length c.args.table.now) c.args.id c.in_ok-left.left.items c.requires.number
+  below = below_one (length c.args.measures.now) c.args.id c.in_ok-left.left.items c.requires.number
       c.in_ok-left.ensures.items;
   meeting = meeting_start (term_at c.args.table.now c.args.id) c.new-met.result.keys
       (terms_at c.args.table.now c.in_ok-left.left.items) c.new-met.ensures.empty
@@ -20,17 +18,10 @@ loop-next-init c = record {
 }
 
 pub meet-requires : goal.meet-requires
-meet-requires c = record {
-  number = (last_below (length c.args.table.now) c.loop-next.left.items c.pop.new.self.items c.in-Some.next
-      c.in-Some.ensures.items c.loop-next.invariant.below).1;
-  right = c.loop-next.invariant.right;
-}
-
-pub returns-in_err-goes : goal.returns-in_err-goes
-returns-in_err-goes c = record {
-  ok = IfOk-from_err c.from_residual-in_err-goes.result _ c.from_residual-in_err-goes.ensures.0;
-  right = c.in_err-goes.ensures.right;
-}
+meet-requires c =
+    let next = (last_below (length c.args.measures.now) c.loop-next.left.items c.pop.new.self.items c.in-Some.next
+    c.in-Some.ensures.items c.loop-next.invariant.below).1 in
+    record { number = omega (arith, next, c.requires.right.few); reached = next; right = c.requires.right }
 
 pub returns-then-not-goes : goal.returns-then-not-goes
 returns-then-not-goes c =
@@ -38,12 +29,8 @@ returns-then-not-goes c =
     let meeting = subst (Meeting (term_at ts c.args.id) c.loop-next.met.keys)
     (ap (terms_at ts) c.in-Some.ensures.items ∙ map-append (term_at ts) c.pop.new.self.items (c.in-Some.next ∷ []))
     c.loop-next.invariant.meeting in
-    record {
-      ok = sym (subst (λ b. MeetsMore b (term_at ts c.args.id) c.meet.new.met.keys
-          (terms_at ts c.meet.new.left.items)) c.if-not-goes.true
-          (c.in_ok-goes.ensures.goes (term_at ts c.args.id) meeting));
-      right = c.in_ok-goes.ensures.right;
-    }
+    sym (subst (λ b. MeetsMore b (term_at ts c.args.id) c.meet.new.met.keys (terms_at ts c.meet.new.left.items))
+    c.if-not-goes.true (c.in_ok-goes.ensures.goes (term_at ts c.args.id) meeting))
 
 pub loop-next-preserved : goal.loop-next-preserved
 loop-next-preserved c =
@@ -51,11 +38,10 @@ loop-next-preserved c =
     let meeting = subst (Meeting (term_at ts c.args.id) c.loop-next.met.keys)
     (ap (terms_at ts) c.in-Some.ensures.items ∙ map-append (term_at ts) c.pop.new.self.items (c.in-Some.next ∷ []))
     c.loop-next.invariant.meeting in
+    let next = last_below (length c.args.measures.now) c.loop-next.left.items c.pop.new.self.items c.in-Some.next
+    c.in-Some.ensures.items c.loop-next.invariant.below in
     record {
-      right = c.in_ok-goes.ensures.right;
-      below = c.in_ok-goes.ensures.lessens.below
-          (last_below (length ts) c.loop-next.left.items c.pop.new.self.items c.in-Some.next c.in-Some.ensures.items
-          c.loop-next.invariant.below).0;
+      below = c.in_ok-goes.ensures.lessens.below (length c.args.measures.now) next.1 next.0;
       meeting = subst (λ b. MeetsMore b (term_at ts c.args.id) c.meet.new.met.keys
           (terms_at ts c.meet.new.left.items)) c.if-not-goes.false
           (c.in_ok-goes.ensures.goes (term_at ts c.args.id) meeting);
@@ -68,10 +54,8 @@ loop-next-smaller c =
     c.in_ok-goes.ensures.lessens.lighter
 
 pub returns : goal.returns
-returns c = record {
-  ok = meeting_end (term_at c.args.table.now c.args.id) c.loop-next.met.keys
-      (terms_at c.args.table.now c.loop-next.left.items)
-      (none_at c.args.table.now c.loop-next.left.items (none_left c.loop-next.left c.in_default.ensures.cases.0))
-      c.loop-next.invariant.meeting;
-  right = c.loop-next.invariant.right;
-}
+returns c =
+    meeting_end (term_at c.args.table.now c.args.id) c.loop-next.met.keys
+    (terms_at c.args.table.now c.loop-next.left.items)
+    (none_at c.args.table.now c.loop-next.left.items (none_left c.loop-next.left c.in_default.ensures.cases.0))
+    c.loop-next.invariant.meeting

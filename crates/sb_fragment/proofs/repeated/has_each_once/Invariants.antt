@@ -3,14 +3,12 @@ use Rattle.std.specs.List.{list_all}
 use Rattle.sb_meaning.specs.Terms.{terms_of}
 use Rattle.sb_term.specs.Numbered.{term_at, terms_at}
 use Rattle.sb_problem.specs.Waiting.{sizes}
-use Rattle.sb_fragment.specs.Measures.{AreMeasures}
 use Rattle.sb_fragment.specs.Ruled.{Meeting}
 use Rattle.sb_fragment.proofs.repeated.has_each_once.Given as goal
 
 abbrev pub invariant-loop-next : goal.invariant-loop-next
 invariant-loop-next l = record {
-  right : AreMeasures l.fn.table l.measures;
-  below : list_all (λ i. nat_lt i (length l.fn.table)) l.left.items ≡ true;
+  below : list_all (λ i. nat_lt i (length l.fn.measures)) l.left.items ≡ true;
   meeting : Meeting (term_at l.fn.table l.fn.id) l.met.keys (terms_at l.fn.table l.left.items);
 }
 

@@ -3,18 +3,20 @@ use Rattle.sb_term.specs.Numbered.{term_at, terms_at}
 use Rattle.sb_problem.proofs.CallerLemmas.{constant_found, constant_missed}
 use Rattle.sb_fragment.specs.Ruled.{Meeting}
 use Rattle.sb_fragment.proofs.RuledFacts.{ground_constants, lessens_without, meets_nothing, met_by}
+use Rattle.sb_fragment.proofs.SideFacts.{measured_at}
 use Rattle.sb_fragment.proofs.repeated.meet.Goals as goal
 
 pub returns-then-measure : goal.returns-then-measure
-returns-then-measure c = record {
-  goes = λ whole h.
-      meets_nothing whole (term_at c.args.table.now c.args.next) c.args.met.now.keys
-      (terms_at c.args.table.now c.args.left.now.items)
-      (ground_constants (term_at c.args.table.now c.args.next) c.in_ok-measure.measure.is_ground
-      c.in_ok-measure.ensures.ok.constants c.if-measure.true) h;
-  lessens = lessens_without c.args.table.now c.args.next c.args.left.now.items;
-  right = c.in_ok-measure.ensures.right;
-}
+returns-then-measure c =
+    let measure = measured_at c.args.table.now c.args.measures.now c.args.next c.number.result _ c.requires.right
+    c.number.ensures c.requires.reached in
+    record {
+      goes = λ whole h.
+          meets_nothing whole (term_at c.args.table.now c.args.next) c.args.met.now.keys
+          (terms_at c.args.table.now c.args.left.now.items)
+          (ground_constants (term_at c.args.table.now c.args.next) _ measure.constants c.if-measure.true) h;
+      lessens = lessens_without c.args.table.now c.args.next c.args.left.now.items;
+    }
 
 pub returns-in_ok-is_new-in-Some : goal.returns-in_ok-is_new-in-Some
 returns-in_ok-is_new-in-Some c = record {
@@ -26,7 +28,6 @@ returns-in_ok-is_new-in-Some c = record {
       (constant_found (term_at c.args.table.now c.args.next) c.constant_of.result c.in-Some.serial
       c.constant_of.ensures c.in-Some.is) h);
   lessens = lessens_without c.args.table.now c.args.next c.args.left.now.items;
-  right = c.in_ok-measure.ensures.right;
 }
 
 pub meet_parts-requires : goal.meet_parts-requires
@@ -40,5 +41,4 @@ pub returns-in_ok-meet_parts-in-None : goal.returns-in_ok-meet_parts-in-None
 returns-in_ok-meet_parts-in-None c = record {
   goes = λ whole h. c.in_ok-meet_parts-in-None.ensures.meeting whole c.args.met.now.keys h;
   lessens = c.in_ok-meet_parts-in-None.ensures.lessens;
-  right = c.in_ok-measure.ensures.right;
 }

@@ -20,6 +20,6 @@ returns c = record {
       c.extend_from_slice.new.self.items (sym c.is_joined.ensures ∙ c.if-not-is_joined.false)
       c.arguments_of.ensures.terms c.in_ok-extend_from_slice.ensures.items h;
   lessens = lessens_parts c.args.table.now c.args.next c.arguments_of.result.now c.args.left.now.items
-      c.extend_from_slice.new.self.items c.requires.number c.arguments_of.ensures.terms c.arguments_of.ensures.below
+      c.extend_from_slice.new.self.items c.arguments_of.ensures.terms c.arguments_of.ensures.below
       c.in_ok-extend_from_slice.ensures.items;
 }

@@ -1,4 +1,3 @@
-use Rattle.std.proofs.Common.{refl}
 use Rattle.sb_term.specs.Numbered.{term_at}
 use Rattle.sb_fragment.proofs.RuleFacts.{breaks, is_not_brought, is_too_large, keeps_both_by}
 use Rattle.sb_fragment.proofs.rules.rule_of.Goals as goal
@@ -15,22 +14,21 @@ returns-then-not-one_side c = record {
   right = c.in_ok-one_side.ensures.right;
 }
 
-pub returns-then-brought : goal.returns-then-brought
-returns-then-brought c =
+pub returns-then-measure : goal.returns-then-measure
+returns-then-measure c =
     let t = term_at c.args.table.now c.args.id in
     record {
-      ok = is_too_large t c.in_ok-measure.measure _ c.in_ok-measure.ensures.ok refl c.if-brought.true
-          c.requires.outside
+      ok = is_too_large t c.in_ok-measure.measure c.in_ok-measure.ensures.ok c.if-measure.true c.requires.outside
           (keeps_both_by t c.in_ok-once.once c.in_ok-one_side.one_side c.in_ok-once.ensures.ok c.if-not-once.false
           c.in_ok-one_side.ensures.ok c.if-not-one_side.false);
       right = c.in_ok-measure.ensures.right;
     }
 
-pub returns-else-brought : goal.returns-else-brought
-returns-else-brought c =
+pub returns-else-measure : goal.returns-else-measure
+returns-else-measure c =
     let t = term_at c.args.table.now c.args.id in
     record {
-      ok = is_not_brought t c.in_ok-measure.measure _ c.in_ok-measure.ensures.ok refl c.if-brought.false
+      ok = is_not_brought t c.in_ok-measure.measure c.in_ok-measure.ensures.ok c.if-measure.false
           (keeps_both_by t c.in_ok-once.once c.in_ok-one_side.one_side c.in_ok-once.ensures.ok c.if-not-once.false
           c.in_ok-one_side.ensures.ok c.if-not-one_side.false);
       right = c.in_ok-measure.ensures.right;

@@ -9,8 +9,8 @@ loop-left-init c = (
   behind_none c.args.distinct c.args.table.now c.args.arguments.now _ _ (omega arith) refl,
 )
 
-pub side_of-side-requires : goal.side_of-side-requires
-side_of-side-requires c = record {
+pub side_of-requires : goal.side_of-requires
+side_of-requires c = record {
   number = omega (
     arith,
     c.index-arguments-left.is,
@@ -26,9 +26,9 @@ loop-left-preserved c =
     let same : c.loop-left.left ≡ suc k = omega (arith, c.loop-left-test.true) in (
       omega (arith, c.loop-left.invariant.0),
       behind_step c.args.distinct c.args.table.now c.args.arguments.now k c.index-arguments-left.result c.loop-left.all
-          c.fits_row-fits.result _ c.side_of-side.result c.loop-left.behind c.with_side-behind.result
+          c.fits_row-fits.result _ c.in_ok-side.side c.loop-left.behind c.with_side-behind.result
           (omega (arith, c.loop-left.invariant.0, c.loop-left-test.true)) c.index-arguments-left.is
-          c.side_of-side.ensures c.fits_row-fits.ensures refl c.with_side-behind.ensures
+          c.in_ok-side.ensures c.fits_row-fits.ensures refl c.with_side-behind.ensures
           (subst (λ n. AreBehind c.args.distinct (terms_at c.args.table.now (drop n c.args.arguments.now))
           c.loop-left.all c.loop-left.behind) same c.loop-left.invariant.1),
     )

@@ -3,5 +3,5 @@ use Rattle.sb_fragment.proofs.sides.side_of.Goals as goal
 
 pub returns : goal.returns
 returns c =
-    side_measured c.args.table.now c.args.measures.now c.args.id c.number.result _ c.constant_of.result
-    c.is_some.result c.requires.right c.number.ensures c.requires.number c.constant_of.ensures c.is_some.ensures
+    side_measured c.args.table.now c.args.measures.now c.args.id c.number.result _ c.in_ok-single.single
+    c.requires.right c.number.ensures c.requires.number c.in_ok-single.ensures

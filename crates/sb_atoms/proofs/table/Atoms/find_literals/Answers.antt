@@ -6,7 +6,8 @@ use Rattle.sb_term.specs.Numbered.{term_at}
 use Rattle.sb_term.proofs.CallerLemmas.{none_known, parts_known, next_known, all_known}
 use Rattle.sb_rulebook.specs.Translation.{translation}
 use Rattle.sb_fragment.proofs.CallerLemmas.{all_at}
-use Rattle.sb_atoms.specs.Growing.{meets, is_below, Finds}
+use Rattle.sb_atoms.specs.Translated.{has_declared}
+use Rattle.sb_atoms.specs.Growing.{is_below, Finds}
 use Rattle.sb_atoms.proofs.Growth.{moves_none, moves_both, moves_given}
 use Rattle.sb_atoms.specs.Reaching.{connected_parts}
 use Rattle.sb_atoms.proofs.KnownLiterals.{known_moved}
@@ -17,7 +18,7 @@ loop-place-init c = (
   omega arith,
   none_known None (λ i found. Finds is_below c.args.adds c.args.arena.now c.args.self.now
       (λ atoms. translation atoms (term_at c.args.table.now i)) found) c.args.known.now.entries c.args.ids.now,
-  moves_none c.args.adds (λ demand. list_all (λ i. meets demand (term_at c.args.table.now i)) c.args.ids.now)
+  moves_none c.args.adds (λ sorts. list_all (λ i. has_declared sorts (term_at c.args.table.now i)) c.args.ids.now)
       c.args.arena.now c.args.self.now,
   c.requires.ready,
 )
@@ -52,16 +53,16 @@ loop-place-preserved c =
           (λ atoms. translation atoms (term_at ts j)) found) c.loop-place.known.entries c.insert.new.self.entries is i x
           c.in_ok-found.found c.loop-place-test.true c.loop-place.invariant.0 c.index-ids-place.is
           c.in_ok-insert.ensures.updates.0 c.in_ok-found.ensures.ok
-          (known_moved c.args.adds (λ demand. meets demand (term_at ts x)) c.loop-place.arena
+          (known_moved c.args.adds (λ sorts. has_declared sorts (term_at ts x)) c.loop-place.arena
           c.literal_of.new.arena c.loop-place.self c.literal_of.new.self ts c.loop-place.known.entries _
           c.loop-place.invariant.3.regexes own c.loop-place.invariant.1),
-      moves_both c.args.adds (λ demand. list_all (λ j. meets demand (term_at ts j)) is) c.args.arena.now
+      moves_both c.args.adds (λ sorts. list_all (λ j. has_declared sorts (term_at ts j)) is) c.args.arena.now
           c.loop-place.arena c.literal_of.new.arena c.args.self.now c.loop-place.self c.literal_of.new.self
           c.loop-place.invariant.2
-          (moves_given c.args.adds (λ demand. meets demand (term_at ts x))
-          (λ demand. list_all (λ j. meets demand (term_at ts j)) is) c.loop-place.arena c.literal_of.new.arena
+          (moves_given c.args.adds (λ sorts. has_declared sorts (term_at ts x))
+          (λ sorts. list_all (λ j. has_declared sorts (term_at ts j)) is) c.loop-place.arena c.literal_of.new.arena
           c.loop-place.self c.literal_of.new.self
-          (λ demand d. all_at (λ j. meets demand (term_at ts j)) is (i - 1) x d within c.index-ids-place.is) own),
+          (λ sorts d. all_at (λ j. has_declared sorts (term_at ts j)) is (i - 1) x d within c.index-ids-place.is) own),
       c.literal_of.ensures.ready,
     )
 
@@ -72,13 +73,13 @@ returns-in_err-found-clause-moves c =
     let i = c.loop-place.place in
     let x = c.index-ids-place.result in
     let within : i - 1 < length is = omega (arith, c.loop-place.invariant.0, c.loop-place-test.true) in
-    moves_both c.args.adds (λ demand. list_all (λ j. meets demand (term_at ts j)) is) c.args.arena.now
+    moves_both c.args.adds (λ sorts. list_all (λ j. has_declared sorts (term_at ts j)) is) c.args.arena.now
     c.loop-place.arena c.literal_of.new.arena c.args.self.now c.loop-place.self c.literal_of.new.self
     c.loop-place.invariant.2
-    (moves_given c.args.adds (λ demand. meets demand (term_at ts x))
-    (λ demand. list_all (λ j. meets demand (term_at ts j)) is) c.loop-place.arena c.literal_of.new.arena
+    (moves_given c.args.adds (λ sorts. has_declared sorts (term_at ts x))
+    (λ sorts. list_all (λ j. has_declared sorts (term_at ts j)) is) c.loop-place.arena c.literal_of.new.arena
     c.loop-place.self c.literal_of.new.self
-    (λ demand d. all_at (λ j. meets demand (term_at ts j)) is (i - 1) x d within c.index-ids-place.is)
+    (λ sorts d. all_at (λ j. has_declared sorts (term_at ts j)) is (i - 1) x d within c.index-ids-place.is)
     c.literal_of.ensures.moves)
 
 pub returns-in_err-insert-clause-moves : goal.returns-in_err-insert-clause-moves
@@ -88,13 +89,13 @@ returns-in_err-insert-clause-moves c =
     let i = c.loop-place.place in
     let x = c.index-ids-place.result in
     let within : i - 1 < length is = omega (arith, c.loop-place.invariant.0, c.loop-place-test.true) in
-    moves_both c.args.adds (λ demand. list_all (λ j. meets demand (term_at ts j)) is) c.args.arena.now
+    moves_both c.args.adds (λ sorts. list_all (λ j. has_declared sorts (term_at ts j)) is) c.args.arena.now
     c.loop-place.arena c.literal_of.new.arena c.args.self.now c.loop-place.self c.literal_of.new.self
     c.loop-place.invariant.2
-    (moves_given c.args.adds (λ demand. meets demand (term_at ts x))
-    (λ demand. list_all (λ j. meets demand (term_at ts j)) is) c.loop-place.arena c.literal_of.new.arena
+    (moves_given c.args.adds (λ sorts. has_declared sorts (term_at ts x))
+    (λ sorts. list_all (λ j. has_declared sorts (term_at ts j)) is) c.loop-place.arena c.literal_of.new.arena
     c.loop-place.self c.literal_of.new.self
-    (λ demand d. all_at (λ j. meets demand (term_at ts j)) is (i - 1) x d within c.index-ids-place.is)
+    (λ sorts d. all_at (λ j. has_declared sorts (term_at ts j)) is (i - 1) x d within c.index-ids-place.is)
     c.literal_of.ensures.moves)
 
 pub returns : goal.returns

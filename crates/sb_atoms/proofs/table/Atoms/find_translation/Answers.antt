@@ -2,8 +2,8 @@ use Rattle.std.proofs.Common.{◌≡◌, length, false}
 use Rattle.sb_facts.proofs.CallerLemmas.{ok_more}
 use Rattle.sb_term.specs.Numbered.{term_at}
 use Rattle.sb_atoms.specs.Numbered.{atoms_in}
-use Rattle.sb_atoms.specs.Translated.{brought_translation}
-use Rattle.sb_atoms.specs.Growing.{meets, is_below, Finds}
+use Rattle.sb_atoms.specs.Translated.{has_declared, brought_translation}
+use Rattle.sb_atoms.specs.Growing.{is_below, Finds}
 use Rattle.sb_atoms.proofs.Growth.{grown_still}
 use Rattle.sb_atoms.proofs.table.Atoms.find_translation.Goals as goal
 
@@ -22,5 +22,5 @@ returns-clause-ok c =
 
 pub returns-clause-stays : goal.returns-clause-stays
 returns-clause-stays c =
-    grown_still (length c.find_or_add.new.arena) (λ demand. meets demand (term_at c.args.table.now c.args.id))
+    grown_still (length c.find_or_add.new.arena) (λ sorts. has_declared sorts (term_at c.args.table.now c.args.id))
     c.args.self.now c.find_or_add.new.self c.find_or_add.ensures.moves.atoms

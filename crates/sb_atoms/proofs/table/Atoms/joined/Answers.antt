@@ -5,18 +5,19 @@ use Rattle.sb_problem.specs.Patterns.{pattern_in}
 use Rattle.sb_rulebook.specs.Parts.{regex_of}
 use Rattle.sb_rulebook.specs.Translation.{membership}
 use Rattle.sb_proof.specs.Lines.{piece_in}
-use Rattle.sb_atoms.specs.Growing.{meets, pieces_meet, is_below, Finds}
+use Rattle.sb_atoms.specs.Translated.{has_declared}
+use Rattle.sb_atoms.specs.Growing.{are_declared_pieces, is_below, Finds}
 use Rattle.sb_atoms.specs.Shapes.{member_literal}
 use Rattle.sb_atoms.proofs.CallerLemmas.{regexes_kept}
 use Rattle.sb_atoms.proofs.Growth.{moves_arena, moves_both, moves_given}
 use Rattle.sb_atoms.proofs.Found.{finds_none, finds_other}
-use Rattle.sb_atoms.proofs.PieceFacts.{met_pieces}
+use Rattle.sb_atoms.proofs.PieceFacts.{single_declared}
 use Rattle.sb_atoms.proofs.TextFacts.{membership_none, membership_some}
 use Rattle.sb_atoms.proofs.table.Atoms.joined.Goals as goal
 
 pub returns-in_err-pieces-clause-moves : goal.returns-in_err-pieces-clause-moves
 returns-in_err-pieces-clause-moves c =
-    moves_arena c.args.adds (λ demand. meets demand (term_at c.args.table.now c.args.text)) c.args.arena.now
+    moves_arena c.args.adds (λ sorts. has_declared sorts (term_at c.args.table.now c.args.text)) c.args.arena.now
     c.single_pieces.new.arena c.args.self.now c.in_err-pieces.ensures.extends
 
 pub returns-in_err-pieces-clause-ready : goal.returns-in_err-pieces-clause-ready
@@ -37,7 +38,7 @@ returns-in_default-clause-ok c =
 
 pub returns-in_default-clause-moves : goal.returns-in_default-clause-moves
 returns-in_default-clause-moves c =
-    moves_arena c.args.adds (λ demand. meets demand (term_at c.args.table.now c.args.text)) c.args.arena.now
+    moves_arena c.args.adds (λ sorts. has_declared sorts (term_at c.args.table.now c.args.text)) c.args.arena.now
     c.single_pieces.new.arena c.args.self.now c.in_ok-pieces.ensures.extends
 
 pub returns-in_default-clause-ready : goal.returns-in_default-clause-ready
@@ -78,10 +79,10 @@ returns-clause-moves c =
     let u = term_at c.args.table.now c.args.text in
     let ps = map piece_in c.in-Some.pieces.items in
     let is = rw c.in-Some.is at c.in_ok-pieces.ensures.ok in
-    moves_both c.args.adds (λ demand. meets demand u) c.args.arena.now c.single_pieces.new.arena c.member.new.arena
+    moves_both c.args.adds (λ sorts. has_declared sorts u) c.args.arena.now c.single_pieces.new.arena c.member.new.arena
     c.args.self.now c.args.self.now c.member.new.self
-    (moves_arena c.args.adds (λ demand. meets demand u) c.args.arena.now c.single_pieces.new.arena c.args.self.now
+    (moves_arena c.args.adds (λ sorts. has_declared sorts u) c.args.arena.now c.single_pieces.new.arena c.args.self.now
     c.in_ok-pieces.ensures.extends)
-    (moves_given c.args.adds (λ demand. pieces_meet demand ps) (λ demand. meets demand u) c.single_pieces.new.arena
-    c.member.new.arena c.args.self.now c.member.new.self (λ demand h. met_pieces demand u ps is.0 h)
+    (moves_given c.args.adds (λ sorts. are_declared_pieces sorts ps) (λ sorts. has_declared sorts u)
+    c.single_pieces.new.arena c.member.new.arena c.args.self.now c.member.new.self (λ sorts h. single_declared sorts u ps is.0 h)
     c.member.ensures.moves)

@@ -6,8 +6,9 @@ use Rattle.sb_problem.specs.Patterns.{pattern_in}
 use Rattle.sb_rulebook.specs.Atoms.{bool_atom, are_pieces}
 use Rattle.sb_rulebook.specs.Translation.{translation, conjunction, negated}
 use Rattle.sb_proof.specs.Lines.{piece_in}
+use Rattle.sb_atoms.specs.Translated.{has_declared}
 use Rattle.sb_atoms.specs.Connecting.{connected}
-use Rattle.sb_atoms.specs.Growing.{meets, pieces_meet, is_below, Gives, GivesLike, Finds, IsLiteralOf}
+use Rattle.sb_atoms.specs.Growing.{are_declared_pieces, is_below, Gives, GivesLike, Finds, IsLiteralOf}
 use Rattle.sb_term.specs.Descending.{known_at}
 use Rattle.sb_fragment.specs.Shapes.{parts_of}
 use Rattle.sb_atoms.specs.Shapes.{member_literal, connected_literal, literals_of, words_literal}
@@ -16,7 +17,7 @@ use Rattle.sb_atoms.proofs.Connections.{connected_parts_are}
 use Rattle.sb_atoms.proofs.Growth.{moves_given, moves_gates, moves_none}
 use Rattle.sb_atoms.proofs.KnownLiterals.{parts_found, parts_below, connection_finds}
 use Rattle.sb_atoms.proofs.Structured.{always_translated, alone_translated, connected_translated, words_translated}
-use Rattle.sb_atoms.proofs.Found.{constant_finds, constant_moves, asked_member, met_asked, finds_other, finds_given, ready_moved}
+use Rattle.sb_atoms.proofs.Found.{constant_finds, constant_moves, asked_member, declared_asked, finds_other, finds_given, ready_moved}
 use Rattle.sb_atoms.proofs.table.Atoms.literal_of.Goals as goal
 
 pub member-requires-clause-kind : goal.member-requires-clause-kind
@@ -46,10 +47,11 @@ returns-in-Some-clause-ok c =
 pub returns-in-Some-clause-moves : goal.returns-in-Some-clause-moves
 returns-in-Some-clause-moves c =
     let t = term_at c.args.table.now c.args.id in
-    moves_given c.args.adds (λ demand. pieces_meet demand (map piece_in c.constant_alone-pieces.result.items))
-    (λ demand. meets demand t) c.args.arena.now c.member.new.arena c.args.self.now c.member.new.self
-    (λ demand d. ap (pieces_meet demand) c.constant_alone-pieces.ensures
-    ∙ met_asked demand t c.in-Some.serial.0 (pattern_in c.args.table.now c.in-Some.pattern) c.in-Some.ensures.parts d)
+    moves_given c.args.adds (λ sorts. are_declared_pieces sorts (map piece_in c.constant_alone-pieces.result.items))
+    (λ sorts. has_declared sorts t) c.args.arena.now c.member.new.arena c.args.self.now c.member.new.self
+    (λ sorts d. ap (are_declared_pieces sorts) c.constant_alone-pieces.ensures
+    ∙ declared_asked sorts t c.in-Some.serial.0 (pattern_in c.args.table.now c.in-Some.pattern)
+    c.in-Some.ensures.parts d)
     c.member.ensures.moves
 
 pub returns-in-Constant-clause-ok : goal.returns-in-Constant-clause-ok
@@ -91,7 +93,7 @@ returns-in-Always-clause-ok c =
 
 pub returns-in-Always-clause-moves : goal.returns-in-Always-clause-moves
 returns-in-Always-clause-moves c =
-    moves_gates c.args.adds (λ demand. meets demand (term_at c.args.table.now c.args.id)) c.args.arena.now
+    moves_gates c.args.adds (λ sorts. has_declared sorts (term_at c.args.table.now c.args.id)) c.args.arena.now
     c.args.self.now c.always.new.self c.always.ensures.grows
 
 pub returns-in-Always-clause-ready : goal.returns-in-Always-clause-ready
@@ -99,7 +101,7 @@ returns-in-Always-clause-ready c =
     let r = c.requires.ready in
     ready_moved c.args.table.now c.args.measures.now c.args.normals.now c.args.arena.now c.args.arena.now
     c.args.self.now c.always.new.self r.right r.normals r.regexes
-    (moves_gates c.args.adds (λ demand. true) c.args.arena.now c.args.self.now c.always.new.self c.always.ensures.grows)
+    (moves_gates c.args.adds (λ sorts. true) c.args.arena.now c.args.self.now c.always.new.self c.always.ensures.grows)
 
 pub returns-in-Alone-clause-ok : goal.returns-in-Alone-clause-ok
 returns-in-Alone-clause-ok c =
@@ -114,7 +116,7 @@ returns-in-Alone-clause-ok c =
 
 pub returns-in-Alone-clause-moves : goal.returns-in-Alone-clause-moves
 returns-in-Alone-clause-moves c =
-    moves_gates c.args.adds (λ demand. meets demand (term_at c.args.table.now c.args.id)) c.args.arena.now
+    moves_gates c.args.adds (λ sorts. has_declared sorts (term_at c.args.table.now c.args.id)) c.args.arena.now
     c.args.self.now c.always-in-Alone.new.self c.always-in-Alone.ensures.grows
 
 pub returns-in-Alone-clause-ready : goal.returns-in-Alone-clause-ready
@@ -122,7 +124,7 @@ returns-in-Alone-clause-ready c =
     let r = c.requires.ready in
     ready_moved c.args.table.now c.args.measures.now c.args.normals.now c.args.arena.now c.args.arena.now
     c.args.self.now c.always-in-Alone.new.self r.right r.normals r.regexes
-    (moves_gates c.args.adds (λ demand. true) c.args.arena.now c.args.self.now c.always-in-Alone.new.self
+    (moves_gates c.args.adds (λ sorts. true) c.args.arena.now c.args.self.now c.always-in-Alone.new.self
     c.always-in-Alone.ensures.grows)
 
 pub connection-requires : goal.connection-requires
@@ -167,7 +169,7 @@ returns-in_ok-parts-in-Connected-clause-ok c =
 
 pub returns-in_ok-parts-in-Connected-clause-moves : goal.returns-in_ok-parts-in-Connected-clause-moves
 returns-in_ok-parts-in-Connected-clause-moves c =
-    moves_gates c.args.adds (λ demand. meets demand (term_at c.args.table.now c.args.id)) c.args.arena.now
+    moves_gates c.args.adds (λ sorts. has_declared sorts (term_at c.args.table.now c.args.id)) c.args.arena.now
     c.args.self.now c.connection.new.self c.connection.ensures.grows
 
 pub returns-in_ok-parts-in-Connected-clause-ready : goal.returns-in_ok-parts-in-Connected-clause-ready
@@ -175,12 +177,12 @@ returns-in_ok-parts-in-Connected-clause-ready c =
     let r = c.requires.ready in
     ready_moved c.args.table.now c.args.measures.now c.args.normals.now c.args.arena.now c.args.arena.now
     c.args.self.now c.connection.new.self r.right r.normals r.regexes
-    (moves_gates c.args.adds (λ demand. true) c.args.arena.now c.args.self.now c.connection.new.self
+    (moves_gates c.args.adds (λ sorts. true) c.args.arena.now c.args.self.now c.connection.new.self
     c.connection.ensures.grows)
 
 pub returns-in_err-parts-in-Connected-clause-moves : goal.returns-in_err-parts-in-Connected-clause-moves
 returns-in_err-parts-in-Connected-clause-moves c =
-    moves_none c.args.adds (λ demand. meets demand (term_at c.args.table.now c.args.id)) c.args.arena.now
+    moves_none c.args.adds (λ sorts. has_declared sorts (term_at c.args.table.now c.args.id)) c.args.arena.now
     c.args.self.now
 
 pub membership-requires-in-Member-clause-member : goal.membership-requires-in-Member-clause-member

@@ -4,7 +4,7 @@ use Rattle.sb_regex.proofs.CallerLemmas.{long_kept}
 use Rattle.sb_problem.specs.Patterns.{pattern_in}
 use Rattle.sb_rulebook.specs.Brought.{is_brought_atom}
 use Rattle.sb_proof.specs.Lines.{atom_in, piece_in}
-use Rattle.sb_atoms.specs.Growing.{pieces_meet, is_below, Finds, IsLiteralOf}
+use Rattle.sb_atoms.specs.Growing.{are_declared_pieces, is_below, Finds, IsLiteralOf}
 use Rattle.sb_atoms.specs.Shapes.{member_literal}
 use Rattle.sb_atoms.proofs.CallerLemmas.{regexes_kept}
 use Rattle.sb_atoms.proofs.Growth.{grown_regexes, moves_arena}
@@ -29,12 +29,12 @@ returns-in_default-clause-ready c = record {
 
 pub returns-in_err-atom-clause-moves : goal.returns-in_err-atom-clause-moves
 returns-in_err-atom-clause-moves c =
-    moves_arena c.args.adds (λ demand. pieces_meet demand (map piece_in c.args.pieces.items)) c.args.arena.now
+    moves_arena c.args.adds (λ sorts. are_declared_pieces sorts (map piece_in c.args.pieces.items)) c.args.arena.now
     c.atom_of.new.arena c.args.self.now c.in_err-atom.ensures.arena
 
 pub returns-in_default-clause-moves : goal.returns-in_default-clause-moves
 returns-in_default-clause-moves c =
-    moves_arena c.args.adds (λ demand. pieces_meet demand (map piece_in c.args.pieces.items)) c.args.arena.now
+    moves_arena c.args.adds (λ sorts. are_declared_pieces sorts (map piece_in c.args.pieces.items)) c.args.arena.now
     c.atom_of.new.arena c.args.self.now c.in_ok-atom.ensures.arena
 
 pub returns-in_default-clause-ok : goal.returns-in_default-clause-ok

@@ -3,9 +3,10 @@ use Rattle.sb_facts.proofs.CallerLemmas.{ok_more}
 use Rattle.sb_term.specs.Numbered.{term_at}
 use Rattle.sb_rulebook.specs.Parts.{regex_of}
 use Rattle.sb_rulebook.specs.Translation.{membership, translation}
-use Rattle.sb_atoms.specs.Growing.{meets, is_below, Finds}
+use Rattle.sb_atoms.specs.Translated.{has_declared}
+use Rattle.sb_atoms.specs.Growing.{is_below, Finds}
 use Rattle.sb_atoms.proofs.Growth.{moves_given}
-use Rattle.sb_atoms.proofs.Found.{finds_other, met_text, text_member, text_regex_of}
+use Rattle.sb_atoms.proofs.Found.{finds_other, declared_text, text_member, text_regex_of}
 use Rattle.sb_atoms.proofs.table.Atoms.membership.Goals as goal
 
 pub joined-requires-clause-text : goal.joined-requires-clause-text
@@ -39,7 +40,7 @@ returns-clause-moves c =
     let ts = c.args.table.now in
     let t = term_at ts c.args.id in
     let u = term_at ts c.sides_of-sides.result.0 in
-    moves_given c.args.adds (λ demand. meets demand u) (λ demand. meets demand t) c.args.arena.now c.joined.new.arena
-    c.args.self.now c.joined.new.self
-    (λ demand h. met_text demand t u (term_at ts c.sides_of-sides.result.1) c.sides_of-sides.ensures.is h)
+    moves_given c.args.adds (λ sorts. has_declared sorts u) (λ sorts. has_declared sorts t) c.args.arena.now
+    c.joined.new.arena c.args.self.now c.joined.new.self
+    (λ sorts h. declared_text sorts t u (term_at ts c.sides_of-sides.result.1) c.sides_of-sides.ensures.is h)
     c.joined.ensures.moves

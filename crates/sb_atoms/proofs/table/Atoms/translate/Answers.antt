@@ -4,7 +4,7 @@ use Rattle.sb_term.specs.Numbered.{term_at}
 use Rattle.sb_atoms.specs.Numbered.{atoms_in}
 use Rattle.sb_atoms.specs.Translated.{brought_translation, HasNoLiteral}
 use Rattle.sb_atoms.specs.Growing.{is_below, Finds}
-use Rattle.sb_atoms.proofs.Growth.{grown_defined, grown_extends, grown_earlier, grown_unjoined}
+use Rattle.sb_atoms.proofs.Growth.{grown_defined, grown_extends, grown_earlier}
 use Rattle.sb_atoms.proofs.Found.{finds_known}
 use Rattle.sb_atoms.proofs.table.Atoms.translate.Goals as goal
 
@@ -50,8 +50,3 @@ returns-clause-defined c =
 
 pub returns-clause-earlier : goal.returns-clause-earlier
 returns-clause-earlier c = grown_earlier c.args.self.now c.find_or_add.new.self c.find_or_add.ensures.moves.atoms
-
-pub returns-clause-unjoined : goal.returns-clause-unjoined
-returns-clause-unjoined c =
-    grown_unjoined (length c.find_or_add.new.arena) (term_at c.args.table.now c.args.id) c.args.self.now
-    c.find_or_add.new.self c.find_or_add.ensures.moves.atoms

@@ -4,7 +4,8 @@ use Rattle.sb_term.specs.Numbered.{term_at}
 use Rattle.sb_problem.specs.Patterns.{literal_of}
 use Rattle.sb_rulebook.specs.Parts.{regex_of}
 use Rattle.sb_rulebook.specs.Translation.{membership, word_equality}
-use Rattle.sb_atoms.specs.Growing.{meets, is_below, Finds}
+use Rattle.sb_atoms.specs.Translated.{has_declared}
+use Rattle.sb_atoms.specs.Growing.{is_below, Finds}
 use Rattle.sb_atoms.proofs.Growth.{moves_none, moves_given}
 use Rattle.sb_atoms.proofs.Found.{finds_none, finds_other}
 use Rattle.sb_atoms.proofs.TextFacts.{sides_word, sides_none, sides_below, sides_pass}
@@ -13,8 +14,8 @@ use Rattle.sb_atoms.proofs.table.Atoms.word_equality.Goals as goal
 pub returns-in_err-sides-clause-moves : goal.returns-in_err-sides-clause-moves
 returns-in_err-sides-clause-moves c =
     let ts = c.args.table.now in
-    moves_none c.args.adds (λ demand. meets demand (term_at ts c.args.one) && meets demand (term_at ts c.args.other))
-    c.args.arena.now c.args.self.now
+    moves_none c.args.adds
+    (λ sorts. has_declared sorts (term_at ts c.args.one) && has_declared sorts (term_at ts c.args.other)) c.args.arena.now c.args.self.now
 
 pub returns-in_err-sides-clause-ready : goal.returns-in_err-sides-clause-ready
 returns-in_err-sides-clause-ready c = record {
@@ -31,8 +32,8 @@ measure-requires-clause-number c =
 pub returns-in_err-measure-clause-moves : goal.returns-in_err-measure-clause-moves
 returns-in_err-measure-clause-moves c =
     let ts = c.args.table.now in
-    moves_none c.args.adds (λ demand. meets demand (term_at ts c.args.one) && meets demand (term_at ts c.args.other))
-    c.args.arena.now c.args.self.now
+    moves_none c.args.adds
+    (λ sorts. has_declared sorts (term_at ts c.args.one) && has_declared sorts (term_at ts c.args.other)) c.args.arena.now c.args.self.now
 
 pub returns-in_err-measure-clause-ready : goal.returns-in_err-measure-clause-ready
 returns-in_err-measure-clause-ready c = record {
@@ -52,8 +53,8 @@ returns-then-not-is_word-clause-ok c =
 pub returns-then-not-is_word-clause-moves : goal.returns-then-not-is_word-clause-moves
 returns-then-not-is_word-clause-moves c =
     let ts = c.args.table.now in
-    moves_none c.args.adds (λ demand. meets demand (term_at ts c.args.one) && meets demand (term_at ts c.args.other))
-    c.args.arena.now c.args.self.now
+    moves_none c.args.adds
+    (λ sorts. has_declared sorts (term_at ts c.args.one) && has_declared sorts (term_at ts c.args.other)) c.args.arena.now c.args.self.now
 
 pub returns-then-not-is_word-clause-ready : goal.returns-then-not-is_word-clause-ready
 returns-then-not-is_word-clause-ready c = record {
@@ -97,8 +98,9 @@ returns-clause-ok c =
 pub returns-clause-moves : goal.returns-clause-moves
 returns-clause-moves c =
     let ts = c.args.table.now in
-    moves_given c.args.adds (λ demand. meets demand (term_at ts c.in_ok-sides.sides.other))
-    (λ demand. meets demand (term_at ts c.args.one) && meets demand (term_at ts c.args.other)) c.args.arena.now
-    c.joined.new.arena c.args.self.now c.joined.new.self
-    (λ demand h. sides_pass (meets demand) ts c.args.one c.args.other c.in_ok-sides.sides c.in_ok-sides.ensures.ok h)
+    moves_given c.args.adds (λ sorts. has_declared sorts (term_at ts c.in_ok-sides.sides.other))
+    (λ sorts. has_declared sorts (term_at ts c.args.one) && has_declared sorts (term_at ts c.args.other))
+    c.args.arena.now c.joined.new.arena c.args.self.now c.joined.new.self
+    (λ sorts h. sides_pass (has_declared sorts) ts c.args.one c.args.other c.in_ok-sides.sides
+    c.in_ok-sides.ensures.ok h)
     c.joined.ensures.moves

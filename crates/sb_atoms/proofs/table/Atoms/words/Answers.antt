@@ -3,14 +3,15 @@ use Rattle.sb_facts.proofs.CallerLemmas.{ok_more}
 use Rattle.sb_term.specs.Numbered.{term_at}
 use Rattle.sb_rulebook.specs.Translation.{conjunction, word_equality}
 use Rattle.sb_fragment.specs.Compared.{compared}
+use Rattle.sb_atoms.specs.Translated.{has_declared}
 use Rattle.sb_atoms.specs.Connecting.{signed}
-use Rattle.sb_atoms.specs.Growing.{meets, is_below, are_below, Gives, Finds}
+use Rattle.sb_atoms.specs.Growing.{is_below, are_below, Gives, Finds}
 use Rattle.sb_fragment.specs.Shapes.{are_numbers, parts_of, terms_of_pairs}
-use Rattle.sb_atoms.specs.Shapes.{meet_pairs, word_literals, words_literal}
+use Rattle.sb_atoms.specs.Shapes.{have_declared_pairs, word_literals, words_literal}
 use Rattle.sb_fragment.proofs.CallerLemmas.{items_some, numbers_compared, terms_compared}
 use Rattle.sb_atoms.proofs.Growth.{moves_both, moves_given, moves_gates}
 use Rattle.sb_atoms.proofs.Connected.{gives_like}
-use Rattle.sb_atoms.proofs.Found.{met_compared, ready_moved, then_made, then_none, word_stays}
+use Rattle.sb_atoms.proofs.Found.{declared_compared, ready_moved, then_made, then_none, word_stays}
 use Rattle.sb_atoms.proofs.table.Atoms.words.Goals as goal
 
 pub word_literals-requires-clause-numbers : goal.word_literals-requires-clause-numbers
@@ -32,9 +33,9 @@ returns-in_err-literals-clause-moves c =
     let e = ap (terms_of_pairs ts) (c.deref.ensures.value ∙ c.in_ok-pairs.ensures)
     ∙ terms_compared ts c.args.distinct c.arguments_of.result.now
     ∙ ap (compared c.args.distinct) c.arguments_of.ensures.terms in
-    moves_given c.args.adds (λ demand. meet_pairs demand (terms_of_pairs ts c.deref.result.now))
-    (λ demand. meets demand t) c.args.arena.now c.word_literals.new.arena c.args.self.now c.word_literals.new.self
-    (λ demand d. ap (meet_pairs demand) e ∙ met_compared demand c.args.distinct t d)
+    moves_given c.args.adds (λ sorts. have_declared_pairs sorts (terms_of_pairs ts c.deref.result.now))
+    (λ sorts. has_declared sorts t) c.args.arena.now c.word_literals.new.arena c.args.self.now c.word_literals.new.self
+    (λ sorts d. ap (have_declared_pairs sorts) e ∙ declared_compared sorts c.args.distinct t d)
     c.word_literals.ensures.moves
 
 pub returns-clause-moves : goal.returns-clause-moves
@@ -45,9 +46,9 @@ returns-clause-moves c =
     let e = ap (terms_of_pairs ts) (c.deref.ensures.value ∙ c.in_ok-pairs.ensures)
     ∙ terms_compared ts c.args.distinct c.arguments_of.result.now
     ∙ ap (compared c.args.distinct) c.arguments_of.ensures.terms in
-    moves_given c.args.adds (λ demand. meet_pairs demand (terms_of_pairs ts c.deref.result.now))
-    (λ demand. meets demand t) c.args.arena.now c.word_literals.new.arena c.args.self.now c.word_literals.new.self
-    (λ demand d. ap (meet_pairs demand) e ∙ met_compared demand c.args.distinct t d)
+    moves_given c.args.adds (λ sorts. have_declared_pairs sorts (terms_of_pairs ts c.deref.result.now))
+    (λ sorts. has_declared sorts t) c.args.arena.now c.word_literals.new.arena c.args.self.now c.word_literals.new.self
+    (λ sorts d. ap (have_declared_pairs sorts) e ∙ declared_compared sorts c.args.distinct t d)
     c.word_literals.ensures.moves
 
 pub returns-in-Some-clause-moves : goal.returns-in-Some-clause-moves
@@ -58,13 +59,13 @@ returns-in-Some-clause-moves c =
     let e = ap (terms_of_pairs ts) (c.deref.ensures.value ∙ c.in_ok-pairs.ensures)
     ∙ terms_compared ts c.args.distinct c.arguments_of.result.now
     ∙ ap (compared c.args.distinct) c.arguments_of.ensures.terms in
-    moves_both c.args.adds (λ demand. meets demand t) c.args.arena.now c.word_literals.new.arena
+    moves_both c.args.adds (λ sorts. has_declared sorts t) c.args.arena.now c.word_literals.new.arena
     c.word_literals.new.arena c.args.self.now c.word_literals.new.self c.conjunction.new.self
-    (moves_given c.args.adds (λ demand. meet_pairs demand (terms_of_pairs ts c.deref.result.now))
-    (λ demand. meets demand t) c.args.arena.now c.word_literals.new.arena c.args.self.now c.word_literals.new.self
-    (λ demand d. ap (meet_pairs demand) e ∙ met_compared demand c.args.distinct t d)
+    (moves_given c.args.adds (λ sorts. have_declared_pairs sorts (terms_of_pairs ts c.deref.result.now))
+    (λ sorts. has_declared sorts t) c.args.arena.now c.word_literals.new.arena c.args.self.now c.word_literals.new.self
+    (λ sorts d. ap (have_declared_pairs sorts) e ∙ declared_compared sorts c.args.distinct t d)
     c.word_literals.ensures.moves)
-    (moves_gates c.args.adds (λ demand. meets demand t) c.word_literals.new.arena c.word_literals.new.self
+    (moves_gates c.args.adds (λ sorts. has_declared sorts t) c.word_literals.new.arena c.word_literals.new.self
     c.conjunction.new.self c.conjunction.ensures.grows)
 
 pub returns-in-Some-clause-ready : goal.returns-in-Some-clause-ready
@@ -72,7 +73,7 @@ returns-in-Some-clause-ready c =
     let r = c.word_literals.ensures.ready in
     ready_moved c.args.table.now c.word_literals.new.measures c.word_literals.new.normals c.word_literals.new.arena
     c.word_literals.new.arena c.word_literals.new.self c.conjunction.new.self r.right r.normals r.regexes
-    (moves_gates c.args.adds (λ demand. true) c.word_literals.new.arena c.word_literals.new.self
+    (moves_gates c.args.adds (λ sorts. true) c.word_literals.new.arena c.word_literals.new.self
     c.conjunction.new.self c.conjunction.ensures.grows)
 
 pub returns-in-Some-clause-ok : goal.returns-in-Some-clause-ok
