@@ -1,6 +1,6 @@
 -- What is put of an assertion: the lines of its atoms, and its clause.
-use Rattle.sb_refute.proofs.Words.{◌≡◌, ℕ, ◌^◌, ◌<◌, Bool, true, false, nat_eq, if◌then◌else◌, List, [], ◌∷◌, ◌++◌, length, slice_get, Option, Some, None, Ok, IfSome, refl, sym, ap, subst, ◌∙◌, arith, EvidencesUncounted, ◌≢◌, and_from, and_parts, ◌&&◌, lt-ltb, nat_tests, length-map, none-some, same_Some, some-none, Lit, Kept, Regex, Memo, line, AtomOver, follows, AllKept, Asked, with_clause, assertion_line, text_of, is_small, is_small_literal, translation, AssertionLinesAreExact, with_bytes, over, brought_translation, puts_none, puts_one, puts_both, Backing, Backs, IsStatement, KeepsAsserted, asserted_at, unit_at, Asserted, AreDue, IsAssertion, IsClaimed, IsStanding, Leads, LeadsClaimed, placed, Stand, Term, is_structure, Atom, AreDefined}
-use Rattle.sb_script.specs.Brought.{a_statement_of, is_unjoined}
+use Rattle.sb_refute.proofs.Words.{◌≡◌, ℕ, ◌^◌, ◌<◌, Bool, true, false, nat_eq, if◌then◌else◌, List, [], ◌∷◌, ◌++◌, length, slice_get, Option, Some, None, Ok, IfSome, refl, sym, ap, subst, ◌∙◌, arith, EvidencesUncounted, ◌≢◌, and_from, and_parts, ◌&&◌, lt-ltb, nat_tests, length-map, none-some, same_Some, some-none, Lit, Kept, Regex, Memo, line, AtomOver, follows, AllKept, Asked, with_clause, assertion_line, text_of, is_small, is_small_literal, translation, AssertionLinesAreExact, with_bytes, over, atoms_in, brought_translation, puts_none, puts_one, puts_both, Backing, Backs, DefinesAtoms, Traced, Tracks, IsStatement, KeepsAsserted, asserted_at, unit_at, Asserted, AreDue, IsAssertion, IsClaimed, IsStanding, Leads, LeadsClaimed, placed, Stand, Term, is_structure, Atom, AreDefined}
+use Rattle.sb_script.specs.Brought.{a_statement_of}
 use Rattle.sb_script.specs.Brought as script
 use Rattle.sb_script.specs.Fragment.{fits, is_decided}
 use Rattle.sb_script.specs.State as state
@@ -25,8 +25,7 @@ structure-is atoms t l h = step (is_structure t) h
 
 -- what is decided may be stated
 may-be-stated : (t : Term) → is_decided (state.asserted t) ≡ true → is_structure t ≡ true
-may-be-stated t h =
-    (and_parts (is_structure t) (is_unjoined t) (and_parts (is_structure t && is_unjoined t) (fits t) h).0).0
+may-be-stated t h = (and_parts (is_structure t) (fits t) h).0
 
 -- its literal is the assertion's, if it has one
 pub is-statement : (asked : Asked) (atoms : List Atom) (place : ℕ) (t : Term) (found : Option Lit) (level : ℕ)
@@ -65,6 +64,21 @@ pub leads-both : (asked : Asked) (rs : List Regex) (memo : Memo) (e f g : Backin
     → Leads asked rs memo e f x y → Leads asked rs memo f g y z → Leads asked rs memo e g x z
 leads-both asked rs memo e f g x y z first second before b =
     uncounted-both asked before rs rs memo memo f g x y z (first before b) second
+
+-- those of atoms that are new
+pub leads-defined : (asked : Asked) (rs : List Regex) (memo : Memo) (e : Backing) (t : Traced)
+    (first : List (AtomOver ℕ)) (old new : Option (List ℕ))
+    → ((before : AllKept) → Tracks rs memo e.trace before → before.atoms ≡ atoms_in rs first
+    → DefinesAtoms asked before rs memo t e.atoms old new)
+    → Leads asked rs memo (record e { atoms = first }) (record e { trace = t }) old new
+leads-defined asked rs memo e t first old new defines before b =
+    let d = defines before b.tracks b.atoms in
+    record {
+      after = d.after;
+      puts = d.puts;
+      backs = record { tracks = d.tracks; atoms = d.atoms; clauses = d.clauses ∙ b.clauses; asserted = b.asserted };
+      counted = d.counted;
+    }
 
 -- The line of an assertion's clause.
 

@@ -1,22 +1,8 @@
 -- What is kept behind a line backs the evidence, and so does what is kept where levels are left.
-use Rattle.sb_refute.proofs.Words.{◌≡◌, ℕ, inl, inr, List, [], ◌∷◌, ◌++◌, length, map, Option, Some, None, sym, ap, subst, ◌∙◌, same_Some, none-some, Lit, Kept, KeptClause, kept_at, kept_up_to, Regex, Memo, KeepsEntries, AllKept, with_clause, dropped_above, all_dropped, HaveRegexesBelow, atoms_kept, Traced, Tracks, tracks_grow, Asserted, EmptyClause, Backing, Backs, asserted_at, unit_at, AreUpTo, left_above, left_all, placed, Atom}
+use Rattle.sb_refute.proofs.Words.{◌≡◌, ℕ, inl, inr, List, [], ◌∷◌, ◌++◌, length, map, Option, Some, None, sym, ap, subst, ◌∙◌, same_Some, none-some, Lit, Kept, KeptClause, kept_at, kept_up_to, Regex, Memo, KeepsEntries, AllKept, with_clause, dropped_above, all_dropped, HaveRegexesBelow, atoms_kept, tracks_beside, tracks_grow, Asserted, EmptyClause, Backing, Backs, asserted_at, unit_at, AreUpTo, left_above, left_all, placed}
 use Rattle.sb_regex.specs.Numbered as regex
 use Rattle.sb_refute.proofs.Clauses.{front, none-at, kept-stays, stays, kept-last}
 use Rattle.sb_refute.proofs.Places.{placed-cases}
-
--- regexes stay as they are
-pub tracks-beside : (rs : List Regex) (memo : Memo) (t : Traced) (kept : AllKept) (atoms : List Atom) (clauses : Kept)
-    (rests : List (List ℕ)) → Tracks rs memo t kept
-    → Tracks rs memo t (record kept { atoms = atoms; clauses = clauses; rests = rests })
-tracks-beside rs memo t kept atoms clauses rests h = record {
-  numbers = h.numbers;
-  regexes = h.regexes;
-  expansions_long = h.expansions_long;
-  dead_long = h.dead_long;
-  expanded = h.expanded;
-  dead = h.dead;
-  targets = h.targets;
-}
 
 -- the clauses of these assertions are kept
 abbrev pub AreKeptUnits : Kept → List (Option Asserted) → Type 0
@@ -51,7 +37,7 @@ pub backs-clause : (rs : List Regex) (memo : Memo) (e : Backing) (kept : AllKept
       asserted = asserted;
     }) (with_clause kept literals level rests)
 backs-clause rs memo e kept literals level rests asserted units b = record {
-  tracks = tracks-beside rs memo e.trace kept kept.atoms
+  tracks = tracks_beside rs memo e.trace kept kept.atoms
       (kept.clauses ++ Some (record { literals = literals; level = level }) ∷ [])
       (kept.rests ++ rests ∷ []) b.tracks;
   atoms = b.atoms;
@@ -94,7 +80,7 @@ pub backs-left_above : (rs : List Regex) (memo : Memo) (e : Backing) (kept : All
     → AreUpTo level count e.asserted → Backs rs memo e kept
     → Backs rs memo (left_above level count e) (dropped_above level kept)
 backs-left_above rs memo e kept level count up_to b = record {
-  tracks = tracks-beside rs memo e.trace kept kept.atoms (kept_up_to level kept.clauses) kept.rests b.tracks;
+  tracks = tracks_beside rs memo e.trace kept kept.atoms (kept_up_to level kept.clauses) kept.rests b.tracks;
   atoms = b.atoms;
   clauses = ap (kept_up_to level) b.clauses;
   asserted = λ place a h.
@@ -106,7 +92,7 @@ backs-left_above rs memo e kept level count up_to b = record {
 pub backs-left_all : (rs : List Regex) (memo : Memo) (e : Backing) (kept : AllKept) → Backs rs memo e kept
     → Backs rs memo (left_all e) (all_dropped kept)
 backs-left_all rs memo e kept b = record {
-  tracks = tracks-beside rs memo e.trace kept kept.atoms (map (λ clause. None) kept.clauses) kept.rests b.tracks;
+  tracks = tracks_beside rs memo e.trace kept kept.atoms (map (λ clause. None) kept.clauses) kept.rests b.tracks;
   atoms = b.atoms;
   clauses = ap (map (λ clause. None)) b.clauses;
   asserted = λ place a h. absurd (none-some a (sym (none-at place) ∙ h));

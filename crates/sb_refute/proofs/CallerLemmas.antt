@@ -3,8 +3,7 @@
 pub use Rattle.sb_refute.proofs.Backs.{backs-beside, backs-grown}
 pub use Rattle.sb_refute.proofs.Asserting.{leads-none, structure-is, uncounted-both}
 pub use Rattle.sb_refute.proofs.Clauses.{kept-cases, kept-stays, each-reserved, room-for-each}
-pub use Rattle.sb_refute.proofs.Holding.{stand-traced}
+pub use Rattle.sb_refute.proofs.Holding.{stand-atoms, stand-traced}
 pub use Rattle.sb_refute.proofs.GateLines.{cons-cases, not-in-nil}
 pub use Rattle.sb_refute.proofs.GateLiterals.{all-ordered, each-part, of-gate}
--- and of clauses that have only literals of others
-pub use Rattle.sb_refute.proofs.Settled.{covered-stays, covered-turned, gates-stay}
+pub use Rattle.sb_refute.proofs.Settled.{gates-stay}

@@ -1,5 +1,5 @@
 -- What is known of all that stands in a proof stays so where clauses are added and dropped.
-use Rattle.sb_refute.proofs.Words.{kept_at-up_to, ◌≡◌, ℕ, ◌+◌, ◌<◌, ◌≤◌, inl, inr, Bool, true, false, nat_lt, List, [], ◌∷◌, ◌++◌, length, map, take, Option, Some, None, Result, Ok, Err, IfSome, refl, sym, ap, subst, ◌∙◌, arith, length-append, ◌≢◌, OnErr, IfOk, ltb-true, lt-ltb, nat_tests, none-some, all_push, all_weaker, Lit, Kept, KeptClause, are_reserved, is_reserved, has_room_for, AtomOver, Names, Extends, NameEarlier, earlier_none, earlier_more, named_before, Traced, Asserted, EmptyClause, Backing, HasGates, HasGatesOf, IsLowestEmpty, left_above, left_all, Becomes, placed, Stand, is_unjoined_atom, is_well_formed, list_all, slice_get_within}
+use Rattle.sb_refute.proofs.Words.{kept_at-up_to, ◌≡◌, ℕ, ◌+◌, ◌<◌, ◌≤◌, inl, inr, Bool, true, false, nat_lt, List, [], ◌∷◌, ◌++◌, length, map, take, Option, Some, None, Result, Ok, Err, IfSome, refl, sym, ap, subst, ◌∙◌, arith, length-append, ◌≢◌, OnErr, IfOk, ltb-true, lt-ltb, nat_tests, none-some, all_push, all_weaker, Lit, Kept, KeptClause, are_reserved, is_reserved, has_room_for, AtomOver, Names, Extends, NameEarlier, earlier_none, earlier_more, named_before, Traced, Asserted, EmptyClause, Backing, HasGates, HasGatesOf, IsLowestEmpty, left_above, left_all, Becomes, placed, Stand, is_well_formed, slice_get_within}
 use Rattle.sb_refute.proofs.Clauses.{front, none-at, none-kept, kept-stays, each-reserved, room-for-each, stays, none-stays}
 use Rattle.sb_refute.proofs.Lowest.{lowest-more, lowest-left}
 use Rattle.sb_refute.proofs.Places.{placed-cases}
@@ -13,7 +13,6 @@ stand-none t = record {
   of_atoms = λ place a h. absurd (none-some a (sym (none-at place) ∙ h));
   earlier = earlier_none [];
   formed = λ i a h. absurd (none-named i a h);
-  unjoined = refl;
   known = refl;
   lowest = λ id clause h. absurd (none-kept id clause h);
   gates_known = omega arith;
@@ -26,7 +25,6 @@ stand-traced e t h = record {
   of_atoms = h.of_atoms;
   earlier = h.earlier;
   formed = h.formed;
-  unjoined = h.unjoined;
   known = h.known;
   lowest = h.lowest;
   gates_known = h.gates_known;
@@ -47,7 +45,6 @@ stand-clause e clause new some h = record {
   of_atoms = h.of_atoms;
   earlier = h.earlier;
   formed = h.formed;
-  unjoined = h.unjoined;
   known = all_push (is_reserved (length e.atoms)) e.kept (Some clause) h.known new;
   lowest = lowest-more e.kept clause e.refuted some h.lowest;
   gates_known = h.gates_known;
@@ -61,7 +58,6 @@ stand-gates e lacking has h = record {
   of_atoms = h.of_atoms;
   earlier = h.earlier;
   formed = h.formed;
-  unjoined = h.unjoined;
   known = h.known;
   lowest = h.lowest;
   gates_known = omega (arith, lacking);
@@ -85,7 +81,6 @@ stand-placed e place x known h = record {
   ];
   earlier = h.earlier;
   formed = h.formed;
-  unjoined = h.unjoined;
   known = h.known;
   lowest = h.lowest;
   gates_known = h.gates_known;
@@ -99,15 +94,14 @@ literals-grown n m ls more =
 
 pub stand-atoms : (e : Backing) (new : List (AtomOver ℕ)) → Extends e.atoms new → NameEarlier (length e.atoms) new
     → ((i : ℕ) (a : AtomOver ℕ) → length e.atoms ≤ i → Names new i a → is_well_formed a ≡ true)
-    → list_all is_unjoined_atom new ≡ true → Stand e → Stand (record e { atoms = new })
-stand-atoms e new extends fresh formed unjoined h =
+    → Stand e → Stand (record e { atoms = new })
+stand-atoms e new extends fresh formed h =
     let more : length e.atoms ≤ length new = omega (arith, ap length extends.is, length-append e.atoms extends.more) in
     record {
       of_atoms = λ place a there.
           let it = h.of_atoms place a there in omega (arith, it, more);
       earlier = earlier_more 0 e.atoms new extends h.earlier fresh;
       formed = λ i a named. each i a named (nat_lt i (length e.atoms)) refl;
-      unjoined = unjoined;
       known = room-for-each (length new) e.kept
           (λ id c there. literals-grown (length e.atoms) (length new) c.literals more
           (each-reserved (length e.atoms) e.kept h.known id c there));
@@ -135,7 +129,6 @@ stand-left level count e h = record {
   of_atoms = λ place a there. h.of_atoms place a (front e.asserted count place a there).1;
   earlier = h.earlier;
   formed = h.formed;
-  unjoined = h.unjoined;
   known = room-for-each (length e.atoms) (left_above level count e).kept
       (λ id c there. each-reserved (length e.atoms) e.kept h.known id c (kept_at-up_to level e.kept id c there).0);
   lowest = lowest-left level e.kept e.refuted h.lowest;
@@ -150,7 +143,6 @@ stand-left_all e h = record {
   of_atoms = λ place a there. absurd (none-some a (sym (none-at place) ∙ there));
   earlier = h.earlier;
   formed = h.formed;
-  unjoined = h.unjoined;
   known = room-for-each (length e.atoms) (map (λ clause. None) e.kept)
       (λ id c there. absurd (none-stays e.kept id c there));
   lowest = λ id c there. absurd (none-stays e.kept id c there);
@@ -165,7 +157,6 @@ stand-found e n new known lowest h = record {
   of_atoms = h.of_atoms;
   earlier = h.earlier;
   formed = h.formed;
-  unjoined = h.unjoined;
   known = known;
   lowest = lowest;
   gates_known = h.gates_known;

@@ -4,10 +4,8 @@ pub mod Places
 pub mod Backs
 pub mod Lowest
 pub mod Holding
-pub mod Exits
 pub mod GateLiterals
 pub mod GateLines
-pub mod DefinedAtoms
 pub mod Asserting
 pub mod OneAtom
 pub mod Settled

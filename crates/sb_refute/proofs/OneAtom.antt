@@ -1,15 +1,15 @@
 -- An atom that speaks of no literals, behind the others where it is new.
-use Rattle.sb_refute.proofs.Words.{◌≡◌, ℕ, zero, suc, ◌<◌, ◌≤◌, Bool, true, false, nat_lt, List, [], ◌∷◌, ◌++◌, length, refl, sym, subst, ◌∙◌, inl, inr, arith, append-nil, ltb-true, nat_tests, same_Some, slice_get_within, Asked, Atom, AtomOver, bool_atom, has_its_parts, in_atom, is_unjoined_atom, is_well_formed, list_all, named_before, names_below, over, all_push, AreDue, Backing, Extends, HasRegexBelow, HaveRegexesBelow, IsWith, NameEarlier, Names, SpeaksAlone, Stand}
+use Rattle.sb_refute.proofs.Words.{◌≡◌, ℕ, zero, suc, ◌<◌, ◌≤◌, Bool, true, false, nat_lt, List, [], ◌∷◌, ◌++◌, length, refl, sym, subst, ◌∙◌, inl, inr, arith, append-nil, ltb-true, nat_tests, same_Some, slice_get_within, Asked, Atom, AtomOver, bool_atom, has_its_parts, in_atom, is_well_formed, named_before, names_below, over, AreDue, Backing, Extends, HasRegexBelow, HaveRegexesBelow, IsWith, NameEarlier, Names, SpeaksAlone, Stand}
 use Rattle.sb_refute.proofs.Holding.{stand-atoms}
 
 -- that a Bool constant is true, and that no piece is in a regex
 pub bool-alone : (n serial : ℕ) → SpeaksAlone n (bool_atom serial)
 bool-alone n serial =
-    record { regex = tt; earlier = λ i rs. refl; formed = refl; unjoined = refl; brought = refl }
+    record { regex = tt; earlier = λ i rs. refl; formed = refl; brought = refl }
 
 pub end-alone : (n r : ℕ) → r < n → SpeaksAlone n (in_atom [] r)
 end-alone n r low =
-    record { regex = low; earlier = λ i rs. refl; formed = refl; unjoined = refl; brought = refl }
+    record { regex = low; earlier = λ i rs. refl; formed = refl; brought = refl }
 
 pub with_extends : (old new : List (AtomOver ℕ)) (a : AtomOver ℕ) → IsWith old new a → Extends old new
 with_extends old new a (inl same) = record { more = []; is = same ∙ sym (append-nil old) }
@@ -41,14 +41,6 @@ module _ (n : ℕ) (old new : List (AtomOver ℕ)) (a : AtomOver ℕ) (speaks : 
   with_formed i b low h =
       subst (λ (c : AtomOver ℕ). is_well_formed c ≡ true) (sym (new_named old new a b i w low h)) speaks.formed
 
-  with_unjoined : list_all is_unjoined_atom old ≡ true → list_all is_unjoined_atom new ≡ true
-  with_unjoined h = step w
-    where
-      step : IsWith old new a → list_all is_unjoined_atom new ≡ true
-      step (inl same) = subst (λ (atoms : List (AtomOver ℕ)). list_all is_unjoined_atom atoms ≡ true) (sym same) h
-      step (inr more) = subst (λ (atoms : List (AtomOver ℕ)). list_all is_unjoined_atom atoms ≡ true) (sym more)
-          (all_push is_unjoined_atom old a h speaks.unjoined)
-
   -- it is due where its constants are declared
   pub with_due : (asked : Asked) (known : ℕ) → known ≡ length old
       → ((before : List Atom) → has_its_parts asked.sorts before a ≡ true) → AreDue asked known new
@@ -74,4 +66,4 @@ pub stand-one : (n : ℕ) (e : Backing) (new : List (AtomOver ℕ)) (a : AtomOve
     → IsWith e.atoms new a → Stand e → Stand (record e { atoms = new })
 stand-one n e new a speaks w h =
     stand-atoms e new (with_extends e.atoms new a w) (with_earlier n e.atoms new a speaks w)
-    (with_formed n e.atoms new a speaks w) (with_unjoined n e.atoms new a speaks w h.unjoined) h
+    (with_formed n e.atoms new a speaks w) h

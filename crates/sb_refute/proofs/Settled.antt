@@ -4,7 +4,7 @@ use Rattle.sb_lit.specs.declared.clause.ClauseId.{ClauseId}
 use Rattle.sb_proof.specs.Lines.{piece_in}
 use Rattle.sb_proof.specs.declared.atom.Piece as code
 use Rattle.sb_rulebook.specs.Lines as lines
-use Rattle.sb_refute.proofs.Words.{◌≡◌, ℕ, zero, suc, ◌+◌, ◌<◌, ◌≤◌, Bool, true, false, ◌&&◌, ◌||◌, List, [], ◌∷◌, ◌++◌, length, map, take, get_or, slice_get, Option, Some, None, option_map, is_some, Ok, refl, sym, ap, ap₂, subst, ◌∙◌, arith, append-nil, append_assoc, nat_lt, list_all, all_append, all_from_among, all_push, among_negated, and_parts, false≢true, lt-ltb, length-map, map-append, nat_tests, negation, negation_twice, none-some, same_Some, slice_get-get_or, slice_get-map, slice_get_within, some-none, take_more, AllKept, Asked, AtomOver, Atom, Backing, Backs, Evidences, HasGates, HasNoneFalse, IsConflict, IsCounted, IsCover, IsCovered, Kept, KeptClause, KeptStay, Lit, Memo, Piece, Regex, Spending, are_among, are_ascending, are_characters, are_known, are_letters, are_pieces, are_reserved, at_bottom, atoms_in, constant_piece, follows, is_among, is_character, is_false_clause, is_letters, is_repeated, is_same_literal, is_small_literal, is_step, kept_at, letters_in, letters_of, line, most_counted, over, pieces_of_word, puts_one, rule_line, text_of, with_bytes, with_clause, word_in, word_piece}
+use Rattle.sb_refute.proofs.Words.{◌≡◌, ℕ, zero, suc, ◌+◌, ◌<◌, ◌≤◌, Bool, true, false, ◌&&◌, ◌||◌, List, [], ◌∷◌, ◌++◌, length, map, take, get_or, slice_get, Option, Some, None, option_map, is_some, Ok, refl, sym, ap, ap₂, subst, ◌∙◌, arith, append-nil, append_assoc, nat_lt, list_all, all_append, all_from_among, all_push, among_negated, and_parts, false≢true, lt-ltb, length-map, map-append, nat_tests, negation, negation_twice, none-some, same_Some, slice_get-get_or, slice_get-map, slice_get_within, some-none, take_more, AllKept, Asked, AtomOver, Atom, Backing, Backs, Evidences, HasGates, HasNoneFalse, IsConflict, IsCounted, IsCover, IsCovered, Kept, KeptClause, KeptStay, Lit, Memo, Piece, Regex, Spending, are_among, are_ascending, are_characters, are_known, are_letters, are_pieces, are_reserved, at_bottom, atoms_in, constant_piece, follows, is_among, is_character, is_false_clause, is_letters, is_repeated, is_small_literal, is_step, kept_at, letters_in, letters_of, line, most_counted, over, pieces_of_word, puts_one, rule_line, text_of, with_bytes, with_clause, word_in, word_piece}
 use Rattle.sb_refute.proofs.Backs.{backs-clause, units-stay}
 use Rattle.sb_refute.proofs.Clauses.{kept-last, kept-stays}
 
@@ -159,25 +159,6 @@ covered-new kept clause = (
   kept-last kept (at_bottom clause),
   all_from_among (is_among clause) clause (λ l h. h),
 )
-
-pub covered-stays : (old new : Kept) (clause : List Lit) → KeptStay old new → IsCovered old clause
-    → IsCovered new clause
-covered-stays old new clause stay h = (h.0, h.1, stay h.0 h.1 h.2, h.3)
-
-swap : (a b : Bool) → (a || (b || false)) ≡ (b || (a || false))
-swap true true = refl
-swap true false = refl
-swap false true = refl
-swap false false = refl
-
--- the order of two literals does not matter
-pub covered-turned : (kept : Kept) (l m : Lit) → IsCovered kept (l ∷ m ∷ []) → IsCovered kept (m ∷ l ∷ [])
-covered-turned kept l m h = (h.0, h.1, h.2, turned h.1.literals ∙ h.3)
-  where
-    turned : (ls : List Lit) → are_among ls (m ∷ l ∷ []) ≡ are_among ls (l ∷ m ∷ [])
-    turned [] = refl
-    turned (k ∷ ls) =
-        ap₂ (λ a b. a && b) (swap (is_same_literal m k) (is_same_literal l k)) (turned ls)
 
 pub stay-behind : (old more new : Kept) → new ≡ old ++ more → KeptStay old new
 stay-behind old more new is id clause h =

@@ -1,7 +1,6 @@
 -- What the calls that put lines of atoms, gates and assertions come to, where assertions are kept, and the
 -- empty clause of the lowest level.
-use Rattle.std.specs.Prelude.{◌≡◌, ◌≢◌, ℕ, ◌≤◌, zero, suc, Bool, true, false, nat_lt, if◌then◌else◌, List, [], ◌∷◌, length, map, take, slice_get, Option, Some, None, option_map, IfSome, Result, Ok, Err}
-use Rattle.std.specs.Result.{IfOk}
+use Rattle.std.specs.Prelude.{◌≡◌, ◌≢◌, ℕ, zero, suc, Bool, true, false, nat_lt, if◌then◌else◌, List, [], ◌∷◌, length, map, take, slice_get, Option, Some, None, option_map, IfSome, Result, Ok, Err}
 use Rattle.std.specs.declared.alloc.Global.{Global}
 use Rattle.std.specs.declared.vec.Vec.{Vec}
 use Rattle.sb_lit.specs.Kept.{Kept, KeptClause}
@@ -9,59 +8,28 @@ use Rattle.sb_lang.specs.Regex.{Regex}
 use Rattle.sb_lit.specs.Clauses.{are_ascending, negation}
 use Rattle.sb_lit.specs.declared.clause.Lit.{Lit}
 use Rattle.sb_clauses.specs.Propagation.{HasNoneFalse, are_reserved}
-use Rattle.sb_meaning.specs.Terms.{Sort, Term}
+use Rattle.sb_meaning.specs.Terms.{Term}
 use Rattle.sb_deriv.specs.Faithful.{Memo}
 use Rattle.sb_rulebook.specs.Atoms.{Atom, AtomOver, is_well_formed}
-use Rattle.sb_rulebook.specs.AtomRules.{has_its_parts, with_regex}
-use Rattle.sb_rulebook.specs.Brought.{is_brought, is_brought_atom}
+use Rattle.sb_rulebook.specs.AtomRules.{has_its_parts}
+use Rattle.sb_rulebook.specs.Brought.{is_brought_atom}
 use Rattle.sb_script.specs.Brought as script
 use Rattle.sb_script.specs.Pieces.{Piece}
 use Rattle.sb_rulebook.specs.Gates.{is_gate}
 use Rattle.sb_rulebook.specs.Kept.{AllKept, Asked}
-use Rattle.sb_rulebook.specs.Lines.{atom_line}
-use Rattle.sb_rulebook.specs.LineLaws.{atom_has_text}
 use Rattle.sb_rulebook.specs.Tables.{names_below}
 use Rattle.sb_rulebook.specs.Translation.{translation}
 use Rattle.sb_atoms.specs.Numbered.{Names, over, atoms_in, Extends, HasRegexBelow, HaveRegexesBelow, IsWith}
-use Rattle.sb_atoms.specs.Translated.{is_unjoined_atom}
-use Rattle.sb_proof.specs.declared.tape.TapeFault.{TapeFault}
-use Rattle.sb_trace.specs.Putting.{CountsTapeFault}
-use Rattle.sb_trace.specs.Tracking.{Traced, TracesUncounted}
+use Rattle.sb_split.specs.Defining.{AreDue}
 use Rattle.sb_refute.specs.Backing.{Backing, Backs, EvidencesUncounted, HasGates, KeepsAsserted, asserted_at, empty_at}
 use Rattle.sb_refute.specs.Settling.{IsCovered, KeptStay, are_letters, letters_of}
 use Rattle.sb_refute.specs.declared.evidence.Asserted.{Asserted}
 use Rattle.sb_refute.specs.declared.evidence.EmptyClause.{EmptyClause}
 
--- The atoms from this number on are well formed, and name no literal but of the atoms before them, and no constant but
--- declared ones.
-abbrev pub AreDue : Asked → ℕ → List (AtomOver ℕ) → Type 0
-AreDue asked known atoms = (i : ℕ) (a : AtomOver ℕ) → known ≤ i → Names atoms i a → (is_well_formed a ≡ true)
-    × ((before : List Atom) → length before ≡ i → has_its_parts asked.sorts before a ≡ true)
-
--- A call on a tape: P of what it answers, Q whatever it answers, and a fault was counted.
-pub record Called {A : Type 0} (result : Result A TapeFault) (P : A → Type 0) (Q : Type 0) (old new : ℕ) : Type 0 where
-  pub ok : IfOk result P
-  pub rest : Q
-  pub counts : CountsTapeFault result old new
-
 -- what a call makes of a value: that one where it answers, and nothing else where it fails
 abbrev pub Becomes : {T E X : Type 0} → Result T E → X → X → X → Type 0
 Becomes (Ok t) old new that = new ≡ that
 Becomes (Err e) old new that = new ≡ old
-
--- An atom as its line has it, behind the lines of its regex.
-pub record IsLineOf (asked : Asked) (before : AllKept) (rs : List Regex) (memo : Memo) (t : Traced)
-    (a line : AtomOver ℕ) (old new : Option (List ℕ)) : Type 0
-  where
-    pub traced : TracesUncounted asked before rs memo t old new
-    pub defined : with_regex traced.0.regexes line ≡ Some (over rs a)
-    pub brought : is_brought (atom_line line) ≡ true
-    pub parts : (sorts : List Sort) (atoms : List Atom) → has_its_parts sorts atoms line ≡ has_its_parts sorts atoms a
-    pub text : atom_has_text line ≡ true
-
--- the line is that of the atom, which names no regex
-abbrev pub IsWritten : AtomOver ℕ → AtomOver ℕ → Type 0
-IsWritten a line = (line ≡ a) × (atom_has_text line ≡ true)
 
 -- Lines lead from one evidence to another: what a reader keeps that backs the one is followed by what backs the other.
 abbrev pub Leads : Asked → List Regex → Memo → Backing → Backing → Option (List ℕ) → Option (List ℕ) → Type 0
@@ -139,12 +107,11 @@ lower_of (Some one) (Some other) = if nat_lt other.level one.level then Some oth
 
 -- An atom that speaks of no literals.
 
--- its regex is one of so many, it is well formed, and it joins no constants
+-- its regex is one of so many, and it is well formed
 pub record SpeaksAlone (n : ℕ) (a : AtomOver ℕ) : Type 0 where
   pub regex : HasRegexBelow n a
   pub earlier : (i : ℕ) (rs : List Regex) → names_below i (over rs a) ≡ true
   pub formed : is_well_formed a ≡ true
-  pub unjoined : is_unjoined_atom a ≡ true
   pub brought : is_brought_atom a ≡ true
 
 -- The atom has the number, behind the others where it is new, and stands in the proof, with the clauses of the gates of

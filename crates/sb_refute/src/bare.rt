@@ -14,15 +14,16 @@ ghost use Rattle.sb_proof.specs.Lines.{atom_in, piece_in};
 ghost use Rattle.sb_proof.specs.Tapes.{with_bytes};
 ghost use Rattle.sb_atoms.specs.Numbered.{HaveRegexesBelow};
 ghost use Rattle.sb_trace.specs.Putting.{CountsTapeFault};
+ghost use Rattle.sb_split.specs.Defining.{Called};
 ghost use Rattle.sb_refute.specs.Settling.{IsBare, IsBareAtom, Steps, word_in};
-ghost use Rattle.sb_refute.specs.Lines.{Called, IsAlone, IsCover, IsLettersOf, at_bottom};
+ghost use Rattle.sb_refute.specs.Lines.{IsAlone, IsCover, IsLettersOf, at_bottom};
 
-use crate::defining::{copied, put_line};
 use crate::evidence::Evidence;
 use sb_atoms::AtomId;
 use sb_lit::{Budget, Lit};
 use sb_proof::{Atom, Line, Piece, Rule, Tape, TapeFault};
 use sb_regex::{Arena, RegexId};
+use sb_split::{copied_literals, put_line};
 use smallvec::SmallVec;
 use std::alloc::{AllocError, Global};
 
@@ -125,7 +126,7 @@ impl Evidence {
         if !proves {
             return Ok(());
         }
-        let all = copied(self.alloc, literals)?;
+        let all = copied_literals(self.alloc, literals)?;
         put_line(Line::Rule(Rule::Step, all), tape)
     }
 }

@@ -8,7 +8,6 @@ ghost use Rattle.sb_deriv.specs.Faithful.{Memo};
 ghost use Rattle.sb_term.specs.Numbered.{term_at};
 ghost use Rattle.sb_store.specs.Stores.{Grows, IsStoreOf};
 ghost use Rattle.sb_meaning.specs.Terms.{boolean};
-ghost use Rattle.sb_script.specs.Brought.{is_unjoined};
 ghost use Rattle.sb_rulebook.specs.AtomRules.{is_declared};
 ghost use Rattle.sb_rulebook.specs.Atoms.{bool_atom};
 ghost use Rattle.sb_rulebook.specs.Kept.{AllKept, Asked, nothing_kept, dropped_above, all_dropped};
@@ -16,13 +15,13 @@ ghost use Rattle.sb_atoms.specs.Numbered.{atoms_in, HaveRegexesBelow, Extends, I
 ghost use Rattle.sb_atoms.specs.Translated.{brought_translation, AreDefined, HasNoLiteral};
 ghost use Rattle.sb_trace.specs.Putting.{CountsTapeFault};
 ghost use Rattle.sb_trace.specs.Tracking.{OnlyNumbers};
+ghost use Rattle.sb_split.specs.Defining.{AreDue, Called};
 ghost use Rattle.sb_refute.specs.Backing.{backing_of, IsLowestEmpty, HasGates, Backs, EvidencesUncounted, IsStatement, KeepsAsserted, AreUpTo, asserted_at, empty_at, left_above, refuted_up_to, left_all};
-ghost use Rattle.sb_refute.specs.Lines.{AreDue, Becomes, Called, IsAlone, IsClaimed, IsStanding, Leads, LeadsClaimed, LeadsFrom, SpeaksAlone, placed, IsEmptyOf, lower_of};
+ghost use Rattle.sb_refute.specs.Lines.{Becomes, IsAlone, IsClaimed, IsStanding, Leads, LeadsClaimed, LeadsFrom, SpeaksAlone, placed, IsEmptyOf, lower_of};
 ghost use Rattle.sb_proof.specs.Lines.{atom_in};
 ghost use Rattle.sb_refute.specs.Standing.{Stand};
 ghost use Rattle.sb_refute.specs.Assuming.{Says, literals_at};
 
-use crate::defining::{define_atoms, put_line};
 use sb_atoms::Atoms;
 use sb_clauses::{Clauses, Engine};
 use sb_lit::{Clause, ClauseId, Lit};
@@ -30,6 +29,7 @@ use sb_proof::{Atom, Line, Tape, TapeFault};
 use sb_regex::{Arena, RegexId};
 use sb_search::Choices;
 use sb_sound::clauses::assertion_lines_are_exact;
+use sb_split::{define_atoms, put_line};
 use sb_store::{Store, regexes_grow};
 use sb_term::{Serial, Table, TermId};
 use sb_trace::Trace;
@@ -226,7 +226,6 @@ impl Evidence {
         tape: &mut L,
     ) -> Result<Option<Asserted>, TapeFault>
         requires number { term < length table.now }
-        requires unjoined { is_unjoined (term_at table.now term) ≡ true }
         requires store { IsStoreOf table.now store.old }
         requires regexes { HaveRegexesBelow (length store.old.arena) self.old.atoms }
         ensures puts { OnOk result ((asked : Asked) (memo : Memo) (before : AllKept)

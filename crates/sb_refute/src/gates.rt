@@ -2,17 +2,18 @@
 
 ghost use Rattle.std.specs.Prelude.{◌≡◌, ◌<◌, ◌+◌, ◌++◌, ◌∷◌, [], true, false, length, All, IfOk};
 ghost use Rattle.sb_atoms.specs.GateClauses.{gate_clauses, atom_at};
+ghost use Rattle.sb_split.specs.Defining.{Called};
 ghost use Rattle.sb_refute.specs.Backing.{HasGatesOf};
-ghost use Rattle.sb_refute.specs.Lines.{Called, IsOfGates, LeadsAlways, at_bottom};
+ghost use Rattle.sb_refute.specs.Lines.{IsOfGates, LeadsAlways, at_bottom};
 ghost use Rattle.sb_refute.specs.Settling.{KeptStay};
 
-use crate::defining::{copied, put_line};
 use crate::evidence::Evidence;
 use sb_atoms::{AtomId, gate_clauses};
 use sb_lit::{Clause, Lit};
 use sb_proof::{Line, Rule, Tape, TapeFault};
 use sb_sound::clauses::rule_lines_are_exact;
 use sb_sound::gates::gates_are_exact;
+use sb_split::{copied_literals, put_line};
 use std::alloc::AllocError;
 
 impl Evidence {
@@ -79,7 +80,7 @@ impl Evidence {
     {
         rule_lines_are_exact();
         gates_are_exact();
-        let literals = copied(self.alloc, clause.literals())?;
+        let literals = copied_literals(self.alloc, clause.literals())?;
         self.add(clause.literals(), 0)?;
         put_line(Line::Rule(Rule::Gate, literals), tape)
     }

@@ -4,7 +4,7 @@ use Rattle.std.proofs.lemmas.Bool.Decides.{nat_tests}
 use Rattle.std.specs.Prelude.{nat_lt}
 use Rattle.sb_facts.proofs.CallerLemmas.{get_push}
 use Rattle.sb_regex.specs.Numbered as regex
-use Rattle.sb_split.proofs.Words.{Bool, List, [], ap, append_assoc, arith, false, inl, inr, length, refl, subst, suc, sym, true, zero, ℕ, ◌++◌, ◌<◌, ◌∙◌, ◌∷◌, ◌≡◌, ◌≤◌, ◌⊎◌, Adds, AreDefined, Atom, AtomOver, Extends, HasRegexBelow, HaveRegexesBelow, IsWith, Names, Piece, Regex, Sort, and_from, and_parts, append-nil, are_pieces, bool_atom, constant_piece, declares, declares_at, earlier_more, earlier_none, extends_more, extends_same, get_or_from_slice_get, has_its_parts, in_atom, is_declared_piece, is_well_formed, list_all, named_before, over, regexes_kept, slice_get_within}
+use Rattle.sb_split.proofs.Words.{Bool, List, [], ap, append_assoc, arith, false, inl, inr, length, refl, subst, suc, sym, true, zero, ℕ, ◌++◌, ◌<◌, ◌∙◌, ◌∷◌, ◌≡◌, ◌≤◌, ◌⊎◌, Adds, AreDefined, AreMemberships, Atom, AtomOver, Extends, HasRegexBelow, HaveRegexesBelow, IsMembership, IsWith, Names, Piece, Regex, Sort, and_from, and_parts, append-nil, are_pieces, bool_atom, constant_piece, declares, declares_at, earlier_more, earlier_none, extends_more, extends_same, get_or_from_slice_get, has_its_parts, in_atom, is_declared_piece, is_well_formed, list_all, named_before, over, regexes_kept, slice_get_within}
 use Rattle.sb_rulebook.specs.Tables as tables
 
 -- Names that stay.
@@ -24,11 +24,11 @@ names_more old new i a e h =
 
 -- Nothing is added to the table.
 
+none_behind : (atoms : List (AtomOver ℕ)) (i : ℕ) (a : AtomOver ℕ) → length atoms ≤ i → Names atoms i a → ⊥
+none_behind atoms i a low h = omega (arith, low, slice_get_within atoms i a h)
+
 nothing_new : (given : List Sort → Bool) (atoms : List (AtomOver ℕ)) → AreDefined given atoms atoms
-nothing_new given atoms i a low h = absurd (none (slice_get_within atoms i a h))
-  where
-    none : i < length atoms → ⊥
-    none within = omega (arith, low, within)
+nothing_new given atoms i a low h = absurd (none_behind atoms i a low h)
 
 pub adds_arena : (given : List Sort → Bool) (rs ss : List Regex) (atoms : List (AtomOver ℕ)) → regex.Extends rs ss
     → HaveRegexesBelow (length rs) atoms → Adds given rs ss atoms atoms
@@ -36,6 +36,7 @@ adds_arena given rs ss atoms e h = record {
   arena = e;
   atoms = record { more = []; is = sym (append-nil atoms) };
   regexes = regexes_kept rs ss atoms e h;
+  members = λ i a low h. absurd (none_behind atoms i a low h);
   earlier = earlier_none atoms;
   defined = nothing_new given atoms;
 }
@@ -61,6 +62,10 @@ adds_member rs old new ps r (inr one) formed low h = record {
   regexes = λ i a names. elim (there i a names) [
     | inl before ↦ h i a before
     | inr last ↦ subst (HasRegexBelow (length rs)) (sym last.1) low
+  ];
+  members = λ i a from names. elim (there i a names) [
+    | inl before ↦ absurd (early i a from before)
+    | inr last ↦ record { pieces = ps; regex = r; is = last.1 }
   ];
   earlier = λ i a from names ss. elim (there i a names) [
     | inl before ↦ absurd (early i a from before)
@@ -97,6 +102,18 @@ defined_both given old mid new e p q = λ i a low h. step i a low h (nat_lt i (l
         (subst (λ (atoms : List (AtomOver ℕ)). Names atoms i a) e.is h))
     step i a low h false is = q i a (grind (arith, nat_tests)) h
 
+members_both : (old mid new : List (AtomOver ℕ)) → Extends mid new → AreMemberships old mid → AreMemberships mid new
+    → AreMemberships old new
+members_both old mid new e p q = λ i a low h. step i a low h (nat_lt i (length mid)) refl
+  where
+    step : (i : ℕ) (a : AtomOver ℕ) → length old ≤ i → Names new i a → (b : Bool) → nat_lt i (length mid) ≡ b
+        → IsMembership a
+    step i a low h true is =
+        p i a low
+        (named_before mid e.more i a (ltb-true i (length mid) is)
+        (subst (λ (atoms : List (AtomOver ℕ)). Names atoms i a) e.is h))
+    step i a low h false is = q i a (grind (arith, nat_tests)) h
+
 pub adds_both : (given : List Sort → Bool) (rs ss ts : List Regex) (old mid new : List (AtomOver ℕ))
     → Adds given rs ss old mid → Adds given ss ts mid new → Adds given rs ts old new
 adds_both given rs ss ts old mid new p q = record {
@@ -106,6 +123,7 @@ adds_both given rs ss ts old mid new p q = record {
     is = q.atoms.is ∙ ap (λ xs. xs ++ q.atoms.more) p.atoms.is ∙ append_assoc old p.atoms.more q.atoms.more;
   };
   regexes = q.regexes;
+  members = members_both old mid new q.atoms p.members q.members;
   earlier = earlier_more (length old) mid new q.atoms p.earlier q.earlier;
   defined = defined_both given old mid new q.atoms p.defined q.defined;
 }
@@ -118,6 +136,7 @@ adds_given given wider rs ss old new f h = record {
   arena = h.arena;
   atoms = h.atoms;
   regexes = h.regexes;
+  members = h.members;
   earlier = h.earlier;
   defined = λ i a low names.
       let d = h.defined i a low names in (d.0, λ sorts before is. d.1 sorts before (f sorts is));

@@ -1,8 +1,19 @@
--- What a caller cites of tables that grow, of the literals in clauses of steps, and of paths and guards that stay.
-use Rattle.sb_split.proofs.Words.{List, [], ◌∷◌, ◌<◌, length, not, slice_get_within, All-cons, All-contains, All-nil, Atom, Contains, IsStep, Lit, constant_piece, in_atom, minus, mkpath, nd_along, of_constant, of_not_nullable, of_nullable, of_sign, of_word, plus, word_piece}
+-- What a caller cites of tables that grow, of the literals in clauses of steps, of paths and guards that stay, and of
+-- the lines of atoms.
+use Rattle.sb_split.proofs.Words.{Bool, List, [], ◌∷◌, ◌≡◌, ◌<◌, arith, length, not, true, ℕ, Adds, AreDue, Asked, AtomOver, Regex, Sort, slice_get_within, All-cons, All-contains, All-nil, Atom, Contains, IsStep, Lit, constant_piece, in_atom, minus, mkpath, nd_along, of_constant, of_not_nullable, of_nullable, of_sign, of_word, plus, word_piece}
 pub use Rattle.sb_split.proofs.AddedFacts.{names_more, adds_none, adds_arena, adds_both, adds_given}
-pub use Rattle.sb_split.proofs.StepFacts.{named_over}
+pub use Rattle.sb_split.proofs.OrderFacts.{set_ordered}
+pub use Rattle.sb_split.proofs.StepFacts.{IsLead, IsRest, lead_known, named_at, named_over, rest_known, step_is, step_lead, step_other, step_rest}
 pub use Rattle.sb_split.proofs.CoverFacts.{about_later, path_later, paths_later, covers_later}
+pub use Rattle.sb_split.proofs.DefinedAtoms.{take_known, tracks_beside}
+pub use Rattle.sb_split.proofs.Exits.{called_none, called_on}
+
+-- what is added is due, where the constants are declared
+pub due_added : (asked : Asked) (given : List Sort → Bool) (rs ss : List Regex) (old new : List (AtomOver ℕ))
+    (known : ℕ) → known ≡ length old → given asked.sorts ≡ true → Adds given rs ss old new → AreDue asked known new
+due_added asked given rs ss old new known is declared added = λ i a low names.
+    let it = added.defined i a (omega (arith, is, low)) names in
+    (it.0, λ before long. it.1 asked.sorts before declared)
 
 -- the atom of each literal is in the table
 pub step_known : (atoms : List Atom) (clause : List Lit) → IsStep atoms clause → (l : Lit) → Contains clause l

@@ -5,7 +5,7 @@ use Rattle.std.proofs.lemmas.Bool.Decides.{nat_tests}
 use Rattle.std.proofs.lemmas.List.Sums.{AllPass-from_list_all}
 use Rattle.sb_word.specs.Words.{is_character}
 use Rattle.sb_proof.specs.declared.atom.Piece as code
-use Rattle.sb_split.proofs.Words.{◌++◌, IsConstantFront, IsWordFront, in_atom, is_whole, true≢false, List, [], ◌∷◌, ◌≡◌, ◌∙◌, ◌+◌, ◌-◌, ◌<◌, ◌≤◌, ap, ap₂, arith, drop, false, get_or, length, map, refl, sym, take, true, ℕ, Piece, and_parts, are_characters, are_pieces, constant_piece, false≢true, map-append, piece_in, take_all, take_more, word_piece}
+use Rattle.sb_split.proofs.Words.{IsConstantFront, IsWordFront, in_atom, is_whole, true≢false, List, [], ◌∷◌, ◌≡◌, ◌∙◌, ◌-◌, ◌<◌, ◌≤◌, ap, ap₂, arith, drop, false, get_or, length, map, refl, sym, take, true, ℕ, Piece, and_parts, are_characters, are_pieces, constant_piece, false≢true, piece_in, take_all, word_piece}
 
 -- a word in front of pieces, and these
 pub word_parts : (w : List ℕ) (ps : List Piece) → are_pieces (word_piece w ∷ ps) ≡ true
@@ -21,21 +21,7 @@ parted [] x low is = absurd (omega (arith, low))
 parted (y ∷ xs) x low is =
     ap₂ (λ z zs. z ∷ zs) (sym is) (sym (take_all (length (y ∷ xs) - 1) xs (omega arith)))
 
--- Pieces that are copied, and a character of a word.
-
-pub piece_more : (ps : List code.Piece) (i : ℕ) (d : code.Piece) (now new : List code.Piece) (p : code.Piece)
-    → i < length ps → map piece_in now ≡ map piece_in (take i ps) → piece_in p ≡ piece_in (get_or ps i d)
-    → new ≡ now ++ p ∷ [] → map piece_in new ≡ map piece_in (take (i + 1) ps)
-piece_more ps i d now new p within before is pushed =
-    ap (map piece_in) pushed
-    ∙ map-append piece_in now (p ∷ [])
-    ∙ ap₂ (λ (xs : List Piece) (x : Piece). xs ++ x ∷ []) before is
-    ∙ sym (map-append piece_in (take i ps) (get_or ps i d ∷ []))
-    ∙ ap (map piece_in) (sym (take_more ps i d within))
-
-pub pieces_done : (ps : List code.Piece) (i : ℕ) (all : List code.Piece) → length ps ≤ i
-    → map piece_in all ≡ map piece_in (take i ps) → map piece_in all ≡ map piece_in ps
-pieces_done ps i all past before = before ∙ ap (map piece_in) (take_all i ps past)
+-- A character of a word.
 
 at_most : (n m : ℕ) → nat_le n m ≡ true → n ≤ m
 at_most n m h = grind (arith, nat_tests)

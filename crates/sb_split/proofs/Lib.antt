@@ -5,4 +5,6 @@ pub mod StepFacts
 pub mod FrontFacts
 pub mod CoverFacts
 pub mod OnlyFacts
+pub mod Exits
+pub mod DefinedAtoms
 pub mod CallerLemmas

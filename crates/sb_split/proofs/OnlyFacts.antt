@@ -2,9 +2,9 @@
 use Rattle.std.proofs.Common.{length-append}
 use Rattle.std.proofs.lemmas.Bool.{ltb-true}
 use Rattle.std.proofs.lemmas.Bool.Decides.{nat_tests}
-use Rattle.std.specs.Prelude.{nat_lt}
+use Rattle.std.specs.Prelude.{nat_lt, IsSomeAnd}
 use Rattle.sb_atoms.specs.Numbered as atoms
-use Rattle.sb_split.proofs.Words.{All, All-cons, All-contains, All-nil, ap₂, Bool, List, Some, [], ap, arith, false, inl, inr, length, refl, slice_get, subst, sym, true, ℕ, ◌++◌, ◌<◌, ◌∙◌, ◌∷◌, ◌≡◌, ◌≤◌, AreOf, AreSpokenOf, AtomOver, Contains, Contains-append_left, Contains-append_right, IsOneOf, IsWith, Lit, Names, in_order, negation}
+use Rattle.sb_split.proofs.Words.{All, All-cons, All-contains, All-nil, ap₂, Bool, List, None, Option, Some, [], ap, arith, false, inl, inr, length, refl, slice_get, subst, sym, true, ℕ, ◌++◌, ◌<◌, ◌∙◌, ◌∷◌, ◌≡◌, ◌≤◌, AreOf, AreOfStep, AreSpokenOf, AtomOver, Contains, Contains-append_left, Contains-append_right, IsOneOf, IsStepOver, IsWith, Lit, Names, Step, in_order, negation}
 use Rattle.sb_split.proofs.OrderFacts.{set_ordered}
 
 last_there : (old : List (AtomOver ℕ)) (a : AtomOver ℕ) → slice_get (old ++ a ∷ []) (length old) ≡ Some a
@@ -83,27 +83,36 @@ spoken_none old clauses = λ i low high. absurd (none i low high)
 
 -- Of the literals of steps, and of pairs.
 
-pub spoken_cuts : (old new : List (AtomOver ℕ)) (whole rest : Lit) (clauses others : List (List Lit))
-    → AreOf old new (rest ∷ []) → clauses ≡ in_order (whole ∷ rest ∷ []) ∷ others → AreSpokenOf old new clauses
-spoken_cuts old new whole rest clauses others h are =
-    let ls = whole ∷ rest ∷ [] in
-    spoken_first old new ls (in_order ls) clauses others
-    (of_more old new (rest ∷ []) ls
-    (All-cons (λ l. IsOneOf ls l.atom) rest [] (record { literal = rest; among = second_in whole rest []; is = refl })
-    (All-nil (λ l. IsOneOf ls l.atom))) h) refl are
+pub step_none : (old : List (AtomOver ℕ)) (answer : Option Step) → AreOfStep old old answer
+step_none old None = refl
+step_none old (Some step) = spoken_none old (step.clause ∷ [])
 
-pub spoken_splits : (old mid new : List (AtomOver ℕ)) (front whole rest : Lit) (clauses others : List (List Lit))
-    → AreOf old mid (front ∷ []) → AreOf mid new (rest ∷ [])
-    → clauses ≡ in_order (negation front ∷ whole ∷ rest ∷ []) ∷ others → AreSpokenOf old new clauses
-spoken_splits old mid new front whole rest clauses others h k are =
-    let ls = negation front ∷ whole ∷ rest ∷ [] in
-    spoken_first old new ls (in_order ls) clauses others
-    (of_more old new (front ∷ rest ∷ []) ls
-    (All-cons (λ l. IsOneOf ls l.atom) front (rest ∷ [])
-    (record { literal = negation front; among = first_in (negation front) (whole ∷ rest ∷ []); is = refl })
-    (All-cons (λ l. IsOneOf ls l.atom) rest []
-    (record { literal = rest; among = third_in (negation front) whole rest []; is = refl })
-    (All-nil (λ l. IsOneOf ls l.atom)))) (of_both old mid new (front ∷ []) (rest ∷ []) h k)) refl are
+pub step_word : (old new : List (AtomOver ℕ)) (behind refused rest : Lit) (lead last : Option Lit)
+    (answer : Option Step) → AreOf old new (behind ∷ []) → rest.atom ≡ behind.atom
+    → IsSomeAnd answer (IsStepOver (refused ∷ rest ∷ []) lead last) → AreOfStep old new answer
+step_word old new behind refused rest lead last None h same over = absurd over
+step_word old new behind refused rest lead last (Some step) h same over =
+    let ls = refused ∷ rest ∷ [] in
+    spoken_first old new ls step.clause (step.clause ∷ []) []
+    (of_more old new (behind ∷ []) ls
+    (All-cons (λ l. IsOneOf ls l.atom) behind []
+    (record { literal = rest; among = second_in refused rest []; is = same })
+    (All-nil (λ l. IsOneOf ls l.atom))) h) over.clause refl
+
+pub step_constant : (old mid new : List (AtomOver ℕ)) (front behind unless refused rest : Lit) (lead last : Option Lit)
+    (answer : Option Step) → AreOf old mid (front ∷ []) → AreOf mid new (behind ∷ []) → unless ≡ negation front
+    → rest.atom ≡ behind.atom → IsSomeAnd answer (IsStepOver (unless ∷ refused ∷ rest ∷ []) lead last)
+    → AreOfStep old new answer
+step_constant old mid new front behind unless refused rest lead last None h k turned same over = absurd over
+step_constant old mid new front behind unless refused rest lead last (Some step) h k turned same over =
+    let ls = unless ∷ refused ∷ rest ∷ [] in
+    spoken_first old new ls step.clause (step.clause ∷ []) []
+    (of_more old new (front ∷ behind ∷ []) ls
+    (All-cons (λ l. IsOneOf ls l.atom) front (behind ∷ [])
+    (record { literal = unless; among = first_in unless (refused ∷ rest ∷ []); is = ap (λ l. l.atom) turned })
+    (All-cons (λ l. IsOneOf ls l.atom) behind []
+    (record { literal = rest; among = third_in unless refused rest []; is = same })
+    (All-nil (λ l. IsOneOf ls l.atom)))) (of_both old mid new (front ∷ []) (behind ∷ []) h k)) over.clause refl
 
 pub spoken_pair : (old mid new : List (AtomOver ℕ)) (first second one other : Lit) (clause : List Lit)
     → AreOf old mid (first ∷ []) → AreOf mid new (second ∷ []) → one ≡ negation first → other ≡ negation second

@@ -3,7 +3,7 @@ use Rattle.std.specs.declared.cmp.Ordering.{Ordering}
 use Rattle.std.specs.declared.cmp.Ordering.TheVariants.{Less, Equal, Greater}
 use Rattle.std.specs.Ordering.{match_ordering}
 use Rattle.std.proofs.lemmas.Map.Views.{All-insert_key}
-use Rattle.sb_split.proofs.Words.{◌∷◌, ◌≡◌, List, [], refl, sym, subst, All, All-cons, All-contains, All-contains_itself, All-head, All-nil, All-tail, Ascend, Contains, IsSetOf, Lit, ascend_form, in_order, literal_order, order_ascends, same_literal, with_literal}
+use Rattle.sb_split.proofs.Words.{arith, ◌∷◌, ◌≡◌, ◌≢◌, List, [], refl, sym, subst, All, All-cons, All-contains, All-contains_itself, All-head, All-nil, All-tail, Ascend, Contains, IsSetOf, Lit, ascend_form, in_order, literal_order, order_ascends, same_literal, with_literal}
 
 module _ (P : Lit → Type 0) where
   with_kept : (l : Lit) (ms : List Lit) → All P (with_literal l ms) → P l × All P ms
@@ -39,3 +39,10 @@ set_ordered ls = record {
 
 pub ascend_ordered : (ls : List Lit) → Ascend (in_order ls)
 ascend_ordered ls = ascend_form (in_order ls) (order_ascends ls)
+
+pub some_ordered : (l : Lit) (ls : List Lit) → in_order (l ∷ ls) ≢ []
+some_ordered l ls = λ is.
+    none (subst (λ all. Contains all l) is ((set_ordered (l ∷ ls)).has_all l (0, omega (arith), refl)))
+  where
+    none : Contains [] l → ⊥
+    none it = omega (arith, it.1)

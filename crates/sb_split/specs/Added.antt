@@ -6,7 +6,7 @@ use Rattle.sb_rulebook.specs.Atoms.{is_well_formed}
 use Rattle.sb_rulebook.specs.AtomRules.{has_its_parts, is_declared}
 use Rattle.sb_atoms.specs.Numbered.{Extends, NameEarlier}
 use Rattle.std.specs.List.{Contains}
-use Rattle.sb_split.specs.Words.{Lit, Atom, AtomOver, HaveRegexesBelow, Names, Regex, bool_atom}
+use Rattle.sb_split.specs.Words.{Lit, Atom, AtomOver, HaveRegexesBelow, Names, Piece, Regex, bool_atom, in_atom}
 
 -- the constants of the membership of a number are declared
 abbrev pub declares_at : List (AtomOver ℕ) → ℕ → List Sort → Bool
@@ -22,11 +22,22 @@ AreDefined given old new = (i : ℕ) (atom : AtomOver ℕ) → length old ≤ i 
     → (is_well_formed atom ≡ true)
     × ((sorts : List Sort) (before : List Atom) → given sorts ≡ true → has_its_parts sorts before atom ≡ true)
 
--- The arena and the table are larger; each new atom names no literal, and is defined.
+-- the atom is a membership
+pub record IsMembership (a : AtomOver ℕ) : Type 0 where
+  pub pieces : List Piece
+  pub regex : ℕ
+  pub is : a ≡ in_atom pieces regex
+
+-- so is each atom behind the old ones
+abbrev pub AreMemberships : List (AtomOver ℕ) → List (AtomOver ℕ) → Type 0
+AreMemberships old new = (i : ℕ) (atom : AtomOver ℕ) → length old ≤ i → Names new i atom → IsMembership atom
+
+-- The arena and the table are larger; each new atom is a membership, names no literal, and is defined.
 pub record Adds (given : List Sort → Bool) (rs ss : List Regex) (old new : List (AtomOver ℕ)) : Type 0 where
   pub arena : regex.Extends rs ss
   pub atoms : Extends old new
   pub regexes : HaveRegexesBelow (length ss) new
+  pub members : AreMemberships old new
   pub earlier : NameEarlier (length old) new
   pub defined : AreDefined given old new
 

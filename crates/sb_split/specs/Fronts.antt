@@ -1,13 +1,14 @@
 -- Private: a membership taken apart at its first piece, and what is made of it.
-use Rattle.std.specs.Prelude.{◌≡◌, ◌≤◌, ◌<◌, length, ℕ, Bool, true, false, List, [], ◌∷◌, ◌++◌, map}
+use Rattle.std.specs.Prelude.{◌≡◌, ◌≤◌, ◌<◌, length, ℕ, Bool, true, false, List, [], ◌∷◌, ◌++◌, map, Option}
 use Rattle.std.specs.List.{Contains}
 use Rattle.sb_word.specs.Words.{IsWord}
 use Rattle.sb_rulebook.specs.Atoms.{are_pieces}
 use Rattle.sb_proof.specs.Lines.{piece_in}
 use Rattle.sb_split.specs.Covers.{ArePaths}
-use Rattle.sb_split.specs.Words.{AtomOver, Lit, Names, Piece, Regex, constant_piece, in_atom, word_piece}
+use Rattle.sb_split.specs.Words.{AtomOver, Lit, Names, Piece, Regex, constant_piece, in_atom, in_order, word_piece}
 use Rattle.sb_split.specs.declared.fronts.Front.{Front}
 use Rattle.sb_split.specs.declared.fronts.Front.TheVariants as front
+use Rattle.sb_split.specs.declared.stepping.Step.{Step}
 
 -- a word and more pieces are in the regex
 pub record IsWordFront (atom : AtomOver ℕ) (w : List ℕ) (ps : List Piece) (r : ℕ) : Type 0 where
@@ -35,6 +36,18 @@ IsFrontOf atom (front.End r) = atom ≡ in_atom [] r
 IsFrontOf atom (front.Word w rest r) = IsWordFront atom w.items (map piece_in rest.items) r
 IsFrontOf atom (front.Constant x rest r) = IsConstantFront atom x (map piece_in rest.items) r
 IsFrontOf atom front.Other = is_whole atom ≡ true
+
+-- so of the atom of a number
+pub record IsFrontAt (atoms : List (AtomOver ℕ)) (i : ℕ) (f : Front) : Type 0 where
+  pub atom : AtomOver ℕ
+  pub names : Names atoms i atom
+  pub is : IsFrontOf atom f
+
+-- the step has these literals
+pub record IsStepOver (ls : List Lit) (first last : Option Lit) (step : Step) : Type 0 where
+  pub clause : step.clause ≡ in_order ls
+  pub lead : step.lead ≡ first
+  pub rest : step.rest ≡ last
 
 -- the literal is positive, of this atom
 pub record IsMember (atoms : List (AtomOver ℕ)) (atom : AtomOver ℕ) (l : Lit) : Type 0 where

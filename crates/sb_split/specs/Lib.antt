@@ -3,3 +3,4 @@ pub mod Added
 pub mod Steps
 pub mod Covers
 pub mod Fronts
+pub mod Defining

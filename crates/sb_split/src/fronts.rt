@@ -7,6 +7,7 @@ ghost use Rattle.sb_proof.specs.Lines.{atom_in, piece_in};
 ghost use Rattle.sb_split.specs.Words.{constant_piece, in_atom, word_piece};
 ghost use Rattle.sb_split.specs.Fronts.{IsFrontOf};
 
+use crate::defining::copied_pieces;
 use sb_proof::{Atom, Piece};
 use sb_regex::RegexId;
 use smallvec::SmallVec;
@@ -78,7 +79,7 @@ fn constant_front(
     if behind.is_empty() {
         return Ok(Front::Other);
     }
-    let rest = copied(alloc, behind)?;
+    let rest = copied_pieces(alloc, behind)?;
     Ok(Front::Constant(serial, rest, regex))
 }
 
@@ -94,7 +95,7 @@ fn word_front(
     ensures { IfOk result (IsFrontOf (in_atom (word_piece word.now ∷ map piece_in behind.now) regex)) }
 {
     let codes = codes_of(alloc, word)?;
-    let rest = copied(alloc, behind)?;
+    let rest = copied_pieces(alloc, behind)?;
     Ok(Front::Word(codes, rest, regex))
 }
 
@@ -116,28 +117,4 @@ fn character(number: u64) -> u32
     ensures { result ≡ number }
 {
     number as u32
-}
-
-/// The same pieces.
-fn copied(alloc: Global, pieces: &[Piece]) -> Result<SmallVec<Piece, 1>, AllocError>
-    ensures { IfOk result (λ all. map piece_in all.items ≡ map piece_in pieces.now) }
-{
-    let mut all = SmallVec::with_capacity(alloc, pieces.len())?;
-    for piece in pieces {
-        all.push(copied_one(alloc, piece)?)?;
-    }
-    Ok(all)
-}
-
-/// The same piece.
-fn copied_one(alloc: Global, piece: &Piece) -> Result<Piece, AllocError>
-    ensures { IfOk result (λ other. piece_in other ≡ piece_in piece.now) }
-{
-    match piece {
-        Piece::Constant(serial) => Ok(Piece::Constant(*serial)),
-        Piece::Word(characters) => {
-            let characters = Vec::from_slice(alloc, characters)?;
-            Ok(Piece::Word(characters))
-        }
-    }
 }

@@ -1,17 +1,18 @@
-//! The clauses by rule step of one membership.
+//! The clause by rule step of a literal of a membership.
 
-ghost use Rattle.std.specs.Prelude.{◌≡◌, ℕ, ◌<◌, ◌∷◌, ◌++◌, [], true, length, map, IfOk, OnOk};
+ghost use Rattle.std.specs.Prelude.{◌≡◌, ℕ, ◌<◌, ◌∷◌, [], true, length, map, IfOk, IsSomeAnd};
 ghost use Rattle.std.specs.List.{list_all};
 ghost use Rattle.sb_word.specs.Words.{IsWord};
 ghost use Rattle.sb_lang.specs.Constructors.{mkpath};
-ghost use Rattle.sb_lang.specs.Derivative.{nullable, nd_along};
+ghost use Rattle.sb_lang.specs.Derivative.{nd_along};
 ghost use Rattle.sb_plain.specs.Memory.{IsRight};
 ghost use Rattle.sb_rulebook.specs.Atoms.{are_pieces, is_well_formed};
 ghost use Rattle.sb_rulebook.specs.AtomRules.{is_declared_piece};
 ghost use Rattle.sb_proof.specs.Lines.{piece_in};
-ghost use Rattle.sb_split.specs.Words.{AtomOver, HaveRegexesBelow, Names, atoms_in, constant_piece, in_atom, in_order, negation, of_sign, regex_at};
-ghost use Rattle.sb_split.specs.Added.{Adds, AreSpokenOf, declares_at};
-ghost use Rattle.sb_split.specs.Steps.{AreCuts, AreSplits, AreStepsAt, AreStepsInOrder};
+ghost use Rattle.sb_split.specs.Words.{AtomOver, HaveRegexesBelow, Names, atoms_in, constant_piece, in_atom, of_sign, regex_at};
+ghost use Rattle.sb_split.specs.Added.{Adds, declares_at};
+ghost use Rattle.sb_split.specs.Fronts.{IsFrontAt, IsStepOver};
+ghost use Rattle.sb_split.specs.Steps.{AreOfStep, IsConstantStep, IsEndStep, IsStepAt, IsWordStep};
 
 use crate::adding::{clause_of, member, path};
 use crate::fronts::{Front, front_of};
@@ -23,10 +24,22 @@ use sb_regex::{Arena, RegexId};
 use smallvec::SmallVec;
 use std::alloc::{AllocError, Global};
 
-/// All clauses by rule step that have this atom as their membership of several pieces, or of none; where the atom is of
-/// a constant and more pieces, those in which the constant leads to the regex `between`, which else is not looked at.
-/// Of no pieces there is one clause, of a word or a constant and more pieces there are two, of another atom none. Their
-/// literals ascend. The atoms of which the clauses speak are added where they are missing.
+/// The clause by rule step that is false where a literal of a membership is true and the membership of what is left
+/// behind the first piece is not what it is to be. Of a membership of no pieces the clause says whether it is true.
+#[derive(Drop)]
+pub struct Step {
+    /// Its literals ascend.
+    pub clause: Clause,
+    /// That the constant in front leads to the regex in between, where a constant stands in front.
+    pub lead: Option<Lit>,
+    /// What the membership of what is left is to be, where a piece stands in front.
+    pub rest: Option<Lit>,
+}
+
+/// The step of a literal. Of no pieces its clause says whether the membership is true, whatever the literal's sign; of a
+/// word and more pieces the clause is false where the literal is true and what is left is not as true as its atom; of a
+/// constant and more pieces so where the constant leads to the regex `between`, which else is not looked at. Of another
+/// atom there is none. The atoms of which the clause speaks are added where they are missing.
 ///
 /// Linear in the pieces and in the letters of a word, with a derivative for each letter. `AllocError` only for want of
 /// memory; the arena may hold more regexes then, and the table more atoms.
@@ -35,152 +48,141 @@ pub fn step_lemma(
     arena: &mut Arena,
     plain: &mut Plain,
     atoms: &mut Atoms,
-    atom: AtomId,
+    literal: Lit,
     between: RegexId,
-) -> Result<Vec<Clause>, AllocError>
-    requires known { atom < length atoms.old }
+) -> Result<Option<Step>, AllocError>
+    requires known { literal.atom < length atoms.old }
     requires between { between < length arena.old }
-    requires formed { (whole : AtomOver ℕ) → Names atoms.old atom whole → is_well_formed whole ≡ true }
+    requires formed { (whole : AtomOver ℕ) → Names atoms.old literal.atom whole → is_well_formed whole ≡ true }
     requires regexes { HaveRegexesBelow (length arena.old) atoms.old }
     requires right { IsRight arena.old plain.old }
-    ensures all { IfOk result (λ clauses. AreStepsAt arena.new atoms.new atom between clauses.items) }
-    ensures steps { IfOk result (λ clauses. AreStepsInOrder (atoms_in arena.new atoms.new) clauses.items) }
-    ensures adds { Adds (declares_at atoms.old atom) arena.old arena.new atoms.old atoms.new }
-    ensures only { IfOk result (λ clauses. AreSpokenOf atoms.old atoms.new clauses.items) }
+    ensures step { IfOk result (IsStepAt arena.new atoms.new between literal) }
+    ensures adds { Adds (declares_at atoms.old literal.atom) arena.old arena.new atoms.old atoms.new }
+    ensures only { IfOk result (AreOfStep atoms.old atoms.new) }
     ensures right { IsRight arena.new plain.new }
 {
     right_stays();
-    let front = front_of(alloc, atoms.describe(atom))?;
+    let front = front_at(alloc, atoms, literal)?;
     match front {
-        Front::End(regex) => end_steps(alloc, arena, atom, regex),
-        Front::Word(word, rest, regex) => {
-            word_steps(alloc, arena, plain, atoms, atom, &word, rest, regex)
+        Front::End(regex) => end_step(alloc, arena, literal, regex),
+        Front::Word(word, pieces, regex) => {
+            word_step(alloc, arena, plain, atoms, literal, &word, pieces, regex)
         }
-        Front::Constant(serial, rest, regex) => {
-            constant_steps(alloc, arena, atoms, atom, serial, rest, regex, between)
+        Front::Constant(serial, pieces, regex) => {
+            constant_step(alloc, arena, atoms, literal, serial, pieces, regex, between)
         }
-        Front::Other => Ok(Vec::new(alloc)),
+        Front::Other => Ok(None),
     }
 }
 
-/// The literal of an atom.
-fn literal(atom: AtomId, positive: bool) -> Lit
-    ensures { result ≡ of_sign positive atom }
+/// The atom of a literal, taken apart.
+fn front_at(alloc: Global, atoms: &Atoms, literal: Lit) -> Result<Front, AllocError>
+    requires known { literal.atom < length atoms.now }
+    requires formed { (whole : AtomOver ℕ) → Names atoms.now literal.atom whole → is_well_formed whole ≡ true }
+    ensures { IfOk result (IsFrontAt atoms.now literal.atom) }
 {
-    Lit {
-        atom: atom.number() as u64,
-        positive,
-    }
+    front_of(alloc, atoms.describe(AtomId::of(literal)))
 }
 
-/// Adds the clause of the literals.
-fn put(alloc: Global, clauses: &mut Vec<Clause>, literals: &[Lit]) -> Result<(), AllocError>
-    ensures { OnOk result (clauses.new.items ≡ clauses.old.items ++ in_order literals.now ∷ []) }
+/// The step of these literals.
+fn step_over(
+    alloc: Global,
+    literals: &[Lit],
+    lead: Option<Lit>,
+    rest: Option<Lit>,
+) -> Result<Option<Step>, AllocError>
+    ensures { IfOk result (λ answer. IsSomeAnd answer (IsStepOver literals.now lead rest)) }
 {
     let clause = clause_of(alloc, literals)?;
-    clauses.push(clause)?;
-    Ok(())
+    Ok(Some(Step { clause, lead, rest }))
 }
 
-/// The clause of a membership of no pieces.
-fn end_steps(
+/// The step of a membership of no pieces.
+fn end_step(
     alloc: Global,
     arena: &Arena,
-    atom: AtomId,
+    literal: Lit,
     regex: RegexId,
-) -> Result<Vec<Clause>, AllocError>
+) -> Result<Option<Step>, AllocError>
     requires { regex < length arena.now }
-    ensures { IfOk result
-        (λ clauses. clauses.items ≡ (of_sign (nullable (regex_at arena.now regex)) atom ∷ []) ∷ []) }
+    ensures { IfOk result (λ answer. IsSomeAnd answer (IsEndStep literal.atom (regex_at arena.now regex))) }
 {
-    let mut clauses = Vec::new(alloc);
-    let positive = arena.nullable(regex);
-    put(alloc, &mut clauses, &[literal(atom, positive)])?;
-    Ok(clauses)
+    let truth = Lit {
+        atom: literal.atom,
+        positive: arena.nullable(regex),
+    };
+    step_over(alloc, &[truth], None, None)
 }
 
-/// The clauses of a membership of a word and more pieces.
-fn word_steps(
+/// The step of a membership of a word and more pieces.
+fn word_step(
     alloc: Global,
     arena: &mut Arena,
     plain: &mut Plain,
     atoms: &mut Atoms,
-    atom: AtomId,
+    literal: Lit,
     word: &[u32],
-    rest: SmallVec<Piece, 1>,
+    pieces: SmallVec<Piece, 1>,
     regex: RegexId,
-) -> Result<Vec<Clause>, AllocError>
+) -> Result<Option<Step>, AllocError>
     requires regex { regex < length arena.old }
     requires word { IsWord word.now }
-    requires formed { are_pieces (map piece_in rest.items) ≡ true }
+    requires formed { are_pieces (map piece_in pieces.items) ≡ true }
     requires regexes { HaveRegexesBelow (length arena.old) atoms.old }
     requires right { IsRight arena.old plain.old }
-    ensures cuts { IfOk result (λ clauses. AreCuts (atoms_in arena.new atoms.new) atom
-        (in_atom (map piece_in rest.items) (nd_along (regex_at arena.old regex) word.now)) clauses.items) }
-    ensures adds { Adds (λ sorts. list_all (is_declared_piece sorts) (map piece_in rest.items))
+    ensures step { IfOk result (λ answer. IsSomeAnd answer (IsWordStep (atoms_in arena.new atoms.new) literal
+        (in_atom (map piece_in pieces.items) (nd_along (regex_at arena.old regex) word.now)))) }
+    ensures adds { Adds (λ sorts. list_all (is_declared_piece sorts) (map piece_in pieces.items))
         arena.old arena.new atoms.old atoms.new }
-    ensures only { IfOk result (λ clauses. AreSpokenOf atoms.old atoms.new clauses.items) }
+    ensures only { IfOk result (AreOfStep atoms.old atoms.new) }
     ensures right { IsRight arena.new plain.new }
 {
     let target = plain.along(arena, word, regex)?;
-    let behind = member(atoms, rest, target)?;
-    cuts(alloc, literal(atom, true), behind)
+    let behind = member(atoms, pieces, target)?;
+    let rest = signed_as(behind, literal);
+    step_over(alloc, &[literal.negated(), rest], None, Some(rest))
 }
 
-/// The clauses that two literals are equally true.
-fn cuts(alloc: Global, whole: Lit, rest: Lit) -> Result<Vec<Clause>, AllocError>
-    ensures { IfOk result (λ clauses. clauses.items
-        ≡ in_order (negation whole ∷ rest ∷ []) ∷ in_order (whole ∷ negation rest ∷ []) ∷ []) }
+/// The literal with the sign of another one.
+fn signed_as(literal: Lit, other: Lit) -> Lit
+    ensures { result ≡ of_sign other.positive literal.atom }
 {
-    let mut clauses = Vec::new(alloc);
-    put(alloc, &mut clauses, &[whole.negated(), rest])?;
-    put(alloc, &mut clauses, &[whole, rest.negated()])?;
-    Ok(clauses)
+    Lit {
+        atom: literal.atom,
+        positive: other.positive,
+    }
 }
 
-/// The clauses of a membership of a constant and more pieces.
-fn constant_steps(
+/// The step of a membership of a constant and more pieces.
+fn constant_step(
     alloc: Global,
     arena: &mut Arena,
     atoms: &mut Atoms,
-    atom: AtomId,
+    literal: Lit,
     serial: u64,
-    rest: SmallVec<Piece, 1>,
+    pieces: SmallVec<Piece, 1>,
     regex: RegexId,
     between: RegexId,
-) -> Result<Vec<Clause>, AllocError>
+) -> Result<Option<Step>, AllocError>
     requires regex { regex < length arena.old }
     requires between { between < length arena.old }
-    requires formed { are_pieces (map piece_in rest.items) ≡ true }
+    requires formed { are_pieces (map piece_in pieces.items) ≡ true }
     requires regexes { HaveRegexesBelow (length arena.old) atoms.old }
-    ensures splits { IfOk result (λ clauses. AreSplits (atoms_in arena.new atoms.new) atom
+    ensures step { IfOk result (λ answer. IsSomeAnd answer (IsConstantStep (atoms_in arena.new atoms.new) literal
         (in_atom (constant_piece serial ∷ []) (mkpath (regex_at arena.old regex) (regex_at arena.old between)))
-        (in_atom (map piece_in rest.items) (regex_at arena.old between)) clauses.items) }
-    ensures adds { Adds (λ sorts. list_all (is_declared_piece sorts) (constant_piece serial ∷ map piece_in rest.items))
+        (in_atom (map piece_in pieces.items) (regex_at arena.old between)))) }
+    ensures adds { Adds
+        (λ sorts. list_all (is_declared_piece sorts) (constant_piece serial ∷ map piece_in pieces.items))
         arena.old arena.new atoms.old atoms.new }
-    ensures only { IfOk result (λ clauses. AreSpokenOf atoms.old atoms.new clauses.items) }
+    ensures only { IfOk result (AreOfStep atoms.old atoms.new) }
 {
-    let front = path(alloc, arena, atoms, serial, regex, between)?;
-    let behind = member(atoms, rest, between)?;
-    splits(alloc, front, literal(atom, true), behind)
-}
-
-/// The clauses that two literals are equally true where a third one is true.
-fn splits(alloc: Global, front: Lit, whole: Lit, rest: Lit) -> Result<Vec<Clause>, AllocError>
-    ensures { IfOk result (λ clauses. clauses.items
-        ≡ in_order (negation front ∷ negation whole ∷ rest ∷ [])
-        ∷ in_order (negation front ∷ whole ∷ negation rest ∷ []) ∷ []) }
-{
-    let mut clauses = Vec::new(alloc);
-    put(
+    let lead = path(alloc, arena, atoms, serial, regex, between)?;
+    let behind = member(atoms, pieces, between)?;
+    let rest = signed_as(behind, literal);
+    step_over(
         alloc,
-        &mut clauses,
-        &[front.negated(), whole.negated(), rest],
-    )?;
-    put(
-        alloc,
-        &mut clauses,
-        &[front.negated(), whole, rest.negated()],
-    )?;
-    Ok(clauses)
+        &[lead.negated(), literal.negated(), rest],
+        Some(lead),
+        Some(rest),
+    )
 }

@@ -9,4 +9,4 @@ returns-then-is_empty c =
 pub returns : goal.returns
 returns c =
     constant_front_is c.args.serial c.args.behind.now (map piece_in c.in_ok-rest.rest.items) c.args.regex
-    (sym c.is_empty.ensures ∙ c.if-is_empty.false) c.requires c.in_ok-rest.ensures
+    (sym c.is_empty.ensures ∙ c.if-is_empty.false) c.requires c.in_ok-rest.ensures.0

@@ -6,4 +6,4 @@ pub returns : goal.returns
 returns c =
     word_front_is c.args.word.now c.in_ok-codes.codes.items (map piece_in c.args.behind.now)
     (map piece_in c.in_ok-rest.rest.items) c.args.regex c.requires.word c.requires.formed c.in_ok-codes.ensures
-    c.in_ok-rest.ensures
+    c.in_ok-rest.ensures.0

@@ -1,7 +1,6 @@
 use Rattle.sb_proof.specs.Lines.{atom_in}
-use Rattle.sb_refute.proofs.Words.{◌≡◌, ℕ, length, take, List, sym, ap, subst, ◌∙◌, IfOk-from_err, err_from_is_err_and, AtomOver, CountsTapeFault, Extends, HasGates, HaveRegexesBelow, IsWith, Kept, Names, kept_at, counts_none, counts_on, Backing, Backs, backing_of}
+use Rattle.sb_refute.proofs.Words.{◌≡◌, ℕ, length, take, List, sym, ap, subst, ◌∙◌, IfOk-from_err, err_from_is_err_and, AtomOver, CountsTapeFault, Extends, HasGates, HaveRegexesBelow, IsWith, Kept, Names, kept_at, counts_none, counts_on, Backing, Backs, backing_of, take_known}
 use Rattle.sb_refute.proofs.Asserting.{leads-both}
-use Rattle.sb_refute.proofs.DefinedAtoms.{front-of}
 use Rattle.sb_refute.proofs.OneAtom.{stand-one, with_due, with_extends, with_regexes}
 use Rattle.sb_refute.proofs.evidence.Evidence.alone.Goals as goal
 
@@ -57,7 +56,7 @@ returns g c =
             (with_due n w.atoms atoms a speaks grows asked c.len-known.result c.len-known.ensures declared))
             (c.in_ok-put_gates.ensures.ok.0 asked arena memo) before
             (subst (λ (ts : List (AtomOver ℕ)). Backs arena memo (record w { atoms = ts }) before)
-            (sym (front-of w.atoms atoms c.len-known.result extends c.len-known.ensures))
+            (sym (take_known w.atoms atoms c.len-known.result extends c.len-known.ensures))
             (subst (λ (e : Backing). Backs arena memo e before) (sym c.self.view_is) b));
         names = subst (λ (ts : List (AtomOver ℕ)). Names ts c.number.result a) (sym same)
             (subst (λ (m : ℕ). Names atoms m a) (sym c.number.ensures) c.in_ok-id.ensures.ok);

@@ -1,6 +1,5 @@
-use Rattle.sb_refute.proofs.Words.{◌<◌, Some, length, refl, sym, ap, subst, arith, ◌∙◌, Asserted, Backing, placed}
+use Rattle.sb_refute.proofs.Words.{◌<◌, Some, length, refl, sym, ap, subst, arith, ◌∙◌, Asserted, Backing, placed, called_none, called_on}
 use Rattle.sb_refute.proofs.Asserting.{claimed-new, claims-alone}
-use Rattle.sb_refute.proofs.Exits.{called-none, called-on}
 use Rattle.sb_refute.proofs.evidence.Evidence.claim.Goals as goal
 
 pub keep-requires : goal.keep-requires
@@ -27,18 +26,18 @@ returns g c =
 pub returns-in_err-put_line : goal.returns-in_err-put_line
 returns-in_err-put_line g c =
     let x = c.from_residual in
-    called-on (Unit {0}) _ x.result _ _ _ _ x.ensures.0 x.ensures.1 refl c.in_err-put_line.ensures.counts refl
+    called_on (Unit {0}) _ x.result _ _ _ _ x.ensures.0 x.ensures.1 refl c.in_err-put_line.ensures.counts refl
 
 pub returns-in_err-clause : goal.returns-in_err-clause
 returns-in_err-clause g c =
     let x = c.from_residual-in_err-clause in
     let e = c.args.self.now in
-    called-none _ x.result _ _ x.ensures.0 x.ensures.1 c.in_ok-put_line.ensures.counts
+    called_none _ x.result _ _ x.ensures.0 x.ensures.1 c.in_ok-put_line.ensures.counts
     (claims-alone e c.add.new.self e.kept e.asserted c.in_err-clause.ensures.adds)
 
 pub returns-in_err-keep : goal.returns-in_err-keep
 returns-in_err-keep g c =
     let x = c.from_residual-in_err-keep in
-    called-none _ x.result _ _ x.ensures.0 x.ensures.1 c.in_ok-put_line.ensures.counts
+    called_none _ x.result _ _ x.ensures.0 x.ensures.1 c.in_ok-put_line.ensures.counts
     (claims-alone c.args.self.now c.keep.new.self _ c.args.self.now.asserted
     (c.in_err-keep.ensures ∙ c.in_ok-clause.ensures.adds))

@@ -1,6 +1,5 @@
-use Rattle.sb_refute.proofs.Words.{ℕ, ap, refl, sym, subst, take, IfSome, List, length, ◌<◌, ◌∙◌, IfOk-weaker, AtomOver, atoms_in, CountsTapeFault, OnlyNumbers, Backing, IsAssertion}
+use Rattle.sb_refute.proofs.Words.{ℕ, ap, refl, sym, subst, take, IfSome, List, length, ◌<◌, ◌∙◌, IfOk-weaker, AtomOver, atoms_in, CountsTapeFault, OnlyNumbers, Backing, IsAssertion, called_on}
 use Rattle.sb_refute.proofs.Asserting.{claimed-after, leads-both}
-use Rattle.sb_refute.proofs.Exits.{called-on}
 use Rattle.sb_refute.proofs.evidence.Evidence.lines.Goals as goal
 
 pub stated-requires : goal.stated-requires
@@ -50,7 +49,7 @@ pub returns-in_err-define : goal.returns-in_err-define
 returns-in_err-define g c =
     let x = c.from_residual in
     let rest = c.define.ensures.rest in
-    called-on (Unit {0}) _ x.result _ _ _ _ x.ensures.0 x.ensures.1 refl c.in_err-define.ensures.counts
+    called_on (Unit {0}) _ x.result _ _ _ _ x.ensures.0 x.ensures.1 refl c.in_err-define.ensures.counts
     (rest.0, ap (λ (f : Backing). f.atoms) rest.1)
 
 pub returns-in_err-put_gates : goal.returns-in_err-put_gates
@@ -58,7 +57,7 @@ returns-in_err-put_gates g c =
     let x = c.from_residual-in_err-put_gates in
     let first = c.define.ensures.rest in
     let second = c.put_gates.ensures.rest in
-    called-on (Unit {0}) _ x.result _ _ _ _ x.ensures.0 x.ensures.1 c.in_ok-define.ensures.counts
+    called_on (Unit {0}) _ x.result _ _ _ _ x.ensures.0 x.ensures.1 c.in_ok-define.ensures.counts
     c.in_err-put_gates.ensures.counts (
       subst (OnlyNumbers c.args.self.now.trace) (sym (ap (λ (f : Backing). f.trace) second)) first.0,
       ap (λ (f : Backing). f.atoms) second ∙ ap (λ (f : Backing). f.atoms) first.1,

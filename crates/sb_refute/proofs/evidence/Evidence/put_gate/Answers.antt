@@ -1,5 +1,4 @@
-use Rattle.sb_refute.proofs.Words.{◌≡◌, ◌++◌, ◌∷◌, [], List, length, refl, sym, ap, ◌∙◌, on_ok_weaker, list_all, is_small_literal, Lit, are_reserved, at_bottom}
-use Rattle.sb_refute.proofs.Exits.{called-none}
+use Rattle.sb_refute.proofs.Words.{◌≡◌, ◌++◌, ◌∷◌, [], List, length, refl, sym, ap, ◌∙◌, on_ok_weaker, list_all, is_small_literal, Lit, are_reserved, at_bottom, called_none}
 use Rattle.sb_refute.proofs.GateLines.{gate-put, kept-alone, some-gate}
 use Rattle.sb_refute.proofs.evidence.Evidence.put_gate.Goals as goal
 
@@ -32,10 +31,10 @@ returns g c =
 
 pub returns-in_err-literals : goal.returns-in_err-literals
 returns-in_err-literals g c =
-    let x = c.from_residual in called-none _ x.result _ _ x.ensures.0 x.ensures.1 refl refl
+    let x = c.from_residual in called_none _ x.result _ _ x.ensures.0 x.ensures.1 refl refl
 
 pub returns-in_err-add : goal.returns-in_err-add
 returns-in_err-add g c =
     let x = c.from_residual-in_err-add in
-    called-none _ x.result _ _ x.ensures.0 x.ensures.1 refl
+    called_none _ x.result _ _ x.ensures.0 x.ensures.1 refl
     (kept-alone c.args.self.now c.add.new.self c.args.self.now.kept c.in_err-add.ensures.adds)

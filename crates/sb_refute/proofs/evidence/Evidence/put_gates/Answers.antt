@@ -1,6 +1,5 @@
-use Rattle.sb_refute.proofs.Words.{length, ap, refl, ◌∙◌, arith, Backing}
+use Rattle.sb_refute.proofs.Words.{length, ap, refl, ◌∙◌, arith, Backing, called_on}
 use Rattle.sb_refute.proofs.Asserting.{leads-none, leads-both}
-use Rattle.sb_refute.proofs.Exits.{called-on}
 use Rattle.sb_refute.proofs.GateLines.{gates-alone-both}
 use Rattle.sb_refute.proofs.evidence.Evidence.put_gates.Goals as goal
 
@@ -52,5 +51,5 @@ pub returns-in_err-put_next : goal.returns-in_err-put_next
 returns-in_err-put_next g c =
     let x = c.from_residual in
     let h = c.loop-self.invariant in
-    called-on (Unit {0}) _ x.result _ _ _ _ x.ensures.0 x.ensures.1 h.faults c.in_err-put_next.ensures.counts
+    called_on (Unit {0}) _ x.result _ _ _ _ x.ensures.0 x.ensures.1 h.faults c.in_err-put_next.ensures.counts
     (gates-alone-both c.args.self.now c.loop-self.self c.put_next.new.self h.rest c.in_err-put_next.ensures.rest)

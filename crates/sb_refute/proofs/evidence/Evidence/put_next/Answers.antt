@@ -1,6 +1,5 @@
-use Rattle.sb_refute.proofs.Words.{◌+◌, ◌++◌, ◌∷◌, [], List, All, length, map, take, refl, sym, ap, subst, ◌∙◌, arith, append-nil, take_more, take_all, Lit, Kept, Backing, HasGatesOf, IsOfGates, LeadsAlways, at_bottom}
+use Rattle.sb_refute.proofs.Words.{◌+◌, ◌++◌, ◌∷◌, [], List, All, length, map, take, refl, sym, ap, subst, ◌∙◌, arith, append-nil, take_more, take_all, Lit, Kept, Backing, HasGatesOf, IsOfGates, LeadsAlways, at_bottom, called_none, called_on}
 use Rattle.sb_refute.proofs.Asserting.{leads-none, leads-both}
-use Rattle.sb_refute.proofs.Exits.{called-none, called-on}
 use Rattle.sb_refute.proofs.GateLines.{gates-alone, gates-passed, has-gates, kept-more}
 use Rattle.sb_refute.proofs.Settled.{stay-behind}
 use Rattle.sb_refute.proofs.evidence.Evidence.put_next.Goals as goal
@@ -77,13 +76,13 @@ returns g c =
 
 pub returns-in_err-clauses : goal.returns-in_err-clauses
 returns-in_err-clauses g c =
-    let x = c.from_residual in called-none _ x.result _ _ x.ensures.0 x.ensures.1 refl refl
+    let x = c.from_residual in called_none _ x.result _ _ x.ensures.0 x.ensures.1 refl refl
 
 pub returns-in_err-put_gate : goal.returns-in_err-put_gate
 returns-in_err-put_gate g c =
     let x = c.from_residual-in_err-put_gate in
     let h = c.loop-clause.invariant in
     let f = c.put_gate.new.self in
-    called-on (Unit {0}) _ x.result _ _ _ _ x.ensures.0 x.ensures.1 h.faults c.in_err-put_gate.ensures.counts
+    called_on (Unit {0}) _ x.result _ _ _ _ x.ensures.0 x.ensures.1 h.faults c.in_err-put_gate.ensures.counts
     (gates-alone c.args.self.now f _ _
     (c.in_err-put_gate.ensures.rest ∙ ap (λ (m : Backing). record m { kept = f.kept }) h.kept))

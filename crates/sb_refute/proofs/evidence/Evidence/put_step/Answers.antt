@@ -1,6 +1,5 @@
 use Rattle.sb_rulebook.specs.Lines as lines
-use Rattle.sb_refute.proofs.Words.{List, refl, sym, ap, ◌∙◌, on_ok_weaker, false≢true, Lit, line, rule_line, text_of, with_bytes}
-use Rattle.sb_refute.proofs.Exits.{called-none}
+use Rattle.sb_refute.proofs.Words.{List, refl, sym, ap, ◌∙◌, on_ok_weaker, false≢true, Lit, line, rule_line, text_of, with_bytes, called_none}
 use Rattle.sb_refute.proofs.evidence.Evidence.put_step.Goals as goal
 
 pub returns-then-not-proves : goal.returns-then-not-proves
@@ -30,8 +29,8 @@ returns g c =
 
 pub returns-in_err-add : goal.returns-in_err-add
 returns-in_err-add g c =
-    let x = c.from_residual in called-none _ x.result _ _ x.ensures.0 x.ensures.1 refl tt
+    let x = c.from_residual in called_none _ x.result _ _ x.ensures.0 x.ensures.1 refl tt
 
 pub returns-in_err-all : goal.returns-in_err-all
 returns-in_err-all g c =
-    let x = c.from_residual-in_err-all in called-none _ x.result _ _ x.ensures.0 x.ensures.1 refl tt
+    let x = c.from_residual-in_err-all in called_none _ x.result _ _ x.ensures.0 x.ensures.1 refl tt

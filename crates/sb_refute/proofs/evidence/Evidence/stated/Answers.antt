@@ -1,6 +1,5 @@
-use Rattle.sb_refute.proofs.Words.{◌<◌, length, Option, Some, None, IfSome, refl, sym, subst, Lit, Asserted, asserted_at, IsClaimed, IsStanding, LeadsClaimed, placed}
+use Rattle.sb_refute.proofs.Words.{◌<◌, length, Option, Some, None, IfSome, refl, sym, subst, Lit, Asserted, asserted_at, IsClaimed, IsStanding, LeadsClaimed, placed, called_none, called_on}
 use Rattle.sb_refute.proofs.Asserting.{claimed-none, claimed-standing, claims-alone}
-use Rattle.sb_refute.proofs.Exits.{called-none, called-on}
 use Rattle.sb_refute.proofs.evidence.Evidence.stated.Goals as goal
 
 pub returns-in_default : goal.returns-in_default
@@ -53,12 +52,12 @@ returns g c =
 pub returns-in_err-claim : goal.returns-in_err-claim
 returns-in_err-claim g c =
     let x = c.from_residual-in_err-claim in
-    called-on Asserted _ x.result _ _ _ _ x.ensures.0 x.ensures.1 refl c.in_err-claim.ensures.counts
+    called_on Asserted _ x.result _ _ _ _ x.ensures.0 x.ensures.1 refl c.in_err-claim.ensures.counts
     c.in_err-claim.ensures.rest
 
 pub returns-in_err-keep : goal.returns-in_err-keep
 returns-in_err-keep g c =
     let x = c.from_residual in
     let e = c.args.self.now in
-    called-none _ x.result _ _ x.ensures.0 x.ensures.1 refl
+    called_none _ x.result _ _ x.ensures.0 x.ensures.1 refl
     (claims-alone e c.keep.new.self e.kept e.asserted c.in_err-keep.ensures)

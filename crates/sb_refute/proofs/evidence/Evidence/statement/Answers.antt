@@ -1,17 +1,16 @@
 use Rattle.sb_atoms.specs.Translated.{AreDefined}
 use Rattle.sb_store.proofs.CallerLemmas.{termed}
-use Rattle.sb_refute.proofs.Words.{◌≡◌, length, ℕ, Some, IfSome, List, option_map, refl, sym, ap, subst, ◌∙◌, IfOk-weaker, IfOk-from_err, err_from_is_err_and, AtomOver, atoms_in, Extends, HaveRegexesBelow, brought_translation, OnlyNumbers, only_numbers_same, counts_none, Asserted, Backing, Backs, HasGates, asserted_at, backing_of, term_at}
+use Rattle.sb_refute.proofs.Words.{◌≡◌, length, ℕ, Some, IfSome, List, option_map, refl, sym, ap, subst, ◌∙◌, IfOk-weaker, IfOk-from_err, err_from_is_err_and, AtomOver, atoms_in, Extends, HaveRegexesBelow, brought_translation, OnlyNumbers, only_numbers_same, counts_none, Asserted, Backing, Backs, HasGates, asserted_at, backing_of, term_at, take_known}
 use Rattle.sb_refute.proofs.Backs.{backs-grown}
 use Rattle.sb_refute.proofs.Holding.{stand-atoms}
 use Rattle.sb_refute.proofs.Asserting.{due-stated, is-statement}
-use Rattle.sb_refute.proofs.DefinedAtoms.{front-of}
 use Rattle.sb_refute.proofs.evidence.Evidence.statement.Goals as goal
 
 pub invariant_of-self : goal.invariant_of-self
 invariant_of-self g c = (
   stand-atoms (backing_of c.self.inside.parts) c.translate.new.self c.translate.ensures.extends
       c.translate.ensures.earlier (λ i a new named. (c.translate.ensures.defined i a new named).0)
-      (c.translate.ensures.unjoined c.requires.unjoined c.self.invariant.0.unjoined) c.self.invariant.0,
+      c.self.invariant.0,
   c.self.invariant.1,
 )
 
@@ -19,7 +18,7 @@ pub invariant_of-self-2 : goal.invariant_of-self-2
 invariant_of-self-2 g c = (
   stand-atoms (backing_of c.self.inside.parts) c.translate.new.self c.translate.ensures.extends
       c.translate.ensures.earlier (λ i a new named. (c.translate.ensures.defined i a new named).0)
-      (c.translate.ensures.unjoined c.requires.unjoined c.self.invariant.0.unjoined) c.self.invariant.0,
+      c.self.invariant.0,
   c.self.invariant.1,
 )
 
@@ -50,7 +49,7 @@ returns g c =
           (is-statement asked (atoms_in more atoms) c.args.place t c.in_ok-found.found c.args.level live translated.ok)
           before
           (subst (λ (ts : List (AtomOver ℕ)). Backs more memo (record w { atoms = ts }) before)
-          (sym (front-of w.atoms atoms known translated.extends c.len-known.ensures))
+          (sym (take_known w.atoms atoms known translated.extends c.len-known.ensures))
           (subst (λ (e : Backing). Backs more memo e before) (sym c.self.view_is)
           (backs-grown c.args.store.now.arena more memo memo old before translated.arena (λ n pieces h. h)
           c.requires.regexes b)))) ok;

@@ -1,6 +1,0 @@
-use Rattle.sb_refute.proofs.Words.{◌≡◌, true, take, list_all, is_small_literal}
-use Rattle.sb_refute.proofs.defining.copied.Given as goal
-
-abbrev pub invariant-loop-literal : goal.invariant-loop-literal
-invariant-loop-literal l = (l.all.items ≡ take l.literal-index l.literals)
-    × (list_all is_small_literal (take l.literal-index l.literals) ≡ true)
