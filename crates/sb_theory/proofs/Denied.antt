@@ -1,7 +1,9 @@
 -- A few literals of one constant that clash, and their clause: it is false on the trail, new, true whatever the values
 -- are, and its lines follow.
-use Rattle.sb_theory.proofs.Words.{[], if◌then◌else◌, inl, inr, ◌+◌, ◌||◌, ◌∙◌, ◌∷◌, ◌≡◌, ◌≤◌, Bool, List, None, Option, ap, arith, eqb, false, filter, get_or, length, map, not, refl, subst, suc, sym, take, true, zero, ℕ, AllKept, Answers, AreAbout, AreFew, AreFewer, AreSingle, Assigned, AtomOver, Checked, ExpandsDenied, Fine, Frame, Grows, HaveAtoms, Holds, IsDenied, IsPaid, IsPermutation, IsTaught, IsValid, Kept, Lemma, Lit, MkandKeepsLanguage, Regex, Spending, Spent, Stands, Strings, Writes, all_among, all_from_among, and_from, and_parts, are_atoms, asked_by, asked_by_all, atoms_in, count_cons, denied_all, eq-eqb, false≢true, have_more, held, is_about, is_among, is_atom, is_denial, is_false_clause, is_false_under, is_of_wanted, is_same_literal, is_same_literal-true, kept_behind, list_all, list_permuted, literals_about, negation, negation_twice, one_if, or_cases, row_at, same_Some, slice_get_within, wanted_on, written, lt-ltb, get_or_default, All-filter, filter_passes, sum_by-filter_both, list_all-map, AllPass-from_list_all, list_all-from_AllPass, sum_by-take-le, count_by, cond_none, AreDistinct, entry_of, HasNoneFalse, nothing_kept, Ascend, HasNoSubset, AreEmpty, EmptyHolds, EmptyIsExact, HasNone, Denying, IsDenial, Sofar, Ticks, sofar, with_denial, IsFair}
-use Rattle.sb_theory.proofs.Moving.{atoms_stay, taught_grows}
+use Rattle.sb_theory.proofs.Words.{[], if◌then◌else◌, inl, inr, ◌+◌, ◌||◌, ◌∙◌, ◌∷◌, ◌≡◌, ◌≤◌, Bool, List, None, Option, ap, arith, eqb, false, filter, get_or, length, map, not, refl, subst, suc, sym, take, true, zero, ℕ, AllKept, Answers, AreAbout, AreFew, AreFewer, AreSingle, Assigned, AtomOver, Checked, Fine, Grows, HaveAtoms, Holds, IsDenied, IsPaid, IsPermutation, IsTaught, IsValid, Kept, Lemma, Lit, MkandKeepsLanguage, Regex, Spending, Spent, Stands, Strings, Writes, all_among, all_from_among, and_from, and_parts, are_atoms, asked_by, asked_by_all, atoms_in, count_cons, denied_all, eq-eqb, false≢true, have_more, held, is_about, is_among, is_atom, is_denial, is_false_clause, is_false_under, is_same_literal, is_same_literal-true, kept_behind, list_all, list_permuted, literals_about, negation, negation_twice, one_if, or_cases, row_at, same_Some, slice_get_within, wanted_on, written, lt-ltb, get_or_default, All-filter, sum_by-filter_both, AllPass-from_list_all, list_all-from_AllPass, sum_by-take-le, count_by, cond_none, AreDistinct, entry_of, HasNoneFalse, nothing_kept, Ascend, HasNoSubset, AreEmpty, EmptyHolds, EmptyIsExact, HasNone, Denying, IsDenial, Sofar, Ticks, sofar, with_denial, IsFair, is_of_wanted, ExpandsRelevant, HaveRegexesBelow, IsQuiet, IsWished, are_declared, regexes_kept, ◌≢◌}
+use Rattle.sb_clash.specs.Denials.{ExpandsDenied, IsOfDenial}
+use Rattle.sb_theory.proofs.Moving.{passes_grow, proves_stays, taught_grows}
+use Rattle.sb_theory.proofs.Tables.{have_atoms_more}
 use Rattle.sb_theory.proofs.Rows.{all_about, row_passes}
 
 -- How often a literal stands in a list.
@@ -54,15 +56,7 @@ filter_counts p q ls =
     sum_by-filter_both p (λ l. not (p l)) (λ l. refl) (λ l. one_if (q l)) ls in
     omega (arith, parts)
 
--- A row's literals are of wanted atoms,
-row_wanted : (atoms : List (AtomOver ℕ)) (wanted : List ℕ) (x : ℕ) (entries : List Assigned)
-    → list_all (is_of_wanted wanted) (literals_about atoms x (wanted_on wanted entries)) ≡ true
-row_wanted atoms wanted x entries =
-    filter_keeps (is_about atoms x) (is_of_wanted wanted) (wanted_on wanted entries)
-    (list_all-from_AllPass (is_of_wanted wanted) (wanted_on wanted entries)
-    (filter_passes (is_of_wanted wanted) (held entries)))
-
--- and on the trail,
+-- A row's literals are on the trail,
 row_among : (atoms : List (AtomOver ℕ)) (wanted : List ℕ) (x : ℕ) (entries : List Assigned)
     → list_all (is_among (held entries)) (literals_about atoms x (wanted_on wanted entries)) ≡ true
 row_among atoms wanted x entries =
@@ -123,10 +117,10 @@ false_on held (l ∷ ls) h =
     (ap (is_among held) (negation_twice l) ∙ p.0) (false_on held ls p.1)
 
 row_is : (x : Strings) (entries : List Assigned) (constant : ℕ) → Holds x → x.taken.items ≡ entries
-    → row_at x.members.items constant ≡ literals_about x.atoms constant (wanted_on x.wanted entries)
+    → row_at x.members.items constant ≡ literals_about x.atoms constant (wanted_on x.noted entries)
 row_is x entries constant h taken =
     h.rows.members constant
-    ∙ ap (λ (es : List Assigned). literals_about x.atoms constant (wanted_on x.wanted es)) taken
+    ∙ ap (λ (es : List Assigned). literals_about x.atoms constant (wanted_on x.noted es)) taken
 
 -- the clause of a few literals of a row
 pub denied_row : MkandKeepsLanguage → (x : Strings) (entries : List Assigned) (constant : ℕ) (few clause : List Lit)
@@ -134,18 +128,15 @@ pub denied_row : MkandKeepsLanguage → (x : Strings) (entries : List Assigned) 
     → IsDenied x entries constant clause
 denied_row keeps x entries constant few clause h taken ascend perm =
     let row = row_is x entries constant h.holds taken in
-    let pass = λ (p : Lit → Bool) (all : list_all p (literals_about x.atoms constant (wanted_on x.wanted entries)) ≡ true).
+    let pass = λ (p : Lit → Bool) (all : list_all p (literals_about x.atoms constant (wanted_on x.noted entries)) ≡ true).
     fewer_pass p few (row_at x.members.items constant) h.fewer (ap (list_all p) row ∙ all) in
     record {
       denial = is_denial keeps x.store.arena x.atoms constant few clause
           (all_about x.atoms constant few (fewer_pass (is_about x.atoms constant) few (row_at x.members.items constant)
-          h.fewer (row_passes x.atoms constant x.members.items (wanted_on x.wanted x.taken.items) h.holds.rows.members)))
+          h.fewer (row_passes x.atoms constant x.members.items (wanted_on x.noted x.taken.items) h.holds.rows.members)))
           h.clash ascend perm;
-      asked = list_permuted (is_of_wanted x.wanted) (map negation few) clause perm
-          (list_all-map (is_of_wanted x.wanted) negation few
-          ∙ pass (is_of_wanted x.wanted) (row_wanted x.atoms x.wanted constant entries));
       is_false = list_permuted (is_false_under (held entries)) (map negation few) clause perm
-          (false_on (held entries) few (pass (is_among (held entries)) (row_among x.atoms x.wanted constant entries)));
+          (false_on (held entries) few (pass (is_among (held entries)) (row_among x.atoms x.noted constant entries)));
     }
 
 pub few_single : (x : Strings) (entries : List Assigned) (constant : ℕ) (few : List Lit) → AreFew x constant few
@@ -154,7 +145,7 @@ few_single x entries constant few h taken distinct = λ l.
     omega (
       arith,
       subst (λ (ls : List Lit). AreFewer few ls) (row_is x entries constant h.holds taken) h.fewer l,
-      row_single x.atoms x.wanted constant entries distinct l,
+      row_single x.atoms x.noted constant entries distinct l,
     )
 
 -- It is new,
@@ -211,19 +202,28 @@ never_fine clause false fine = absurd (Prim.cc (fine))
 
 fair_answer : {x y : Strings} (entries : List Assigned) (constant : ℕ) (clause : List Lit) (done : Bool) → Grows x y
     → IsDenied x entries constant clause → IsValid x.store.arena x.atoms clause
-    → IsFair (λ atom. is_atom y.atoms atom ≡ true) (IsTaught y.store.arena y.atoms y.wanted) entries
-    (answer_of done clause)
-fair_answer {x} {y} entries constant clause true g d valid = (
-  λ l among. ap (λ (ts : List (AtomOver ℕ)). is_atom ts l.atom) (atoms_stay g)
-      ∙ all_among (λ m. is_atom x.atoms m.atom) clause l (about_atoms x.atoms constant clause d.denial.about) among,
-  taught_grows g clause (d.asked, valid),
-)
+    → IsFair (λ atom. is_atom y.atoms atom ≡ true) (IsTaught y.store.arena y.atoms) entries (answer_of done clause)
+fair_answer {x} entries constant clause true g d valid =
+    let known = about_atoms x.atoms constant clause d.denial.about in (
+      λ l among. passes_grow g l.atom (all_among (λ m. is_atom x.atoms m.atom) clause l known among),
+      taught_grows g clause (known, valid),
+    )
 fair_answer entries constant clause false g d valid = tt
 
 paid_answer : {before after : Spending} (clause : List Lit) (done : Bool) → Ticks before after done
     → IsPaid before after (answer_of done clause)
 paid_answer clause true h = h.more refl
 paid_answer clause false h = h.spent refl
+
+quiet_answer : (x y : Strings) {before after : Spending} (clause : List Lit) (done : Bool) → Ticks before after done
+    → answer_of done clause ≢ Spent → IsQuiet x y before after
+quiet_answer x y clause true h some = λ same entries. absurd (omega (arith, same, h.more refl))
+quiet_answer x y clause false h some = absurd (some refl)
+
+wished_answer : (y : Strings) (entries : List Assigned) (clause : List Lit) (done : Bool)
+    → IsWished y entries (answer_of done clause)
+wished_answer y entries clause true = tt
+wished_answer y entries clause false = tt
 
 kept_answer : (kept : Kept) (clause : List Lit) (done : Bool)
     → kept_behind kept (answer_of done clause) ≡ (if done then with_denial kept clause else kept)
@@ -234,36 +234,48 @@ have_behind : {x y : Strings} (kept : Kept) (clause : List Lit) (done : Bool) �
     → are_atoms x.atoms clause ≡ true → HaveAtoms x.atoms kept
     → HaveAtoms y.atoms (kept_behind kept (answer_of done clause))
 have_behind {x} {y} kept clause done g known h =
-    subst (λ (ts : List (AtomOver ℕ)). HaveAtoms ts (kept_behind kept (answer_of done clause))) (sym (atoms_stay g))
-    (step done)
+    have_atoms_more x.atoms y.atoms (kept_behind kept (answer_of done clause)) g.table.extends (step done)
   where
     step : (done : Bool) → HaveAtoms x.atoms (kept_behind kept (answer_of done clause))
     step true = have_more x.atoms kept clause 0 h known
     step false = h
 
+-- what is expanded for a denial
+denied_relevant : (x y : Strings) → y.atoms ≡ x.atoms → ExpandsDenied y.store.arena x.atoms x.trace y.trace
+    → ExpandsRelevant y.store.arena y.atoms x.trace y.trace
+denied_relevant x y atoms only = λ n marked. elim (only n marked) [
+  | inl before ↦ inl before
+  | inr denial ↦ inr (inl
+      (subst (λ (ts : List (AtomOver ℕ)). IsOfDenial y.store.arena ts n) (sym atoms) denial))
+]
+
 abbrev sofar_of : Strings → Spending → Option (List ℕ) → Sofar
 sofar_of x budget told = sofar x.store.arena x.store.graph x.trace budget told
 
 writes_answer : {x y : Strings} (kept : Kept) (clause : List Lit) (done : Bool) (before after : Spending)
-    (old new : Option (List ℕ)) → Grows x y → are_atoms x.atoms clause ≡ true → HasNoSubset kept clause
+    (old new : Option (List ℕ)) → Grows x y → y.atoms ≡ x.atoms → are_atoms x.atoms clause ≡ true
+    → HasNoSubset kept clause
     → (x.proves ≡ false → y.trace ≡ x.trace) → ExpandsDenied y.store.arena x.atoms x.trace y.trace
     → (x.proves ≡ true → Denying (sofar_of x before old) (sofar_of y after new) x.atoms clause done)
     → Writes x y (written kept before old) (written (kept_behind kept (answer_of done clause)) after new)
-writes_answer {x} {y} kept clause done before after old new g known fresh silent only puts = record {
-  atoms = atoms_stay g;
-  proves = ap (λ (f : Frame). f.proves) g.frame;
+writes_answer {x} {y} kept clause done before after old new g atoms known fresh silent only puts = record {
+  table = g.table;
+  proves = proves_stays g;
   store = g.store;
+  below = λ h. subst (HaveRegexesBelow (length y.store.arena)) (sym atoms)
+      (regexes_kept x.store.arena y.store.arena x.atoms g.store.more.extends h);
   known = have_behind kept clause done g known;
   silent = silent;
-  only = only;
-  lines = λ on asked k b.
+  only = λ h. denied_relevant x y atoms only;
+  lines = λ on below asked k b.
       let d = puts on asked k b.tracks b.atoms (subst (λ (ks : Kept). HasNoSubset ks clause) (sym b.clauses) fresh)
       b.counted in (
         d.after,
         d.puts,
         record {
           tracks = d.tracks;
-          atoms = d.atoms_stay ∙ ap (atoms_in y.store.arena) (sym (atoms_stay g));
+          atoms = d.atoms_stay ∙ ap (atoms_in y.store.arena) (sym atoms);
+          declared = ap (are_declared asked.sorts) atoms ∙ b.declared;
           clauses = d.clauses ∙ ap (λ (ks : Kept). if done then with_denial ks clause else ks) b.clauses
               ∙ sym (kept_answer kept clause done);
           known = have_behind kept clause done g known b.known;
@@ -273,21 +285,24 @@ writes_answer {x} {y} kept clause done before after old new g known fresh silent
 }
 
 pub answers_denied : EmptyHolds → EmptyIsExact → {x y : Strings} {entries : List Assigned} {before after : Spending}
-    (constant : ℕ) (clause : List Lit) (done : Bool) (answer : Checked) (old new : Option (List ℕ))
-    → answer ≡ answer_of done clause → IsDenied x entries constant clause → Grows x y → Stands y entries
-    → Ticks before after done → (x.proves ≡ false → y.trace ≡ x.trace)
+    {last : Bool} (constant : ℕ) (clause : List Lit) (done : Bool) (answer : Checked) (old new : Option (List ℕ))
+    → answer ≡ answer_of done clause → IsDenied x entries constant clause → Grows x y → y.atoms ≡ x.atoms
+    → Stands y entries → Ticks before after done → (x.proves ≡ false → y.trace ≡ x.trace)
     → ExpandsDenied y.store.arena x.atoms x.trace y.trace
     → (x.proves ≡ true → Denying (sofar_of x before old) (sofar_of y after new) x.atoms clause done)
-    → Answers x y entries before after old new answer
-answers_denied holds exact {x} {y} {entries} {before} {after} constant clause done answer old new is d g stands ticks
-    silent only puts =
-    subst (λ (a : Checked). Answers x y entries before after old new a) (sym is) (record {
+    → Answers x y entries before after old new last answer
+answers_denied holds exact {x} {y} {entries} {before} {after} {last} constant clause done answer old new is d g atoms
+    stands ticks silent only puts =
+    subst (λ (a : Checked). Answers x y entries before after old new last a) (sym is) (record {
       stands = stands;
-      agrees = λ fine. absurd (never_fine clause done fine);
+      agrees = λ whole fine. absurd (never_fine clause done fine);
       fair = fair_answer entries constant clause done g d
           (is_valid holds exact x.store.arena x.atoms constant clause d.denial);
       paid = paid_answer clause done ticks;
+      quiet = quiet_answer x y clause done ticks;
+      wished = wished_answer y entries clause done;
       writes = λ kept none_false.
-          writes_answer kept clause done before after old new g (about_atoms x.atoms constant clause d.denial.about)
+          writes_answer kept clause done before after old new g atoms
+          (about_atoms x.atoms constant clause d.denial.about)
           (no_subset kept (held entries) clause none_false d.is_false) silent only puts;
     })

@@ -1,6 +1,9 @@
 -- How much of each row is known to be true of the words, as literals come and words are put.
-use Rattle.sb_theory.proofs.Words.{[], if◌then◌else◌, ◌++◌, ◌+◌, ◌-◌, ◌<◌, ◌∙◌, ◌∷◌, ◌≡◌, ◌≤◌, Bool, List, None, Option, Some, ap, arith, cond, false, filter, get_or, length, nat_eq, not, option_and_then, refl, subst, suc, sym, take, true, zero, ℕ, Agrees, All-take, AreAbout, AreFitting, AreMembers, AreRows, Assigned, AtomOver, Extends, HaveRegexesBelow, Holds, IsAbout, IsAdded, IsNoted, IsPut, IsSet, IsWhole, Lit, MkandKeepsLanguage, MknotKeepsLanguage, Names, Regex, Rises, Serial, Strings, and_from, and_parts, asked_by, asked_by_all, at_kept, bool_atom, constant_of, constant_piece, eq-eqb, eqb-true, false≢true, filter-append, fits_subject, get_or_from_slice_get, in_all, in_atom, is_about, is_front_true, is_in, is_subject, is_true_by, is_true_of, is_wanted, length-append, list_all, literals_about, number_at, number_in, regex_at, regex_below, row_at, subject_of, take-append-le, take_all, take_at, take_more, wanted_of, wanted_on, word_at, beq, all_push, mknot, language}
-use Rattle.sb_theory.proofs.Rows.{members_added, members_passed, put_at, put_off, row_about}
+use Rattle.sb_theory.proofs.Words.{[], if◌then◌else◌, ◌||◌, ◌++◌, ◌+◌, ◌-◌, ◌<◌, ◌∙◌, ◌∷◌, ◌≡◌, ◌≤◌, Bool, List, None, Option, Some, ap, arith, cond, false, filter, get_or, length, nat_eq, not, option_and_then, refl, subst, suc, sym, take, true, zero, ℕ, Agrees, All-take, AreAbout, AreFitting, AreMembers, AreRows, Assigned, AtomOver, Extends, HaveRegexesBelow, Holds, IsAbout, IsAdded, IsNoted, IsPut, IsSet, IsWhole, Lit, MkandKeepsLanguage, MknotKeepsLanguage, Names, Regex, Rises, Serial, Strings, and_from, and_parts, asked_by, asked_by_all, at_kept, bool_atom, constant_of, constant_piece, eq-eqb, eqb-true, false≢true, filter-append, fits_subject, get_or_from_slice_get, in_all, in_atom, is_about, is_front_true, is_in, is_subject, is_true_by, is_true_of, is_wanted, length-append, list_all, literals_about, number_at, number_in, regex_at, regex_below, row_at, subject_of, take-append-le, take_all, take_at, take_more, wanted_of, wanted_on, word_at, beq, all_push, mknot, language, inl, inr, slice_get, all_among, all_from_among, fits_pieces, held, is_among, is_joined, is_joined_atom, is_of_wanted, is_same_literal, or_cases, word_piece, and_atom, iff_atom, le_atom, sum_atom}
+use Rattle.std.proofs.lemmas.Bool.{or_left, or_right}
+use Rattle.std.specs.Prelude.{◌⊎◌}
+use Rattle.sb_theory.specs.Judged.{AreJudged}
+use Rattle.sb_theory.proofs.Rows.{members_added, members_passed, put_at, put_off, row_about, wanted_passes}
 
 -- The word of a constant, tried.
 
@@ -95,19 +98,27 @@ filtered p q l ls h = step (p l) refl h
         let both = and_parts (q l) (list_all q (filter p ls)) h in (λ here. both.0, both.1)
     step false is h = (λ here. absurd (false≢true (sym is ∙ here)), h)
 
+-- where a literal is about a constant, it is true of its word
+abbrev fits_row : List Regex → List (AtomOver ℕ) → List (Option (List ℕ)) → Lit → Option ℕ → Bool
+fits_row rs atoms words l None = true
+fits_row rs atoms words l (Some x) = is_true_of rs atoms (word_at words x) l
+
+abbrev is_true_in_row : List Regex → List (AtomOver ℕ) → List (Option (List ℕ)) → Lit → Bool
+is_true_in_row rs atoms words l = fits_row rs atoms words l (subject_of atoms l)
+
 one_true : (rs : List Regex) (atoms : List (AtomOver ℕ)) (words : List (Option (List ℕ))) (l : Lit) (o : Option ℕ)
     → ((x : ℕ) → is_subject x o ≡ true → is_true_of rs atoms (word_at words x) l ≡ true)
-    → fits_subject rs atoms words l o ≡ true
+    → fits_row rs atoms words l o ≡ true
 one_true rs atoms words l None h = refl
 one_true rs atoms words l (Some x) h = h x (eq-eqb x x refl)
 
 all_true : (rs : List Regex) (atoms : List (AtomOver ℕ)) (words : List (Option (List ℕ))) (ls : List Lit)
     → ((x : ℕ) → list_all (is_true_of rs atoms (word_at words x)) (literals_about atoms x ls) ≡ true)
-    → list_all (is_true_by rs atoms words) ls ≡ true
+    → list_all (is_true_in_row rs atoms words) ls ≡ true
 all_true rs atoms words [] h = refl
 all_true rs atoms words (l ∷ ls) h =
     let split = λ (x : ℕ). filtered (is_about atoms x) (is_true_of rs atoms (word_at words x)) l ls (h x) in
-    and_from (is_true_by rs atoms words l) (list_all (is_true_by rs atoms words) ls)
+    and_from (is_true_in_row rs atoms words l) (list_all (is_true_in_row rs atoms words) ls)
     (one_true rs atoms words l (subject_of atoms l) (λ x. (split x).0))
     (all_true rs atoms words ls (λ x. (split x).1))
 
@@ -115,15 +126,92 @@ row_true : (p : Lit → Bool) (row : List Lit) (n : ℕ) → length row ≤ n �
     → list_all p row ≡ true
 row_true p row n all h = sym (ap (list_all p) (take_all n row all)) ∙ h
 
-pub agrees_settled : (x : Strings) (entries : List Assigned) → Holds x → x.changed ≡ [] → x.taken.items ≡ entries
-    → Agrees x entries
-agrees_settled x entries h none taken =
-    ap (λ (es : List Assigned). list_all (is_true_by x.store.arena x.atoms x.words.items) (wanted_on x.wanted es))
-    (sym taken) ∙ all_true x.store.arena x.atoms x.words.items (wanted_on x.wanted x.taken.items) (λ n.
+-- a membership that is not of one constant is of several pieces, or of none; of other atoms nothing is said
+joined_or_other : (a : AtomOver ℕ) → constant_of a ≡ None → (is_joined_atom a ≡ true)
+    ⊎ ((rs : List Regex) (words : List (Option (List ℕ))) (positive : Bool)
+    → fits_pieces rs words positive (Some a) ≡ true)
+joined_or_other (in_atom [] r) h = inl refl
+joined_or_other (in_atom (constant_piece x ∷ []) r) h = absurd (Prim.cc (h))
+joined_or_other (in_atom (constant_piece x ∷ p ∷ ps) r) h = inl refl
+joined_or_other (in_atom (word_piece w ∷ ps) r) h = inl refl
+joined_or_other (bool_atom serial) h = inr (λ rs words positive. refl)
+joined_or_other (le_atom x k) h = inr (λ rs words positive. refl)
+joined_or_other (sum_atom k ss) h = inr (λ rs words positive. refl)
+joined_or_other (and_atom ls) h = inr (λ rs words positive. refl)
+joined_or_other (iff_atom l m) h = inr (λ rs words positive. refl)
+
+true_of_none : (rs : List Regex) (atoms : List (AtomOver ℕ)) (words : List (Option (List ℕ))) (l : Lit)
+    (o : Option (AtomOver ℕ)) → slice_get atoms l.atom ≡ o → option_and_then constant_of o ≡ None
+    → (is_joined atoms l.atom ≡ true → is_true_by rs atoms words l ≡ true) → is_true_by rs atoms words l ≡ true
+true_of_none rs atoms words l None is none joined =
+    ap (fits_subject rs atoms words l) (ap (option_and_then constant_of) is)
+    ∙ ap (fits_pieces rs words l.positive) is
+true_of_none rs atoms words l (Some a) is none joined = elim (joined_or_other a none) [
+  | inl whole ↦ joined
+      (ap (λ (o : Option (AtomOver ℕ)). elim o as (λ _. Bool) [ None ↦ false | Some b ↦ is_joined_atom b ]) is ∙ whole)
+  | inr other ↦ ap (fits_subject rs atoms words l) (ap (option_and_then constant_of) is ∙ none)
+      ∙ ap (fits_pieces rs words l.positive) is ∙ other rs words l.positive
+]
+
+-- what is true in its row, or of the word of its pieces, is true of the words
+pub true_alone : (rs : List Regex) (atoms : List (AtomOver ℕ)) (words : List (Option (List ℕ))) (l : Lit)
+    → is_true_in_row rs atoms words l ≡ true → (is_joined atoms l.atom ≡ true → is_true_by rs atoms words l ≡ true)
+    → is_true_by rs atoms words l ≡ true
+true_alone rs atoms words l fits joined = step (subject_of atoms l) refl fits
+  where
+    step : (o : Option ℕ) → subject_of atoms l ≡ o → fits_row rs atoms words l o ≡ true
+        → is_true_by rs atoms words l ≡ true
+    step None is h = true_of_none rs atoms words l (slice_get atoms l.atom) refl is joined
+    step (Some x) is h = ap (fits_subject rs atoms words l) is ∙ h
+
+among_more : (p q : Lit → Bool) → ((m : Lit) → p m ≡ true → q m ≡ true) → (ls : List Lit) (l : Lit)
+    → is_among (filter p ls) l ≡ true → is_among (filter q ls) l ≡ true
+among_more p q more [] l h = h
+among_more p q more (m ∷ ms) l h = step (p m) (q m) (more m) h (among_more p q more ms l)
+  where
+    step : (a b : Bool) → (a ≡ true → b ≡ true) → is_among (cond a (m ∷ filter p ms) (filter p ms)) l ≡ true
+        → (is_among (filter p ms) l ≡ true → is_among (filter q ms) l ≡ true)
+        → is_among (cond b (m ∷ filter q ms) (filter q ms)) l ≡ true
+    step true true stays h later = elim (or_cases (is_same_literal m l) (is_among (filter p ms) l) h) [
+      | inl here ↦ or_left (is_same_literal m l) (is_among (filter q ms) l) here
+      | inr behind ↦ or_right (is_same_literal m l) (is_among (filter q ms) l) (later behind)
+    ]
+    step true false stays h later = absurd (false≢true (stays refl))
+    step false true stays h later = or_right (is_same_literal m l) (is_among (filter q ms) l) (later h)
+    step false false stays h later = later h
+
+-- the literals of noted atoms that are of one constant are true once the rows fit
+pub row_settled : (x : Strings) (entries : List Assigned) → Holds x → x.changed ≡ [] → x.taken.items ≡ entries
+    → list_all (is_true_in_row x.store.arena x.atoms x.words.items) (wanted_on x.noted entries) ≡ true
+row_settled x entries h none taken =
+    ap (λ (es : List Assigned). list_all (is_true_in_row x.store.arena x.atoms x.words.items) (wanted_on x.noted es))
+    (sym taken) ∙ all_true x.store.arena x.atoms x.words.items (wanted_on x.noted x.taken.items) (λ n.
     ap (list_all (is_true_of x.store.arena x.atoms (word_at x.words.items n))) (sym (h.rows.members n))
     ∙ row_true (is_true_of x.store.arena x.atoms (word_at x.words.items n)) (row_at x.members.items n)
     (number_at x.fitting.items n) (h.rows.fit.whole n (ap (λ (cs : List Serial). is_in cs n) none))
     (h.rows.fit.front n))
+
+-- so is that of a noted atom on the trail, unless it is of several pieces and wrong
+pub noted_true : (x : Strings) (entries : List Assigned) (l : Lit) → Holds x → x.changed ≡ [] → x.taken.items ≡ entries
+    → is_among (wanted_on x.noted entries) l ≡ true
+    → (is_joined x.atoms l.atom ≡ true → is_true_by x.store.arena x.atoms x.words.items l ≡ true)
+    → is_true_by x.store.arena x.atoms x.words.items l ≡ true
+noted_true x entries l h none taken among judged =
+    true_alone x.store.arena x.atoms x.words.items l
+    (all_among (is_true_in_row x.store.arena x.atoms x.words.items) (wanted_on x.noted entries) l
+    (row_settled x entries h none taken) among) judged
+
+pub among_noted : (x : Strings) (entries : List Assigned) (l : Lit) → Holds x
+    → is_among (wanted_on x.wanted entries) l ≡ true → is_among (wanted_on x.noted entries) l ≡ true
+among_noted x entries l h among =
+    among_more (is_of_wanted x.wanted) (is_of_wanted x.noted)
+    (λ m wanted. wanted_passes (is_wanted x.noted) x.wanted m.atom h.among wanted) (held entries) l among
+
+pub agrees_settled : (x : Strings) (entries : List Assigned) → Holds x → x.changed ≡ [] → x.taken.items ≡ entries
+    → AreJudged x entries None → Agrees x entries
+agrees_settled x entries h none taken judged =
+    all_from_among (is_true_by x.store.arena x.atoms x.words.items) (wanted_on x.wanted entries) (λ l among.
+    noted_true x entries l h none taken (among_noted x entries l h among) (λ whole. judged l among whole))
 
 -- One constant's word, row or number is another one.
 
@@ -347,3 +435,30 @@ rows_next {rs} {atoms} {words} {rows} {fitting} {ls = ls} set x long l is_set ne
           (ap (λ n. list_all p (take n row)) (sym next) ∙ ap (list_all p) (take_more row i l inside)
           ∙ all_push p (take i row) (get_or row i l) (h.fit.front x) (ap p (sym here) ∙ passes)) h.fit;
     }
+
+-- A word is given to a constant, of which nothing is known then.
+pub rows_given : {rs : List Regex} {atoms : List (AtomOver ℕ)} {words : List (Option (List ℕ))} {rows : List (List Lit)}
+    {fitting : List ℕ} {changed : List Serial} {ls : List Lit} (put : List (Option (List ℕ))) (set : List ℕ)
+    (after : List Serial) (x : ℕ) (w : List ℕ) → IsPut words put x w → IsSet fitting set x 0
+    → ((y : ℕ) → is_in after y ≡ (is_in changed y || nat_eq x y)) → AreRows rs atoms words rows fitting changed ls
+    → AreRows rs atoms put rows set after ls
+rows_given {rs} {atoms} {words} {rows} {fitting} {changed} put set after x w is_put is_set added h = record {
+  members = h.members;
+  fit = fitting_but put rows set after x
+      (λ y e. record {
+        word = put_off (word_at put) (word_at words) (λ z. w) x is_put y e;
+        row = refl;
+        number = put_off (number_at set) (number_at fitting) (λ z. 0) x is_set y e;
+      }) (λ y out. not_first (is_in changed y) (nat_eq x y) (sym (added y) ∙ out))
+      (ap (λ n. is_front_true rs atoms (word_at put x) n (row_at rows x))
+      (put_at (number_at set) (number_at fitting) (λ z. 0) x is_set))
+      (λ out. absurd (false≢true (sym out ∙ added x ∙ there (is_in changed x)))) h.fit;
+}
+  where
+    not_first : (a b : Bool) → (a || b) ≡ false → a ≡ false
+    not_first true b e = e
+    not_first false b e = refl
+
+    there : (a : Bool) → (a || nat_eq x x) ≡ true
+    there true = refl
+    there false = eq-eqb x x refl

@@ -1,5 +1,5 @@
 -- Which constant a literal is about, and the rows of literals as they come and go.
-use Rattle.sb_theory.proofs.Words.{[], if◌then◌else◌, ◌++◌, ◌∙◌, ◌∷◌, ◌≡◌, Bool, List, None, Option, Some, ap, cond, false, get_or, nat_eq, option_and_then, refl, slice_get, subst, sym, take, true, ℕ, All-take, AreAbout, AreMembers, Assigned, AtomOver, IsAbout, IsAdded, IsDropped, Lit, append-nil, bool_atom, constant_of, constant_piece, eq-eqb, eqb-true, false_from_ne_true, false≢true, filter-append, held, in_atom, is_about, is_of_wanted, is_subject, is_wanted, list_all, literals_about, map-append, row_at, same_Some, subject_of, wanted_of, wanted_on, filter_passes, AllPass-from_list_all, list_all-from_AllPass, word_piece, and_atom, iff_atom, le_atom, sum_atom}
+use Rattle.sb_theory.proofs.Words.{[], if◌then◌else◌, ◌++◌, ◌∙◌, ◌∷◌, ◌≡◌, Bool, List, None, Option, Some, ap, cond, false, get_or, nat_eq, option_and_then, refl, slice_get, subst, sym, take, true, ℕ, All-take, AreAbout, AreMembers, Assigned, AtomOver, IsAbout, IsAdded, IsDropped, Lit, append-nil, bool_atom, constant_of, constant_piece, eq-eqb, eqb-true, false_from_ne_true, false≢true, filter-append, held, in_atom, is_about, is_of_wanted, is_subject, is_wanted, list_all, literals_about, map-append, row_at, same_Some, subject_of, wanted_of, wanted_on, filter_passes, AllPass-from_list_all, list_all-from_AllPass, word_piece, and_atom, iff_atom, le_atom, sum_atom, and_parts, or_cases, inl, inr}
 
 -- the numbers at which something is put,
 pub put_at : {A : Type 0} (new old put : ℕ → A) (x : ℕ)
@@ -29,7 +29,7 @@ one_of (sum_atom k ss) x h = absurd (Prim.cc (h))
 one_of (and_atom ls) x h = absurd (Prim.cc (h))
 one_of (iff_atom l m) x h = absurd (Prim.cc (h))
 
-subject_names : (atoms : List (AtomOver ℕ)) (l : Lit) (x : ℕ) → subject_of atoms l ≡ Some x → IsAbout atoms x l
+pub subject_names : (atoms : List (AtomOver ℕ)) (l : Lit) (x : ℕ) → subject_of atoms l ≡ Some x → IsAbout atoms x l
 subject_names atoms l x h = step (slice_get atoms l.atom) refl h
   where
     step : (o : Option (AtomOver ℕ)) → slice_get atoms l.atom ≡ o → option_and_then constant_of o ≡ Some x
@@ -78,6 +78,17 @@ front_about atoms x n rows given ls front same is h =
     (All-take (IsAbout atoms x) n (row_at rows x) (row_about atoms x rows ls h))
 
 -- Whether a literal is of a wanted atom.
+
+-- what passes for all wanted atoms passes for each
+pub wanted_passes : (test : ℕ → Bool) (wanted : List ℕ) (a : ℕ) → list_all test wanted ≡ true
+    → is_wanted wanted a ≡ true → test a ≡ true
+wanted_passes test [] a h there = absurd (false≢true there)
+wanted_passes test (n ∷ wanted) a h there =
+    let p = and_parts (test n) (list_all test wanted) h in
+    elim (or_cases (nat_eq a n) (is_wanted wanted a) there) [
+      | inl here ↦ subst (λ i. test i ≡ true) (sym (eqb-true a n here)) p.0
+      | inr later ↦ wanted_passes test wanted a p.1 later
+    ]
 
 -- of no constant, or of another atom, it is in no row
 pub none_about : (wanted : List ℕ) (atoms : List (AtomOver ℕ)) (l : Lit) → subject_of atoms l ≡ None

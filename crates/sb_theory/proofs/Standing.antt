@@ -1,16 +1,40 @@
 -- What was taken in of a trail, as it grows and as levels are taken back.
-use Rattle.sb_theory.proofs.Words.{[], inl, inr, ◌++◌, ◌+◌, ◌-◌, ◌<◌, ◌||◌, ◌∙◌, ◌∷◌, ◌≡◌, ◌≤◌, Bool, List, Option, Some, ap, append_assoc, arith, false, get_or, length, nat_eq, nat_le, nat_lt, refl, slice_get, subst, suc, sym, take, true, ℕ, AreLevelled, AreRows, Assigned, AtomOver, HaveRegexesBelow, Holds, Intake, IsCut, IsSettled, IsStore, IsWhole, Lit, Looks, Regex, Serial, Stands, Strings, current_level, eqb-true, filter-append, is_in, nat_tests, or_cases, row_at, same_Some, up_to, wanted_on, list_any_more, level_after-push, up_to-all, up_to-push_above, level_after}
+use Rattle.sb_theory.proofs.Words.{[], inl, inr, ◌++◌, ◌+◌, ◌-◌, ◌<◌, ◌||◌, ◌∙◌, ◌∷◌, ◌≡◌, ◌≤◌, Bool, List, Option, Some, ap, append_assoc, arith, false, get_or, length, nat_eq, nat_le, nat_lt, refl, slice_get, subst, suc, sym, take, true, ℕ, AreLevelled, AreRows, Assigned, AtomOver, HaveRegexesBelow, Holds, Intake, IsCut, IsSettled, IsStore, IsWhole, Lit, Looks, Regex, Serial, Stands, Strings, current_level, eqb-true, filter-append, is_in, nat_tests, or_cases, row_at, same_Some, up_to, wanted_on, list_any_more, level_after-push, up_to-all, up_to-push_above, level_after, AreFormed, IsLeft, and_from, and_parts, eq-eqb, filter, is_atom, is_joined, is_wanted, list_all}
+use Rattle.std.proofs.lemmas.Bool.{or_left, or_right}
 use Rattle.sb_theory.proofs.Fitting.{rows_none}
 use Rattle.sb_theory.proofs.Moving.{rows_stay}
 
-pub stands_new : (x : Strings) → IsStore x.store → HaveRegexesBelow (length x.store.arena) x.atoms
-    → x.taken.items ≡ [] → x.members.items ≡ [] → x.fitting.items ≡ [] → Stands x []
-stands_new x store regexes none no_members no_numbers = record {
+-- At the beginning noted atoms are the wanted ones.
+
+wanted_more : (w : ℕ) (ws vs : List ℕ) → list_all (is_wanted ws) vs ≡ true → list_all (is_wanted (w ∷ ws)) vs ≡ true
+wanted_more w ws [] h = refl
+wanted_more w ws (v ∷ vs) h =
+    let p = and_parts (is_wanted ws v) (list_all (is_wanted ws) vs) h in
+    and_from (is_wanted (w ∷ ws) v) (list_all (is_wanted (w ∷ ws)) vs) (or_right (nat_eq v w) (is_wanted ws v) p.0)
+    (wanted_more w ws vs p.1)
+
+all_wanted : (ws : List ℕ) → list_all (is_wanted ws) ws ≡ true
+all_wanted [] = refl
+all_wanted (w ∷ ws) =
+    and_from (is_wanted (w ∷ ws) w) (list_all (is_wanted (w ∷ ws)) ws)
+    (or_left (nat_eq w w) (is_wanted ws w) (eq-eqb w w refl)) (wanted_more w ws ws (all_wanted ws))
+
+pub stands_new : (x : Strings) → IsStore x.store → HaveRegexesBelow (length x.store.arena) x.atoms → AreFormed x.atoms
+    → list_all (is_atom x.atoms) x.wanted ≡ true → x.noted ≡ x.wanted
+    → x.joined.items ≡ filter (is_joined x.atoms) x.wanted
+    → ((a : ℕ) → is_wanted x.wanted a ≡ true → is_joined x.atoms a ≡ true → IsLeft x a) → x.taken.items ≡ []
+    → x.members.items ≡ [] → x.fitting.items ≡ [] → Stands x []
+stands_new x store regexes formed known noted joined left none no_members no_numbers = record {
   holds = record {
     store = store;
     regexes = regexes;
+    formed = formed;
+    noted = ap (list_all (is_atom x.atoms)) noted ∙ known;
+    among = ap (λ (ns : List ℕ). list_all (is_wanted ns) x.wanted) noted ∙ all_wanted x.wanted;
     rows = rows_none x.store.arena x.atoms x.words.items x.members.items x.fitting.items x.changed
-        (wanted_on x.wanted x.taken.items) no_members no_numbers (ap (wanted_on x.wanted) none);
+        (wanted_on x.noted x.taken.items) no_members no_numbers (ap (wanted_on x.noted) none);
+    joined = joined;
+    left = λ a one whole. left a (ap (λ (ns : List ℕ). is_wanted ns a) (sym noted) ∙ one) whole;
   };
   levelled = subst (λ (es : List Assigned). AreLevelled 0 es) (sym none) tt;
   rest = [];

@@ -1,6 +1,6 @@
 -- Lines that the search puts over the theory, and lines behind lines.
 use Rattle.std.proofs.Common.{◌≡◌, ◌⊎◌, ℕ, zero, suc, ◌+◌, ◌<◌, Bool, true, false, not, ◌&&◌, nat_lt, if◌then◌else◌, List, [], ◌∷◌, ◌++◌, length, Some, Result, Ok, Err, refl, sym, ap, subst, ◌∙◌, inl, inr, arith, append_assoc}
-use Rattle.sb_theory.specs.Words.{AllKept, Asked, Assigned, Atom, AtomOver, Kept, KeptClause, Lit, Regex, RegexesGrow, Traced, Tracks, Written, atoms_in, counting, kept_at, list_all, most_counted, over, rests_of_any, true_or_false, with_clause, with_gate, with_learned}
+use Rattle.sb_theory.specs.Words.{AllKept, Asked, Assigned, Atom, AtomOver, HaveRegexesBelow, Kept, KeptClause, Lit, Regex, RegexesGrow, Traced, Tracks, Written, atoms_in, counting, kept_at, list_all, most_counted, over, rests_of_any, true_or_false, with_clause, with_gate, with_learned}
 use Rattle.std.proofs.lemmas.Bool.{and_from, or_left, or_right, le-ltb, eq-eqb, lt-ltb}
 use Rattle.std.proofs.lemmas.List.{length-map}
 use Rattle.std.proofs.lemmas.Option.{same_Some}
@@ -17,12 +17,14 @@ use Rattle.sb_rulebook.specs.LineLaws.{has_text}
 use Rattle.sb_store.proofs.CallerLemmas.{regexes_same, regexes_both}
 use Rattle.sb_trace.proofs.CallerLemmas.{puts_none, puts_one, puts_both, tracks_grow}
 pub use Rattle.sb_clash.proofs.CallerLemmas.{tracks_kept}
-use Rattle.sb_clash.proofs.CallerLemmas.{expands_none, expands_both}
-use Rattle.sb_clash.specs.Denials.{ExpandsDenied}
+use Rattle.sb_atoms.proofs.CallerLemmas.{atoms_kept, regexes_kept}
 use Rattle.sb_search.specs.Asking.{AreKnown}
 use Rattle.sb_theory.specs.declared.strings.Strings.{Strings}
+use Rattle.sb_theory.specs.Growth.{relevant_both, relevant_none, table_both, table_none}
 use Rattle.sb_theory.specs.Memberships.{is_atom, are_atoms, HaveAtoms}
-use Rattle.sb_theory.specs.Strings.{Stands, Writes}
+use Rattle.sb_theory.specs.Strings.{Frame, Keeps, Stands, Tables, Writes}
+use Rattle.sb_theory.specs.Tables.{TableGrows, are_declared}
+pub use Rattle.sb_theory.specs.WishLaws.{ungranted_longer}
 
 pub stands_longer : (x : Strings) (entries more : List Assigned) → Stands x entries → Stands x (entries ++ more)
 stands_longer x entries more h = record {
@@ -32,19 +34,23 @@ stands_longer x entries more h = record {
   is = ap (λ es. es ++ more) h.is ∙ append_assoc x.taken.items h.rest more;
 }
 
+-- Lines behind lines.
+
 pub writes_both : (x y z : Strings) (before between after : Written) → Writes x y before between
     → Writes y z between after → Writes x z before after
 writes_both x y z before between after p q = record {
-  atoms = q.atoms ∙ p.atoms;
+  table = table_both x.atoms y.atoms z.atoms p.table q.table;
   proves = q.proves ∙ p.proves;
   store = regexes_both x.store y.store z.store p.store q.store;
+  below = λ h. q.below (p.below h);
   known = λ h. q.known (p.known h);
   silent = λ off. q.silent (p.proves ∙ off) ∙ p.silent off;
-  only = expands_both y.store.arena z.store.arena x.atoms x.trace y.trace z.trace q.store.more.extends p.only
-      (subst (λ (ts : List (AtomOver ℕ)). ExpandsDenied z.store.arena ts y.trace z.trace) p.atoms q.only);
-  lines = λ on asked kept backs.
-      let first = p.lines on asked kept backs in
-      let second = q.lines (p.proves ∙ on) asked first.0 first.2 in (
+  only = λ h.
+      relevant_both y.store.arena z.store.arena y.atoms z.atoms x.trace y.trace z.trace q.store.more.extends
+      q.table.extends (q.below (p.below h)) (p.only h) (q.only (p.below h));
+  lines = λ on h asked kept backs.
+      let first = p.lines on h asked kept backs in
+      let second = q.lines (p.proves ∙ on) (p.below h) asked first.0 first.2 in (
         second.0,
         puts_both asked kept first.0 second.0 before.told between.told after.told first.1 second.1,
         second.2,
@@ -52,24 +58,27 @@ writes_both x y z before between after p q = record {
 }
 
 -- where more is known of regexes
-pub writes_grown : (x y : Strings) (proof : Written) → y.atoms ≡ x.atoms → y.proves ≡ x.proves → y.trace ≡ x.trace
-    → atoms_in y.store.arena x.atoms ≡ atoms_in x.store.arena x.atoms → RegexesGrow x.store y.store
-    → Writes x y proof proof
-writes_grown x y proof atoms proves trace table g = record {
-  atoms = atoms;
+pub writes_still : (x y : Strings) (proof : Written) → y.atoms ≡ x.atoms → y.proves ≡ x.proves → y.trace ≡ x.trace
+    → RegexesGrow x.store y.store → Writes x y proof proof
+writes_still x y proof atoms proves trace g = record {
+  table = subst (TableGrows x.atoms) (sym atoms) (table_none x.atoms);
   proves = proves;
   store = g;
+  below = λ h. subst (HaveRegexesBelow (length y.store.arena)) (sym atoms)
+      (regexes_kept x.store.arena y.store.arena x.atoms g.more.extends h);
   known = λ h. subst (λ (ts : List (AtomOver ℕ)). HaveAtoms ts proof.kept) (sym atoms) h;
   silent = λ off. trace;
-  only = expands_none y.store.arena x.atoms x.trace y.trace trace;
-  lines = λ on asked kept b. (
+  only = λ h. relevant_none y.store.arena y.atoms x.trace y.trace trace;
+  lines = λ on h asked kept b. (
     kept,
     puts_none asked kept proof.told,
     record {
       tracks = subst (λ (t : Traced). Tracks y.store.arena y.store.graph.memo t kept) (sym trace)
           (tracks_grow x.store.arena y.store.arena x.store.graph.memo y.store.graph.memo x.trace kept g.more.extends
           g.more.derivatives b.tracks);
-      atoms = b.atoms ∙ sym table ∙ ap (atoms_in y.store.arena) (sym atoms);
+      atoms = b.atoms ∙ sym (atoms_kept x.store.arena y.store.arena x.atoms g.more.extends h)
+          ∙ ap (atoms_in y.store.arena) (sym atoms);
+      declared = ap (are_declared asked.sorts) atoms ∙ b.declared;
       clauses = b.clauses;
       known = subst (λ (ts : List (AtomOver ℕ)). HaveAtoms ts proof.kept) (sym atoms) b.known;
       counted = b.counted;
@@ -77,8 +86,13 @@ writes_grown x y proof atoms proves trace table g = record {
   );
 }
 
+pub writes_grown : (x y : Strings) (proof : Written) → Keeps x y → Writes x y proof proof
+writes_grown x y proof k =
+    writes_still x y proof (ap (λ (t : Tables). t.atoms) k.tables) (ap (λ (f : Frame). f.proves) k.grows.frame)
+    (ap (λ (t : Tables). t.trace) k.tables) k.grows.store
+
 pub writes_none : (x : Strings) (proof : Written) → Writes x x proof proof
-writes_none x proof = writes_grown x x proof refl refl refl refl (regexes_same x.store)
+writes_none x proof = writes_still x x proof refl refl refl (regexes_same x.store)
 
 -- Atoms of clauses that are kept.
 
@@ -133,13 +147,14 @@ pub writes_learned : (x : Strings) (proof : Written) (clause : List Lit) (hints 
 writes_learned x proof clause hints level lesson all text room =
     let new : are_atoms x.atoms clause ≡ true = all_from_among (λ l. is_atom x.atoms l.atom) clause all in
     record {
-      atoms = refl;
+      table = table_none x.atoms;
       proves = refl;
       store = regexes_same x.store;
+      below = λ h. h;
       known = λ h. have_more x.atoms proof.kept clause level h new;
       silent = λ off. refl;
-      only = expands_none x.store.arena x.atoms x.trace x.trace refl;
-      lines = λ on asked kept b.
+      only = λ h. relevant_none x.store.arena x.atoms x.trace x.trace refl;
+      lines = λ on below asked kept b.
           let known = are_known_in x.store.arena x.atoms kept.atoms clause b.atoms new in
           let accepted = ap (λ (ks : Kept). learned ks clause hints) b.clauses ∙ lesson.accepted in
           let after : AllKept = record (with_clause kept clause level (rests_of_any kept hints)) {
@@ -153,6 +168,7 @@ writes_learned x proof clause hints level lesson all text room =
               tracks = tracks_kept x.store.arena x.store.graph.memo x.trace kept after.clauses after.rests after.counted
                   b.tracks;
               atoms = b.atoms;
+              declared = b.declared;
               clauses = ap (λ (ks : Kept). ks ++ Some (record { literals = clause; level = level }) ∷ []) b.clauses;
               known = have_more x.atoms proof.kept clause level b.known new;
               counted = record { spent = ap (λ n. n + 1) b.counted.spent; limit = b.counted.limit };
@@ -187,13 +203,14 @@ both_known atoms atom there =
 pub writes_gate : (x : Strings) (proof : Written) (atom : ℕ) → is_atom x.atoms atom ≡ true
     → has_text (rule_line gate (true_or_false atom)) ≡ true → Writes x x proof (with_gate atom proof)
 writes_gate x proof atom there text = record {
-  atoms = refl;
+  table = table_none x.atoms;
   proves = refl;
   store = regexes_same x.store;
+  below = λ h. h;
   known = λ h. have_more x.atoms proof.kept (true_or_false atom) 0 h (both_known x.atoms atom there);
   silent = λ off. refl;
-  only = expands_none x.store.arena x.atoms x.trace x.trace refl;
-  lines = λ on asked kept b.
+  only = λ h. relevant_none x.store.arena x.atoms x.trace x.trace refl;
+  lines = λ on below asked kept b.
       let new = both_known x.atoms atom there in
       let known = are_known_in x.store.arena x.atoms kept.atoms (true_or_false atom) b.atoms new in
       let after : AllKept = with_clause kept (true_or_false atom) 0 [] in (
@@ -204,6 +221,7 @@ writes_gate x proof atom there text = record {
           tracks = tracks_kept x.store.arena x.store.graph.memo x.trace kept after.clauses after.rests kept.counted
               b.tracks;
           atoms = b.atoms;
+          declared = b.declared;
           clauses = ap (λ (ks : Kept). ks ++ Some (record { literals = true_or_false atom; level = 0 }) ∷ []) b.clauses;
           known = have_more x.atoms proof.kept (true_or_false atom) 0 b.known new;
           counted = record { spent = b.counted.spent; limit = b.counted.limit };

@@ -1,8 +1,14 @@
 pub mod Words
 pub mod Memberships
 pub mod Wanted
+pub mod Tables
+pub mod Wishes
 pub mod Strings
+pub mod Walks
+pub mod Judged
 pub mod Examples
 pub mod Places
 pub mod Fronts
+pub mod Growth
+pub mod WishLaws
 pub mod Laws

@@ -1,7 +1,7 @@
 -- The atoms that are to have values, and the literals of these.
-use Rattle.std.specs.Prelude.{◌≡◌, ℕ, Bool, true, nat_eq, List, filter}
-use Rattle.sb_theory.specs.Words.{Assigned, AtomOver, Lit, Regex, held, list_all, list_any}
-use Rattle.sb_theory.specs.Memberships.{IsValid}
+use Rattle.std.specs.Prelude.{◌≡◌, ◌⊎◌, ℕ, Bool, true, nat_eq, List, [], ◌∷◌, ◌++◌, filter}
+use Rattle.sb_theory.specs.Words.{Assigned, AtomOver, Lit, Regex, held, list_any}
+use Rattle.sb_theory.specs.Memberships.{are_atoms, IsValid}
 
 -- the atom is one of those that are wanted
 abbrev pub is_wanted : List ℕ → ℕ → Bool
@@ -19,6 +19,10 @@ wanted_of wanted ls = filter (is_of_wanted wanted) ls
 abbrev pub wanted_on : List ℕ → List Assigned → List Lit
 wanted_on wanted entries = wanted_of wanted (held entries)
 
--- a clause of wanted atoms alone that is true whatever the values are
-abbrev pub IsTaught : List Regex → List (AtomOver ℕ) → List ℕ → List Lit → Type 0
-IsTaught rs atoms wanted clause = (list_all (is_of_wanted wanted) clause ≡ true) × IsValid rs atoms clause
+-- the atoms, and this one behind them where it is new
+abbrev pub IsWithAtom : List ℕ → List ℕ → ℕ → Type 0
+IsWithAtom old new atom = ((new ≡ old) × (is_wanted old atom ≡ true)) ⊎ (new ≡ old ++ atom ∷ [])
+
+-- a clause of known atoms that is true whatever the values are
+abbrev pub IsTaught : List Regex → List (AtomOver ℕ) → List Lit → Type 0
+IsTaught rs atoms clause = (are_atoms atoms clause ≡ true) × IsValid rs atoms clause

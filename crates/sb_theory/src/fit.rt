@@ -5,8 +5,10 @@ ghost use Rattle.sb_theory.specs.Words.{HaveRegexesBelow, IsStore, Lit as TheLit
 ghost use Rattle.sb_theory.specs.Memberships.{is_true_by};
 ghost use Rattle.sb_theory.specs.Wanted.{wanted_of};
 ghost use Rattle.sb_theory.specs.Fronts.{AreRows, IsNoted};
+ghost use Rattle.sb_theory.specs.Tables.{AreFormed};
 
 use crate::changed::Changed;
+use crate::joined::fits_pieces;
 use crate::member::{asked, membership};
 use crate::numbers::{number_of, put_number};
 use crate::place::contains;
@@ -19,7 +21,8 @@ use sb_term::Serial;
 use sb_word::Word;
 use std::alloc::{AllocError, Global};
 
-/// Whether the word of a literal's constant makes it true, and so where it is about none.
+/// Whether the words make a literal true: of a membership, of one constant or of several pieces. Of other atoms nothing
+/// is said.
 pub(crate) fn fits(
     store: &mut Store,
     atoms: &Atoms,
@@ -27,12 +30,13 @@ pub(crate) fn fits(
     literal: Lit,
 ) -> Result<bool, AllocError>
     requires regexes { HaveRegexesBelow (length store.old.arena) atoms.now }
+    requires formed { AreFormed atoms.now }
     requires store { IsStore store.old }
     ensures fits { IfOk result (λ b. b ≡ is_true_by store.old.arena atoms.now words.now literal) }
     ensures grows { RegexesGrow store.old store.new }
 {
     let Some(member) = membership(atoms, literal) else {
-        return Ok(true);
+        return fits_pieces(store, atoms, words, literal);
     };
     let is_in = contains(store, words, member.serial, member.regex)?;
     Ok(is_in == literal.positive)
@@ -53,6 +57,7 @@ pub(crate) fn take_literal(
     literal: Lit,
 ) -> Result<(), AllocError>
     requires regexes { HaveRegexesBelow (length store.old.arena) atoms.now }
+    requires formed { AreFormed atoms.now }
     requires store { IsStore store.old }
     ensures rows { OnOk result ((ls : List TheLit)
         → AreRows store.old.arena atoms.now words.now rows.old.items fitting.old.items changed.old ls

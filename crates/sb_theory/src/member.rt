@@ -67,7 +67,7 @@ pub(crate) fn asked(wanted: &WantedAtoms, atoms: &Atoms, literal: Lit) -> Option
 }
 
 /// Takes the last literal that was taken in off the row of its constant, where its atom is wanted. Takes no memory.
-fn forget(wanted: &WantedAtoms, atoms: &Atoms, rows: &mut Vec<Row>, literal: Lit)
+pub(crate) fn forget(wanted: &WantedAtoms, atoms: &Atoms, rows: &mut Vec<Row>, literal: Lit)
     ensures { (ls : List TheLit) → AreMembers atoms.now rows.old.items (ls ++ wanted_of wanted.now (literal ∷ []))
         → AreMembers atoms.now rows.new.items ls }
 {

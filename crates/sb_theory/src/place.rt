@@ -1,6 +1,6 @@
 //! Words by the serials of their constants.
 
-ghost use Rattle.std.specs.Prelude.{◌≡◌, ◌<◌, length, IfOk, OnOk};
+ghost use Rattle.std.specs.Prelude.{◌≡◌, ◌<◌, [], length, IfOk, IfNone, IfSome, OnOk};
 ghost use Rattle.sb_lang.specs.Language.{language};
 ghost use Rattle.sb_theory.specs.Words.{IsStore, RegexesGrow, regex_at};
 ghost use Rattle.sb_theory.specs.Memberships.{word_at, IsPut};
@@ -28,9 +28,20 @@ pub(crate) fn contains(
 {
     regexes_grow();
     nullable_has_empty_word();
+    match word_of(words, serial) {
+        Some(word) => store.plain.matches(&mut store.arena, word, regex),
+        None => Ok(store.arena.nullable(regex)),
+    }
+}
+
+/// The word of a constant, if one was put. Takes constant time and no memory.
+pub(crate) fn word_of(words: &[Option<Word>], serial: Serial) -> Option<&Word>
+    ensures some { IfSome result (λ word. word.now ≡ word_at words.now serial.0) }
+    ensures none { IfNone result (word_at words.now serial.0 ≡ []) }
+{
     match words.get(serial.0 as usize) {
-        Some(Some(word)) => store.plain.matches(&mut store.arena, word, regex),
-        Some(None) | None => Ok(store.arena.nullable(regex)),
+        Some(Some(word)) => Some(word),
+        Some(None) | None => None,
     }
 }
 

@@ -1,28 +1,38 @@
 //! The theory.
 
-ghost use Rattle.std.specs.Prelude.{◌≡◌, ◌+◌, ◌<◌, ◌≤◌, [], true, length, if◌then◌else◌, IfOk, OnOk};
-ghost use Rattle.std.proofs.Common.{rules};
+ghost use Rattle.std.specs.Prelude.{◌≡◌, ◌+◌, ◌<◌, ◌≤◌, [], true, filter, length, if◌then◌else◌, IfOk, OnOk};
+ghost use Rattle.std.specs.List.{list_all};
 ghost use Rattle.sb_theory.specs.Words.{HaveRegexesBelow, IsStore, Lemma, Spent, current_level};
-ghost use Rattle.sb_theory.specs.Memberships.{row_at, is_atom};
+ghost use Rattle.sb_theory.specs.Memberships.{row_at, is_atom, is_joined};
+ghost use Rattle.sb_theory.specs.Tables.{AreFormed};
+ghost use Rattle.sb_theory.specs.Wishes.{ungranted};
 ghost use Rattle.sb_theory.specs.Wanted.{IsTaught};
 ghost use Rattle.sb_theory.specs.Fronts.{number_at};
-ghost use Rattle.sb_theory.specs.Strings.{Holds, Stands, Agrees, Keeps, Looks, HasClash, IsAsked, IsSettled, AreSettled, IsFront, AreFew, IsDenied, Writes, IsLook};
-ghost use Rattle.sb_theory.specs.Laws.{stands_longer, writes_none, writes_both, writes_learned, writes_gate};
+ghost use Rattle.sb_theory.specs.Strings.{Holds, Stands, Agrees, Keeps, Looks, HasClash, IsAsked, IsTriedNext, IsSettled, AreSettled, IsFront, AreFew, IsDenied, Writes, IsLook};
+ghost use Rattle.sb_theory.specs.Laws.{stands_longer, ungranted_longer, writes_none, writes_both, writes_learned, writes_gate};
+
+mod hinting;
+mod judging;
+mod walking;
 
 use crate::changed::Changed;
 use crate::fit::{fits, take_literal};
+use crate::joined::is_joined;
 use crate::member::cut;
 use crate::numbers::{number_of, put_number};
 use crate::place::put_word;
 use crate::row::{Row, front_of, literal_at, row_of};
 use crate::wanted::WantedAtoms;
+use indexmap::IndexSet;
 use sb_atoms::Atoms;
 use sb_clash::{core, denial, least_word, put_denial, tick};
 use sb_clauses::Clauses;
 use sb_graph::Explored;
 use sb_lang::constructors::{mkand_keeps_language, mknot_keeps_language};
+use sb_lang::order::order_tells_apart;
 use sb_lit::{Budget, Clause, Lit};
 use sb_proof::{Tape, TapeFault};
+use sb_regex::RegexId;
 use sb_search::{Checked, Theory};
 use sb_sound::memberships::{empty_holds, empty_is_exact};
 use sb_store::{Store, regexes_grow};
@@ -32,7 +42,7 @@ use sb_trail::{Entry, Trail};
 use sb_word::Word;
 use std::alloc::{AllocError, Global};
 
-/// The theory of memberships of one String constant each.
+/// The theory of memberships.
 #[derive(Drop)]
 pub struct Strings {
     alloc: Global,
@@ -43,9 +53,17 @@ pub struct Strings {
     pub proves: bool,
     /// The atoms that are to have values in the end.
     pub wanted: WantedAtoms,
+    /// The atoms that are, and those of one constant of which steps spoke that the theory looked at.
+    noted: WantedAtoms,
+    /// The wanted memberships of several pieces, or of none, in the order in which they are wanted.
+    joined: Vec<u64>,
+    /// The literals for which values were looked for last.
+    tried: Vec<Lit>,
+    /// The regexes that were expanded where no lines are put.
+    expanded: IndexSet<RegexId>,
     /// What was taken in of the trail, oldest first.
     taken: Vec<Entry>,
-    /// By serial the literals of the constant's memberships among these whose atoms are wanted, oldest first.
+    /// By serial the literals of the constant's memberships among these whose atoms are noted, oldest first.
     members: Vec<Row>,
     /// By serial a word that makes these literals of the constant true, but for the constants in `changed`; the empty
     /// one where there is none.
@@ -62,9 +80,9 @@ impl Theory for Strings {
 
     ghost passes = { λ x atom. is_atom x.atoms atom ≡ true };
 
-    ghost teaches = { λ x clause. IsTaught x.store.arena x.atoms x.wanted clause };
+    ghost teaches = { λ x clause. IsTaught x.store.arena x.atoms clause };
 
-    ghost measure = { λ _ _ _. 0 };
+    ghost measure = { λ x kept entries. ungranted x entries };
 
     ghost stands = { λ x entries. Stands x entries };
 
@@ -76,16 +94,20 @@ impl Theory for Strings {
         &mut self,
         trail: &Trail,
         clauses: &Clauses,
-        _last: bool,
+        last: bool,
         tape: &mut L,
         budget: &mut Budget,
     ) -> Result<Checked, TapeFault> {
-        self.look(trail, tape, budget)
+        order_tells_apart();
+        let checked = self.look(trail, last, tape, budget)?;
+        self.store.arena.normal_regexes_each_once();
+        self.atoms.atoms_each_once();
+        Ok(checked)
     }
 
     fn backtrack(&mut self, level: usize) {
         cut(
-            &self.wanted,
+            &self.noted,
             &self.atoms,
             &mut self.taken,
             &mut self.members,
@@ -103,7 +125,7 @@ impl Theory for Strings {
 
     ghost stands_longer = { stands_longer };
 
-    ghost measure_longer = { Prim.search rules };
+    ghost measure_longer = { λ x kept. ungranted_longer x };
 
     ghost puts_none = { writes_none };
 
@@ -115,8 +137,8 @@ impl Theory for Strings {
 }
 
 impl Strings {
-    /// The theory over this store and these tables, where nothing was taken in and all constants are empty. Takes no
-    /// memory.
+    /// The theory over this store and these tables, where nothing was taken in and all constants are empty. Linear in
+    /// the wanted atoms. `AllocError` only for want of memory.
     pub fn new(
         alloc: Global,
         store: Store,
@@ -124,50 +146,76 @@ impl Strings {
         atoms: Atoms,
         proves: bool,
         wanted: WantedAtoms,
-    ) -> Strings
+    ) -> Result<Strings, AllocError>
         requires store { IsStore store }
         requires regexes { HaveRegexesBelow (length store.arena) atoms }
-        ensures stands { Stands result [] }
-        ensures store { result.store ≡ store }
-        ensures trace { result.trace ≡ trace }
-        ensures atoms { result.atoms ≡ atoms }
-        ensures proves { result.proves ≡ proves }
-        ensures wanted { result.wanted ≡ wanted }
+        requires formed { AreFormed atoms }
+        requires wanted { list_all (is_atom atoms) wanted ≡ true }
+        ensures stands { IfOk result (λ strings. Stands strings []) }
+        ensures store { IfOk result (λ strings. strings.store ≡ store) }
+        ensures trace { IfOk result (λ strings. strings.trace ≡ trace) }
+        ensures atoms { IfOk result (λ strings. strings.atoms ≡ atoms) }
+        ensures proves { IfOk result (λ strings. strings.proves ≡ proves) }
+        ensures wanted { IfOk result (λ strings. strings.wanted ≡ wanted) }
     {
-        Strings {
-            alloc,
-            store,
-            trace,
-            atoms,
-            proves,
-            wanted,
-            taken: Vec::new(alloc),
-            members: Vec::new(alloc),
-            words: Vec::new(alloc),
-            fitting: Vec::new(alloc),
-            changed: Changed::new(alloc),
+        match lists_of(alloc, &atoms, &wanted) {
+            Ok(lists) => Ok(Strings {
+                alloc,
+                store,
+                trace,
+                atoms,
+                proves,
+                wanted,
+                noted: lists.noted,
+                joined: lists.joined,
+                tried: Vec::new(alloc),
+                expanded: IndexSet::new(alloc),
+                taken: Vec::new(alloc),
+                members: Vec::new(alloc),
+                words: Vec::new(alloc),
+                fitting: Vec::new(alloc),
+                changed: Changed::new(alloc),
+            }),
+            Err(error) => {
+                drop(store);
+                drop(trace);
+                drop(atoms);
+                drop(wanted);
+                Err(error)
+            }
         }
     }
 
     /// Takes the whole trail in, and then looks for a word of each constant whose word does not fit. A lemma where
-    /// there is none.
+    /// there is none; else what is to be said of concatenations.
     fn look<L: Tape>(
         &mut self,
         trail: &Trail,
+        last: bool,
         tape: &mut L,
         budget: &mut Budget,
     ) -> Result<Checked, TapeFault>
         requires { Stands self.old trail.now.literals }
         ensures { IsLook self.old self.new trail.now.literals budget.old budget.new (L.Tape.told tape.old)
-            (L.Tape.told tape.new) (L.Tape.faults tape.old) (L.Tape.faults tape.new) result }
+            (L.Tape.told tape.new) (L.Tape.faults tape.old) (L.Tape.faults tape.new) last result }
     {
         self.take_in(trail)?;
-        let marks = self.proves && trail.current_level() == 0;
-        let found = self.first_clash(marks)?;
+        let found = self.clash_on(trail)?;
         match found {
-            None => Ok(Checked::Fine),
-            Some(serial) => self.clash(trail, serial, tape, budget),
+            None => self.look_on(trail, last, tape, budget),
+            Some(serial) => self.clash(trail, serial, last, tape, budget),
         }
+    }
+
+    /// Looks for words of the constants whose rows are not known to fit. The first constant that has none, whose row is
+    /// marked as dead in the graph where the trail has no decision and lines are put.
+    fn clash_on(&mut self, trail: &Trail) -> Result<Option<Serial>, AllocError>
+        requires { Holds self.old }
+        ensures ok { IfOk result (AreSettled self.old self.new) }
+        ensures keeps { Keeps self.old self.new }
+    {
+        let top = trail.current_level() == 0;
+        self.first_clash(self.proves & top)
     }
 
     /// Takes the whole trail in, whatever the words.
@@ -175,6 +223,7 @@ impl Strings {
         requires { Stands self.old trail.now.literals }
         ensures ok { OnOk result
             (Stands self.new trail.now.literals × (self.new.taken.items ≡ trail.now.literals)) }
+        ensures noted { self.new.noted ≡ self.old.noted }
         ensures keeps { Keeps self.old self.new }
     {
         while self.taken.len() < trail.len() {
@@ -189,13 +238,14 @@ impl Strings {
         requires more { length self.old.taken.items < length trail.now.literals }
         ensures ok { OnOk result (Stands self.new trail.now.literals
             × (length self.new.taken.items ≡ length self.old.taken.items + 1)) }
+        ensures noted { self.new.noted ≡ self.old.noted }
         ensures keeps { Keeps self.old self.new }
     {
         let entry = trail.literals()[self.taken.len()];
         take_literal(
             self.alloc,
             &mut self.store,
-            &self.wanted,
+            &self.noted,
             &self.atoms,
             &self.words,
             &mut self.members,
@@ -226,17 +276,40 @@ impl Strings {
         Ok(None)
     }
 
-    /// Whether a constant has a word that makes its whole row true, which it has from then on.
+    /// Whether a constant has a word that makes its whole row true, which it has from then on. The word that it has is
+    /// tried first.
     fn settles(&mut self, serial: Serial, marks: bool) -> Result<bool, AllocError>
         requires { Holds self.old }
         ensures ok { IfOk result (IsSettled self.old self.new serial.0) }
         ensures looks { Looks self.old self.new }
     {
         let long = row_of(&self.members, serial).len();
-        if long <= number_of(&self.fitting, serial) {
-            return Ok(true);
+        while number_of(&self.fitting, serial) < long {
+            if !self.fits_next(serial, long)? {
+                return self.ask(serial, long, marks);
+            }
         }
-        self.ask(serial, long, marks)
+        Ok(true)
+    }
+
+    /// Whether the word of a constant makes the next literal of its row true, of which it is known to make those in
+    /// front true: fewer than so many. It is then known of this one too.
+    fn fits_next(&mut self, serial: Serial, long: usize) -> Result<bool, AllocError>
+        requires holds { Holds self.old }
+        requires more { number_at self.old.fitting.items serial.0 < long }
+        requires within { long ≤ length (row_at self.old.members.items serial.0) }
+        ensures ok { IfOk result (IsTriedNext self.old self.new serial.0) }
+        ensures looks { Looks self.old self.new }
+        ensures words { self.new.words ≡ self.old.words }
+    {
+        let place = number_of(&self.fitting, serial);
+        let literal = literal_at(&self.members, serial, place);
+        let matches = fits(&mut self.store, &self.atoms, &self.words, literal)?;
+        if !matches {
+            return Ok(false);
+        }
+        put_number(&mut self.fitting, serial, place + 1)?;
+        Ok(true)
     }
 
     /// Whether a word makes so many first literals of a constant's row true, more than its word is known to. It is the
@@ -275,6 +348,7 @@ impl Strings {
         &mut self,
         trail: &Trail,
         serial: Serial,
+        last: bool,
         tape: &mut L,
         budget: &mut Budget,
     ) -> Result<Checked, TapeFault>
@@ -282,13 +356,13 @@ impl Strings {
         requires whole { self.old.taken.items ≡ trail.now.literals }
         requires clash { HasClash self.old serial.0 }
         ensures { IsLook self.old self.new trail.now.literals budget.old budget.new (L.Tape.told tape.old)
-            (L.Tape.told tape.new) (L.Tape.faults tape.old) (L.Tape.faults tape.new) result }
+            (L.Tape.told tape.new) (L.Tape.faults tape.old) (L.Tape.faults tape.new) last result }
     {
         mkand_keeps_language();
         let _trail = trail.literals();
         let few = self.clashing(trail, serial)?;
         let clause = denial(self.alloc, &few)?;
-        self.answer(trail, serial, clause, tape, budget)
+        self.answer(trail, serial, last, clause, tape, budget)
     }
 
     /// Literals of a constant's row that no word makes true together: all of them where no decision is on the trail,
@@ -344,10 +418,7 @@ impl Strings {
         ensures ok { IfOk result (IsAsked long self.old self.new serial.0) }
         ensures looks { Looks self.old self.new }
     {
-        let literal = literal_at(&self.members, serial, long - 1);
-        let matches = fits(&mut self.store, &self.atoms, &self.words, literal)?;
-        if matches {
-            put_number(&mut self.fitting, serial, long)?;
+        if self.fits_next(serial, long)? {
             return Ok(true);
         }
         self.ask(serial, long, false)
@@ -358,6 +429,7 @@ impl Strings {
         &mut self,
         trail: &Trail,
         serial: Serial,
+        last: bool,
         clause: Clause,
         tape: &mut L,
         budget: &mut Budget,
@@ -365,7 +437,7 @@ impl Strings {
         requires stands { Stands self.old trail.now.literals }
         requires denied { IsDenied self.old trail.now.literals serial.0 clause }
         ensures { IsLook self.old self.new trail.now.literals budget.old budget.new (L.Tape.told tape.old)
-            (L.Tape.told tape.new) (L.Tape.faults tape.old) (L.Tape.faults tape.new) result }
+            (L.Tape.told tape.new) (L.Tape.faults tape.old) (L.Tape.faults tape.new) last result }
     {
         regexes_grow();
         empty_holds();
@@ -374,6 +446,7 @@ impl Strings {
             let done = tick(budget);
             return Ok(answered(done, clause));
         }
+        self.trace.marks_have_numbers();
         let done = put_denial(
             self.alloc,
             &mut self.trace,
@@ -387,6 +460,39 @@ impl Strings {
         )?;
         Ok(answered(done, clause))
     }
+}
+
+/// What a theory lists at its beginning.
+#[derive(Drop)]
+struct Lists {
+    /// The wanted atoms.
+    noted: WantedAtoms,
+    /// The wanted memberships of several pieces, or of none.
+    joined: Vec<u64>,
+}
+
+/// The wanted atoms, and which of them are memberships of several pieces, or of none.
+fn lists_of(alloc: Global, atoms: &Atoms, wanted: &WantedAtoms) -> Result<Lists, AllocError>
+    ensures noted { IfOk result (λ all. all.noted ≡ wanted.now) }
+    ensures joined { IfOk result (λ all. all.joined.items ≡ filter (is_joined atoms.now) wanted.now) }
+{
+    let joined = joined_of(alloc, atoms, wanted.atoms())?;
+    let noted = wanted.copied()?;
+    Ok(Lists { noted, joined })
+}
+
+/// The memberships of several pieces, or of none, among atoms.
+fn joined_of(alloc: Global, atoms: &Atoms, wanted: &[u64]) -> Result<Vec<u64>, AllocError>
+    ensures { IfOk result (λ found. found.items ≡ filter (is_joined atoms.now) wanted.now) }
+{
+    let mut found = Vec::new(alloc);
+    for atom in wanted {
+        if !is_joined(atoms, *atom) {
+            continue;
+        }
+        found.push(*atom)?;
+    }
+    Ok(found)
 }
 
 /// The lemma where its step was left.

@@ -1,9 +1,10 @@
 //! The atoms that are to have values.
 
-ghost use Rattle.std.specs.Prelude.{◌≡◌, ◌<◌, ◌^◌, slice_get, length};
-ghost use Rattle.sb_theory.specs.Wanted.{is_wanted};
+ghost use Rattle.std.specs.Prelude.{◌≡◌, ◌<◌, ◌^◌, slice_get, length, IfOk, OnOk};
+ghost use Rattle.sb_theory.specs.Wanted.{is_wanted, IsWithAtom};
 
 use indexmap::IndexSet;
+use std::alloc::AllocError;
 use std::marker::Model;
 
 /// Atoms, of each of which it is known at once that it is one of them.
@@ -26,6 +27,26 @@ impl WantedAtoms {
         ensures { result ≡ atoms.keys }
     {
         WantedAtoms { atoms }
+    }
+
+    /// The same atoms, in a set of its own. Linear in them.
+    pub(crate) fn copied(&self) -> Result<WantedAtoms, AllocError>
+        ensures { IfOk result (λ other. other ≡ self.now) }
+    {
+        let all = self.atoms.as_slice();
+        let mut atoms = IndexSet::new(*self.atoms.allocator());
+        for atom in all {
+            atoms.insert_full(*atom)?;
+        }
+        Ok(WantedAtoms { atoms })
+    }
+
+    /// Adds an atom, unless it is there.
+    pub(crate) fn add(&mut self, atom: u64) -> Result<(), AllocError>
+        ensures { OnOk result (IsWithAtom self.old self.new atom) }
+    {
+        self.atoms.insert_full(atom)?;
+        Ok(())
     }
 
     /// Whether an atom is one of them. Takes constant time and no memory.

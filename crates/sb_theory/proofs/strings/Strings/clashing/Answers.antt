@@ -1,6 +1,6 @@
 use Rattle.sb_theory.proofs.Words.{◌∙◌, List, ap, refl, subst, sym, take, AreClashing, AreFewer, IfOk-from_err, IfOk-weaker, Lit, row_at, wanted_on}
 use Rattle.sb_theory.proofs.Denied.{fewer_front, fewer_same}
-use Rattle.sb_theory.proofs.Moving.{holds_grown, looks_both, looks_grown, looks_none, store_explored}
+use Rattle.sb_theory.proofs.Moving.{holds_kept, looks_both, looks_grown, looks_none, store_explored}
 use Rattle.sb_theory.proofs.Rows.{front_about}
 use Rattle.sb_theory.proofs.strings.Strings.clashing.Goals as goal
 
@@ -37,7 +37,7 @@ core-requires c =
     record {
       can = record {
         about = front_about y.atoms n c.in_ok-long.long y.members.items c.deref-2.result.now
-            (wanted_on y.wanted y.taken.items) c.front_of.result.now c.deref-2.ensures.value c.front_of.ensures
+            (wanted_on y.noted y.taken.items) c.front_of.result.now c.deref-2.ensures.value c.front_of.ensures
             h.rows.members;
         regexes = h.regexes;
         graph = h.store.graph;
@@ -60,7 +60,7 @@ returns c =
     record {
       few = IfOk-weaker c.core.result _ _
           (λ found core. record {
-            holds = holds_grown grows refl h;
+            holds = holds_kept grows refl h;
             fewer = fewer_front found.items (row_at y.members.items n) c.in_ok-long.long
                 (subst (λ (ls : List Lit). AreFewer found.items ls) front core.fewer);
             clash = core.clash;

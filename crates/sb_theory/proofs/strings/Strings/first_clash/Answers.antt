@@ -1,5 +1,5 @@
 use Rattle.sb_theory.proofs.Words.{◌∙◌, List, ap, arith, length, refl, subst, HasClash, IfOk-from_err, Intake, IsSettled, Serial, false≢true, is_in, regexes_same, same_Some, take_all}
-use Rattle.sb_theory.proofs.Moving.{entries_stay, keeps_both, keeps_grown, looks_both, looks_none}
+use Rattle.sb_theory.proofs.Moving.{entries_stay, keeps_both, keeps_grown, left_kept, looks_both, looks_none}
 use Rattle.sb_theory.proofs.Standing.{rows_settled, whole_more}
 use Rattle.sb_theory.proofs.strings.Strings.first_clash.Goals as goal
 
@@ -49,6 +49,7 @@ returns-then-not-branch c =
     record {
       ok = record {
         holds = h.holds;
+        noted = ap (λ (t : Intake). t.noted) looks.intake;
         entries = entries_stay looks;
         settled = λ none. absurd (Prim.cc (none));
         clash = λ s is. subst (λ (t : Serial). HasClash c.settles.new.self t.0) (same_Some c.at-serial.result s is)
@@ -62,20 +63,27 @@ returns c =
     let x = c.loop-place.self in
     let before = c.loop-place.invariant in
     let h = before.holds in
+    let same = keeps_grown h (regexes_same x.store) refl refl in
     record {
       ok = record {
         holds = record {
           store = h.store;
           regexes = h.regexes;
+          formed = h.formed;
+          noted = h.noted;
+          among = h.among;
+          joined = h.joined;
+          left = λ a noted joined. left_kept same a (h.left a noted joined);
           rows = rows_settled c.clear.new.self
               (λ n there. before.whole n
               (ap (λ (cs : List Serial). is_in cs n)
               (take_all c.loop-place.place x.changed (omega (arith, c.loop-place-test.false, c.len.ensures))) ∙ there))
               h.rows;
         };
+        noted = ap (λ (t : Intake). t.noted) before.looks.intake;
         entries = entries_stay before.looks;
         settled = λ none. c.clear.ensures;
         clash = λ s is. absurd (Prim.cc (is));
       };
-      keeps = keeps_both before.looks.keeps (keeps_grown h (regexes_same x.store) refl refl);
+      keeps = keeps_both before.looks.keeps same;
     }

@@ -1,76 +1,56 @@
-use Rattle.sb_theory.proofs.Words.{◌-◌, ◌∙◌, List, ap, arith, get_or, length, refl, sym, IfOk-from_err, IfOk-weaker, Lit, is_true_by, number_at, regexes_kept, row_at, true≢false}
-use Rattle.sb_theory.proofs.Fitting.{rises_set, rows_grown, rows_next}
-use Rattle.sb_theory.proofs.Moving.{holds_grown, looks_both, looks_grown}
-use Rattle.sb_theory.proofs.Rows.{put_at}
+use Rattle.sb_theory.proofs.Words.{◌∙◌, List, ap, arith, length, ℕ, IfOk-from_err, IfOk-weaker, Lit, number_at, row_at, true≢false}
+use Rattle.sb_theory.proofs.Moving.{looks_both, rows_stay}
 use Rattle.sb_theory.proofs.strings.Strings.goes_on.Goals as goal
 
-pub literal_at-literal-requires : goal.literal_at-literal-requires
-literal_at-literal-requires c =
-    omega (
-      arith,
-      c.requires.next,
-      c.requires.within,
-      ap (λ (rows : List (List Lit)). length (row_at rows c.args.serial.0)) c.deref.ensures.value,
-    )
+pub fits_next-requires : goal.fits_next-requires
+fits_next-requires c =
+    record { holds = c.requires.holds; more = omega (arith, c.requires.next); within = c.requires.within }
 
-pub returns-in_err-matches : goal.returns-in_err-matches
-returns-in_err-matches c =
+pub returns-in_err-fits_next : goal.returns-in_err-fits_next
+returns-in_err-fits_next c =
     let r = c.from_residual in
-    record {
-      ok = IfOk-from_err r.result _ r.ensures.0;
-      looks = looks_grown c.requires.holds c.in_err-matches.ensures.grows refl refl refl;
-    }
+    record { ok = IfOk-from_err r.result _ r.ensures.0; looks = c.in_err-fits_next.ensures.looks }
 
-pub returns-in_err-put_number : goal.returns-in_err-put_number
-returns-in_err-put_number c =
-    let r = c.from_residual-in_err-put_number in
-    record {
-      ok = IfOk-from_err r.result _ r.ensures.0;
-      looks = looks_grown c.requires.holds c.in_ok-matches.ensures.grows refl refl refl;
-    }
-
-pub returns-then-matches : goal.returns-then-matches
-returns-then-matches c =
-    let x = c.args.self.now in
-    let h = c.requires.holds in
-    let n = c.args.serial.0 in
-    let e = c.in_ok-matches.ensures in
-    let set = c.in_ok-put_number.ensures in
+pub returns-then-branch : goal.returns-then-branch
+returns-then-branch c =
+    let h = c.in_ok-fits_next.ensures in
     record {
       ok = record {
-        holds = record {
-          store = e.grows.right h.store;
-          regexes = regexes_kept x.store.arena c.fits.new.store.arena x.atoms e.grows.more.extends h.regexes;
-          rows = rows_grown e.grows.more.extends h.regexes
-              (rows_next c.put_number.new.numbers.items n c.args.long c.literal_at-literal.result set c.requires.next
-              c.requires.within
-              (c.literal_at-literal.ensures
-              ∙ ap (λ (rows : List (List Lit)). get_or (row_at rows n) (c.args.long - 1) c.literal_at-literal.result)
-              c.deref.ensures.value)
-              (ap (λ ws. is_true_by x.store.arena x.atoms ws c.literal_at-literal.result) (sym c.deref-2.ensures.value)
-              ∙ sym e.fits ∙ c.if-matches.true) h.rows);
-        };
-        fits = λ found. put_at (number_at c.put_number.new.numbers.items) (number_at x.fitting.items) (λ y. c.args.long) n
-            set;
+        holds = h.ok.holds;
+        fits = λ found. h.ok.fits c.if-branch.true ∙ c.requires.next;
         clash = λ none. absurd (true≢false none);
-        rises = rises_set x.fitting.items c.put_number.new.numbers.items n c.args.long set
-            (omega (arith, c.requires.next));
+        rises = h.ok.rises;
       };
-      looks = looks_grown h e.grows refl refl refl;
+      looks = h.looks;
     }
 
 pub ask-requires : goal.ask-requires
-ask-requires c = record {
-  holds = holds_grown c.in_ok-matches.ensures.grows refl c.requires.holds;
-  more = omega (arith, c.requires.next);
-  within = c.requires.within;
-}
+ask-requires c =
+    let h = c.in_ok-fits_next.ensures in
+    record {
+      holds = h.ok.holds;
+      more = omega (
+        arith,
+        c.requires.next,
+        ap (λ (ns : List ℕ). number_at ns c.args.serial.0) (h.ok.stays c.if-branch.false),
+      );
+      within = omega (
+        arith,
+        c.requires.within,
+        ap (λ (rows : List (List Lit)). length (row_at rows c.args.serial.0)) (rows_stay h.looks),
+      );
+    }
 
 pub returns : goal.returns
 returns c =
-    let asked = c.ask.ensures in
+    let h = c.in_ok-fits_next.ensures in
     record {
       ok = IfOk-weaker c.ask.result _ _
-          (λ found a. record { holds = a.holds; fits = a.fits; clash = a.clash; rises = a.rises }) asked.ok;
-      looks = looks_both (looks_grown c.requires.holds c.in_ok-matches.ensures.grows refl refl refl) asked.looks;
+          (λ found a. record {
+            holds = a.holds;
+            fits = a.fits;
+            clash = a.clash;
+            rises = λ y. omega (arith, h.ok.rises y, a.rises y);
+          }) c.ask.ensures.ok;
+      looks = looks_both h.looks c.ask.ensures.looks;
     }

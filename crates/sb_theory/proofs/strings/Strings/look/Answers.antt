@@ -1,6 +1,5 @@
-use Rattle.sb_theory.proofs.Words.{◌∙◌, refl, spent_none}
-use Rattle.sb_theory.proofs.Answering.{answers_fine, look_behind, look_failed}
-use Rattle.sb_theory.proofs.Fitting.{agrees_settled}
+use Rattle.sb_theory.proofs.Words.{◌∙◌}
+use Rattle.sb_theory.proofs.Answering.{look_behind, look_failed}
 use Rattle.sb_theory.proofs.Moving.{grows_both, keeps_both, stands_looked}
 use Rattle.sb_theory.proofs.strings.Strings.look.Goals as goal
 
@@ -14,20 +13,20 @@ returns-in_err-found g c =
     look_failed r.result r.ensures.0 r.ensures.1
     (grows_both c.in_ok-take_in.ensures.keeps.grows c.in_err-found.ensures.keeps.grows)
 
+pub look_on-requires : goal.look_on-requires
+look_on-requires g c =
+    let took = c.in_ok-take_in.ensures in
+    let found = c.in_ok-found.ensures.ok in
+    record {
+      stands = stands_looked found.holds found.entries took.ok.0;
+      whole = found.entries ∙ took.ok.1;
+      settled = found.settled c.in-None.is;
+    }
+
 pub returns-in-None : goal.returns-in-None
 returns-in-None g c =
-    let z = c.first_clash.new.self in
-    let took = c.in_ok-take_in.ensures in
-    let found = c.in_ok-found.ensures in
-    let keeps = keeps_both took.keeps found.keeps in
-    record {
-      answers = answers_fine (stands_looked found.ok.holds found.ok.entries took.ok.0)
-          (agrees_settled z c.args.trail.now.literals found.ok.holds (found.ok.settled c.in-None.is)
-          (found.ok.entries ∙ took.ok.1)) keeps;
-      grows = keeps.grows;
-      steps = spent_none c.args.budget.now;
-      counts = refl;
-    }
+    look_behind c.look_on.result (keeps_both c.in_ok-take_in.ensures.keeps c.in_ok-found.ensures.keeps)
+    c.look_on.ensures
 
 pub clash-requires : goal.clash-requires
 clash-requires g c =

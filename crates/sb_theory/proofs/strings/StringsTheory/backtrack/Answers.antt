@@ -1,5 +1,6 @@
-use Rattle.sb_theory.proofs.Words.{refl, regexes_same, wanted_on, writes_grown}
+use Rattle.sb_theory.proofs.Words.{arith, refl, regexes_same, wanted_on, writes_still}
 use Rattle.sb_theory.proofs.Fitting.{rows_cut}
+use Rattle.sb_theory.proofs.Moving.{keeps_grown, left_kept}
 use Rattle.sb_theory.proofs.Rows.{wanted_front}
 use Rattle.sb_theory.proofs.Standing.{stands_cut}
 use Rattle.sb_theory.proofs.strings.StringsTheory.backtrack.Goals as goal
@@ -12,11 +13,20 @@ returns-clause-stands c = λ entries h.
     (record {
       store = h.holds.store;
       regexes = h.holds.regexes;
-      rows = rows_cut c.cut.new.rows.items (wanted_on x.wanted c.cut.new.taken.items) (wanted_on x.wanted cut.more)
-          (wanted_front x.wanted x.taken.items c.cut.new.taken.items cut.more cut.front)
+      formed = h.holds.formed;
+      noted = h.holds.noted;
+      among = h.holds.among;
+      joined = h.holds.joined;
+      left = λ a noted joined. left_kept (keeps_grown h.holds (regexes_same x.store) refl refl) a (h.holds.left a noted
+          joined);
+      rows = rows_cut c.cut.new.rows.items (wanted_on x.noted c.cut.new.taken.items) (wanted_on x.noted cut.more)
+          (wanted_front x.noted x.taken.items c.cut.new.taken.items cut.more cut.front)
           (c.cut.ensures.members h.holds.rows.members) h.holds.rows;
     }) h
 
 pub returns-clause-puts : goal.returns-clause-puts
 returns-clause-puts c = λ proof.
-    writes_grown c.args.self.now _ proof refl refl refl refl (regexes_same c.args.self.now.store)
+    writes_still c.args.self.now _ proof refl refl refl (regexes_same c.args.self.now.store)
+
+pub returns-clause-falls : goal.returns-clause-falls
+returns-clause-falls c = λ kept entries. omega arith
