@@ -1,6 +1,6 @@
 -- Terms that demand something of one constant's word: they ask for it, or are the denial of a term that does. Which
 -- constant stands in them, what they mean, when they are decided ones, and the regexes that they demand.
-use Rattle.sb_decide.proofs.Words.{Bool, Demand, IsAsking, IsNumberOf, IsRegexOf, List, Meaning, Names, None, Option, RegLan, Regex, Some, Sort, Symbol, Term, Terms, Text, Valuation, [], a_membership, a_word_behind, a_word_in_front, all_true, and-true, and_parts, ap, applied, apply, asked, asked_holds, asked_looks, asked_occurs, asked_regular, asked_structure, asserted, complement_of, constant, demanded, expression_in, false, false≢true, fits, has_serials_below, have_serials_below, holds, if◌then◌else◌, in_re, is_about, is_decided, is_demand, is_of_constant, is_plain_term, is_regex, is_regular, is_structure, is_unjoined, length, meaning_of, means_number, means_reglan, means_truth, means_word, membership_of, mknot, names_at, nat_lt, negation_of, no_terms, none-some, normal, not, occurs, option_map, or_parts, pattern_in, re_comp, refl, regex_at, speak_of, speaks_of, subst, sym, symbol_in, terms_at, terms_of, text, true, truth_in, value_in, with_term, ℕ, ◌&&◌, ◌==◌, ◌||◌, ◌∙◌, ◌∷◌, ◌≡◌}
+use Rattle.sb_decide.proofs.Words.{Bool, Demand, IsAsking, IsNumberOf, IsRegexOf, List, Meaning, Names, None, Option, RegLan, Regex, Some, Sort, Symbol, Term, Terms, Text, Valuation, [], a_membership, a_word_behind, a_word_in_front, all_true, and-true, and_parts, ap, applied, apply, asked, asked_holds, asked_looks, asked_occurs, asked_regular, asked_structure, asserted, complement_of, constant, demanded, expression_in, false, false≢true, fits, has_serials_below, have_serials_below, holds, if◌then◌else◌, in_re, is_about, is_decided, is_demand, is_of_constant, is_plain_term, is_regex, is_regular, is_structure, length, meaning_of, means_number, means_reglan, means_truth, means_word, membership_of, mknot, names_at, nat_lt, negation_of, no_terms, none-some, normal, not, occurs, option_map, or_parts, pattern_in, re_comp, refl, regex_at, speak_of, speaks_of, subst, sym, symbol_in, terms_at, terms_of, text, true, truth_in, value_in, with_term, ℕ, ◌&&◌, ◌==◌, ◌||◌, ◌∙◌, ◌∷◌, ◌≡◌}
 use Rattle.sb_meaning.specs.Terms as symbol
 use Rattle.sb_term.specs.declared.sort.Symbol.TheVariants as code
 
@@ -226,9 +226,7 @@ demanded_structure t serial R h = step (demanded_looks t serial R h)
 pub decided_kind : (t : Term) (serial : ℕ) (R : Term) → demanded t ≡ Some (serial, R)
     → is_decided (asserted t) ≡ true → is_regex R ≡ true
 decided_kind t serial R h decided =
-    sym (demanded_structure t serial R h)
-    ∙ (and_parts (is_structure t) (is_unjoined t)
-    (and_parts (is_structure t && is_unjoined t) (fits t) decided).0).0
+    sym (demanded_structure t serial R h) ∙ (and_parts (is_structure t) (fits t) decided).0
 
 -- Plain terms.
 

@@ -1,5 +1,5 @@
 -- One more term that asks something of a constant's word.
-use Rattle.sb_decide.proofs.Words.{◌≡◌, ℕ, ◌+◌, Bool, true, false, ◌&&◌, ◌==◌, if◌then◌else◌, List, [], ◌∷◌, length, map, take, refl, sym, ap, ap₂, subst, ◌∙◌, Option, Some, None, arith, AreMembers, Assertion, IsRegexOf, IsSofar, IsTakenAs, IsWord, Member, NormalHasTermsWords, RegLan, Regex, Term, Text, Valuation, all_hold, and_from, and_parts, asking, asks_of, asserted, assertion_in, demanded, eq-eqb, eqb-true, false≢true, fits, holds, ids_in, in_each, in_re, is_decided, is_demand, is_member, is_plain_assertion, is_regex, is_structure, is_unjoined, language, list_all, meaning_of, means_reglan, names_at, normal, other_places, regex_at, terms_in, text, value_in, words_asked}
+use Rattle.sb_decide.proofs.Words.{◌≡◌, ℕ, ◌+◌, Bool, true, false, ◌&&◌, ◌==◌, if◌then◌else◌, List, [], ◌∷◌, length, map, take, refl, sym, ap, ap₂, subst, ◌∙◌, Option, Some, None, arith, AreMembers, Assertion, IsRegexOf, IsSofar, IsTakenAs, IsWord, Member, NormalHasTermsWords, RegLan, Regex, Term, Text, Valuation, all_hold, and_from, and_parts, asking, asks_of, asserted, assertion_in, demanded, eq-eqb, eqb-true, false≢true, fits, holds, ids_in, in_each, in_re, is_decided, is_demand, is_member, is_plain_assertion, is_regex, is_structure, language, list_all, meaning_of, means_reglan, names_at, normal, other_places, regex_at, terms_in, text, value_in, words_asked}
 use Rattle.sb_term.specs.declared.assertion.Assertion as code
 use Rattle.sb_decide.proofs.AskingTerms.{asks_same, asks_nothing, words_apart}
 use Rattle.sb_decide.proofs.DemandFacts.{demanded_holds, demanded_kind, nothing_plain}
@@ -27,7 +27,7 @@ first_decided : (done : List Assertion) (t : Term) (serial : ℕ) (R : Term) →
 first_decided done t serial R asks kind decided h =
     and_from (is_member (asserted t)) (list_all is_member done)
     (and_from (is_demand t) (fits t) (demanded_kind t serial R asks ∙ kind)
-    (and_parts (is_structure t && is_unjoined t) (fits t) decided).1) h
+    (and_parts (is_structure t) (fits t) decided).1) h
 
 -- the words of each constant with such a term in front
 first_words : NormalHasTermsWords → (rs : List Regex) (ts : List Term) (t R : Term) (m : Member)

@@ -36,7 +36,7 @@ pub use Rattle.sb_meaning.specs.Terms.{Sort, Term, Terms, apply, boolean, consta
 pub use Rattle.sb_meaning.specs.Truth.{Meaning, all_hold, all_true, applied, holds, meaning_of, means_number, means_reglan, means_truth, means_word, truth_in}
 pub use Rattle.sb_meaning.specs.Values.{Int, Text, Truth, Valuation, Value, is_of, value_in}
 pub use Rattle.sb_script.proofs.CallerLemmas.{IsAsking, a_membership, a_word_behind, a_word_in_front, asked_holds, asked_looks, asked_occurs, asked_regular}
-pub use Rattle.sb_script.specs.Brought.{are_regexes, are_texts, asked, is_regex, is_structure, is_text, is_unjoined, membership_of}
+pub use Rattle.sb_script.specs.Brought.{are_regexes, are_texts, asked, is_regex, is_structure, is_text, membership_of}
 pub use Rattle.sb_script.specs.Fragment.{fits, is_decided}
 pub use Rattle.sb_script.specs.Models.{AreShortestLeast, about, is_about, is_of_constant, is_plain, is_plain_assertion, is_plain_term, occurs, occurs_in_some, words_for}
 pub use Rattle.sb_script.specs.Pieces.{are_ground, is_ground}

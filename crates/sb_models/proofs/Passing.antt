@@ -5,7 +5,7 @@ use Rattle.std.proofs.lemmas.Bool.{and_parts}
 use Rattle.sb_meaning.specs.Terms.{boolean, integer, text, reglan, Term, Terms, constant, word, numeral, apply, parameter, no_terms, with_term}
 use Rattle.sb_meaning.specs.Values.{Valuation, Text}
 use Rattle.sb_meaning.specs.Truth.{holds}
-use Rattle.sb_script.specs.Brought.{is_structure, is_unjoined}
+use Rattle.sb_script.specs.Brought.{is_structure}
 use Rattle.sb_script.specs.State.{Assertion, asserted, a_mark}
 use Rattle.sb_script.specs.Fragment.{fits, is_decided}
 use Rattle.sb_fragment.proofs.CallerLemmas.{asked_structure}
@@ -37,9 +37,7 @@ true_there words truths (asserted u ∷ xs) (suc held) (suc place) t l e h =
 
 -- a decided term is Boolean structure, and keeps the rules of the fragment
 decided_parts : (t : Term) → is_decided (asserted t) ≡ true → (is_structure t ≡ true) × (fits t ≡ true)
-decided_parts t h =
-    let p = and_parts (is_structure t && is_unjoined t) (fits t) h in
-    ((and_parts (is_structure t) (is_unjoined t) p.0).0, p.1)
+decided_parts t h = and_parts (is_structure t) (fits t) h
 
 pub decided_structure : (t : Term) → is_decided (asserted t) ≡ true → is_structure t ≡ true
 decided_structure t h = (decided_parts t h).0

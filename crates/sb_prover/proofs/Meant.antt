@@ -1,5 +1,5 @@
 -- What a decided assertion asks a constant's word to be in means the same regular expression under every valuation.
-use Rattle.sb_prover.proofs.Words.{◌≡◌, ℕ, true, ◌&&◌, nat_le, [], ◌∷◌, Some, refl, sym, ap, ap₂, ◌∙◌, IsDemanding, Term, Terms, Valuation, a_denial, an_asking, and_from, and_parts, applied, apply, asked_regular, asserted, constant, decided_kind, demanded_looks, denied_fits, false≢true, is_decided, is_regex, is_structure, is_unjoined, meaning_of, meanings_of, means_reglan, no_terms, numeral, parameter, with_term, word, RegLan, is_ground, are_ground, is_regular, has_short_words, size_of, demanded}
+use Rattle.sb_prover.proofs.Words.{◌≡◌, ℕ, true, ◌&&◌, nat_le, [], ◌∷◌, Some, refl, sym, ap, ap₂, ◌∙◌, IsDemanding, Term, Terms, Valuation, a_denial, an_asking, and_from, and_parts, applied, apply, asked_regular, asserted, constant, decided_kind, demanded_looks, denied_fits, false≢true, is_decided, is_regex, is_structure, meaning_of, meanings_of, means_reglan, no_terms, numeral, parameter, with_term, word, RegLan, is_ground, are_ground, is_regular, has_short_words, size_of, demanded}
 use Rattle.sb_meaning.specs.Terms as symbol
 use Rattle.sb_script.specs.Fragment.{fits}
 
@@ -53,6 +53,6 @@ pub demanded-means : (t : Term) (serial : ℕ) (R : Term) → demanded t ≡ Som
     → is_decided (asserted t) ≡ true → IsMeant R
 demanded-means t serial R asks decided =
     let ground = demanded-ground t serial R (demanded_looks t serial R asks)
-    (and_parts (is_structure t && is_unjoined t) (fits t) decided).1 in
+    (and_parts (is_structure t) (fits t) decided).1 in
     let m = regex-means R (decided_kind t serial R asks decided) in
     record { reglan = m.0; means = λ v. ground-means v [] R ground ∙ m.1 }

@@ -32,7 +32,7 @@ pub use Rattle.sb_meaning.specs.Terms.{Sort, Term, Terms, apply, boolean, consta
 pub use Rattle.sb_meaning.specs.Truth.{all_hold, applied, holds, meaning_of, meanings_of, means_reglan}
 pub use Rattle.sb_meaning.specs.Values.{Text, Valuation, default_of, is_of, value_in}
 pub use Rattle.sb_script.proofs.CallerLemmas.{asked_regular, entry_keeps}
-pub use Rattle.sb_script.specs.Brought.{is_regex, is_structure, is_unjoined, proofs}
+pub use Rattle.sb_script.specs.Brought.{is_regex, is_structure, proofs}
 pub use Rattle.sb_script.specs.Fragment.{are_in_fragment, are_inside, in_fragment, is_decided, is_inside}
 pub use Rattle.sb_script.specs.Models.{IsGiven, are_defaults, is_default, is_default_or_occurs, occurs}
 pub use Rattle.sb_script.specs.Names.{Name}
@@ -92,7 +92,7 @@ pub use Rattle.sb_refute.specs.declared.evidence.Asserted.{Asserted}
 pub use Rattle.sb_refute.specs.declared.evidence.EmptyClause.{EmptyClause}
 pub use Rattle.sb_solve.proofs.CallerLemmas.{backs-again, true-behind}
 pub use Rattle.sb_solve.specs.Assumed.{IsRefuting, denied_in, make_true, refutes_in}
-pub use Rattle.sb_solve.specs.SortedAtoms.{are_declared}
+pub use Rattle.sb_solve.specs.Words.{are_declared}
 pub use Rattle.sb_solve.specs.Solved.{AreOfLevels, AreTrueAt, AreTrueUnder, IsSolved, IsValued, OccursAt}
 pub use Rattle.sb_solve.specs.Truth.{IsTrue}
 pub use Rattle.sb_solve.specs.Values.{are_words_there, is_word_there, truth_in, word_in, word_or_empty, word_there}

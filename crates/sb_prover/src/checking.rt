@@ -22,7 +22,7 @@ ghost use Rattle.sb_sound.specs.SoundLaws.{AreTerms};
 ghost use Rattle.sb_sound.specs.ScriptLaws.{IsFit};
 ghost use Rattle.sb_decide.specs.Knowing.{Knows};
 ghost use Rattle.sb_decide.specs.Ready.{IsDecided};
-ghost use Rattle.sb_solve.specs.SortedAtoms.{are_declared};
+ghost use Rattle.sb_solve.specs.Words.{are_declared};
 ghost use Rattle.sb_solve.specs.Truth.{IsTrue};
 ghost use Rattle.sb_solve.specs.Values.{truth_in};
 ghost use Rattle.sb_prover.specs.Proving.{IsAbreast, IsProved, HasSpent, HaveLevels};

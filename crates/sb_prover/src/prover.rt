@@ -9,7 +9,7 @@ ghost use Rattle.sb_proof.specs.Tapes.{with_bytes};
 ghost use Rattle.sb_trace.specs.Putting.{CountsTapeFault};
 ghost use Rattle.sb_atoms.specs.Numbered.{HaveRegexesBelow};
 ghost use Rattle.sb_prover.specs.Proving.{IsAbreast, HaveLevels, AreLow, leaving, GoesDown, AbreastStays, TrueGoesOn, TrueGrown, RegexesStayBelow, LevelsStay, EntriesMoveLive, EntriesStayFit};
-ghost use Rattle.sb_solve.specs.SortedAtoms.{are_declared};
+ghost use Rattle.sb_solve.specs.Words.{are_declared};
 ghost use Rattle.sb_solve.specs.Truth.{IsTrue};
 ghost use Rattle.sb_store.specs.declared.store.Store.{Store};
 ghost use Rattle.sb_prover.specs.Saying.{first_lines, Tells};

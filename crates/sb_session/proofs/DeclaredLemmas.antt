@@ -11,7 +11,7 @@ use Rattle.sb_meaning.specs.Values.{Text, Truth, Valuation, Value, default_of, i
 use Rattle.sb_script.specs.Steps as meaning
 use Rattle.sb_rulebook.specs.Atoms.{constants_in}
 use Rattle.sb_rulebook.specs.AtomRules.{is_declared}
-use Rattle.sb_solve.specs.SortedAtoms.{is_declared_constant}
+use Rattle.sb_solve.specs.Words.{is_declared_constant}
 use Rattle.sb_sound.specs.ScriptLaws.{EntriesLeadOn, LeadsOn, has_default}
 use Rattle.sb_sound.specs.SoundLaws.{KeepsSorts}
 use Rattle.sb_sound.specs.TermLaws.{HasSorts}

@@ -39,7 +39,7 @@ pub use Rattle.sb_sound.specs.SoundLaws.{Continues}
 pub use Rattle.sb_proof.specs.Tapes.{with_bytes}
 pub use Rattle.sb_term.specs.declared.assertion.Assertion.{Assertion}
 pub use Rattle.sb_rulebook.specs.Atoms.{AtomOver}
-pub use Rattle.sb_solve.specs.SortedAtoms.{is_sorted}
+pub use Rattle.sb_solve.specs.Words.{is_sorted}
 pub use Rattle.sb_atoms.specs.Numbered.{HaveRegexesBelow}
 pub use Rattle.sb_stack.proofs.CallerLemmas.{live_laid}
 pub use Rattle.sb_stack.specs.Stacked.{IsLonger, Stacked, assertion_in, given_in, live_constants, question_of, state_of, without_words}

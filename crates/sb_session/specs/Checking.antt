@@ -19,7 +19,7 @@ use Rattle.sb_sound.specs.ScriptLaws.{IsFit}
 use Rattle.sb_decide.specs.declared.decide.Decider.{Decider}
 use Rattle.sb_decide.specs.Knowing.{Knows}
 use Rattle.sb_atoms.specs.Numbered.{HaveRegexesBelow}
-use Rattle.sb_solve.specs.SortedAtoms.{are_declared}
+use Rattle.sb_solve.specs.Words.{are_declared}
 use Rattle.sb_solve.specs.Truth.{IsTrue}
 use Rattle.sb_store.specs.declared.store.Store.{Store}
 use Rattle.sb_session.specs.Commanding.{SessionState, is_proved, IsTracked, with_lines, CutOf}

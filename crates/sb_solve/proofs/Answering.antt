@@ -1,10 +1,11 @@
 -- What a check comes to, by the clauses that were put, the search and its end.
-use Rattle.sb_solve.proofs.Words.{AreSaid, Assumption, IsKeptCore, IsRefuting, Regex, Says, all_weaker, and_from, are_atoms, denies, eq-eqb, inl, inr, is_among, is_same_literal, is_same_literal-true, is_same_truth, list_all-append, list_any, map, negation, not, option_map, or_cases, or_left, or_right, over, slice_get, slice_get-map, ◌++◌, ◌==◌, ◌≡◌, ℕ, ◌<◌, Bool, true, false, List, [], ◌∷◌, length, Option, refl, sym, ap, subst, ◌∙◌, arith, list_all, false≢true, ltb-true, slice_get-get_or, Lit, Spending, Kept, held, HasNoneFalse, live, asked_in, AtomOver, bool_atom, AllKept, Asked, AreTerms, FollowsByRule, LineStaysSound, CountedAgainStaysSound, Stacked, Store, state_of, atom_at, gate_clauses, atoms_in, earlier_table, IsCounted, puts_both, Backing, Backs, Evidences, HasGates, GrowsTo, is_atom, AreWanted, is_in, AreKept, IsKept, IsDecided, AreLiterals, IsAnswered, terms_at, Answers, IsDone, IsValuedBy, AreOfLevels, IsSolved, AreStated, IsTrue, Solved, Contains, AllSettle, AreSettled, AreSpokenOf, Asserted, Goes, IsEnd, IsSettled, Names, None, Some, TranslationStays, RegexesGrow, and_parts, are_declared, asserted_at, atoms_of, equal_itself, get_or, in_atom, is_closed, is_simple_at, lt-ltb, map-append, nat_eq, parts_at, parts_of, regexes_both, slice_get_within, ◌≤◌, ◌||◌, Stand}
+use Rattle.sb_solve.proofs.Words.{AreSaid, Assumption, IsKeptCore, IsRefuting, Regex, Says, all_weaker, and_from, are_atoms, denies, eq-eqb, inl, inr, is_among, is_same_literal, is_same_literal-true, is_same_truth, list_all-append, list_any, map, negation, not, option_map, or_cases, or_left, or_right, over, slice_get, slice_get-map, ◌++◌, ◌==◌, ◌≡◌, ℕ, ◌<◌, Bool, true, false, List, [], ◌∷◌, length, Option, refl, sym, ap, subst, ◌∙◌, arith, list_all, false≢true, ltb-true, slice_get-get_or, Lit, Spending, Kept, held, HasNoneFalse, live, asked_in, AtomOver, bool_atom, AllKept, Asked, AreTerms, FollowsByRule, LineStaysSound, CountedAgainStaysSound, Stacked, Store, state_of, atom_at, gate_clauses, atoms_in, earlier_table, IsCounted, puts_both, Backing, Backs, Evidences, HasGates, GrowsTo, is_atom, AreWanted, is_in, AreKept, IsKept, AreLiterals, IsAnswered, terms_at, Answers, IsDone, IsValuedBy, AreOfLevels, IsSolved, AreStated, IsTrue, Solved, Contains, AllSettle, Goes, TranslationStays, RegexesGrow, and_parts, are_declared, atoms_of, map-append, regexes_both, ◌≤◌, Stand}
 use Rattle.sb_solve.specs.declared.check.Solved.TheVariants as solved
 use Rattle.sb_solve.proofs.Deciding.{all_in}
 use Rattle.sb_solve.proofs.Ended.{kept_grown}
 use Rattle.sb_atoms.specs.Numbered as table
-use Rattle.sb_solve.proofs.Goings.{in-behind, named-settles, named-still, still-settled}
+use Rattle.sb_solve.proofs.Goings.{extends-both}
+use Rattle.sb_solve.proofs.Growing.{closed_still, earlier_grown, numbers_still, place_still}
 use Rattle.sb_solve.proofs.Stated.{are_literals, are_of_table, said_known, said_over, translates_still}
 use Rattle.sb_solve.proofs.Truths.{contains_first, contains_later, true-behind, true-following}
 
@@ -83,60 +84,7 @@ refuting atoms given ls kept id are core = record {
       (λ m among. denies_some rs atoms given ls are m among) core.clause.literals core.negated;
 }
 
--- What is settled stays so.
-
-all_in_itself : (test : ℕ → Bool) (xs : List ℕ) → ((n : ℕ) → is_in xs n ≡ true → test n ≡ true)
-    → list_all test xs ≡ true
-all_in_itself test [] h = refl
-all_in_itself test (x ∷ xs) h =
-    and_from (test x) (list_all test xs)
-    (h x (or_left (nat_eq x x) (is_in xs x) (equal_itself x)))
-    (all_in_itself test xs (λ n there. h n (or_right (nat_eq n x) (is_in xs n) there)))
-
--- what is wanted is spoken of, or says that the empty word is in a regex
-wanted_cases : (atoms now : List (AtomOver ℕ)) (literals ends : List Lit) (numbers wanted : List ℕ)
-    → table.Extends atoms now → AreSpokenOf atoms literals numbers → AreWanted now (literals ++ ends) wanted
-    → ((i : ℕ) → is_in (atoms_of ends) i ≡ true → (q : ℕ) × Names now i (in_atom [] q)) → (i : ℕ)
-    → is_in wanted i ≡ true → (is_in numbers i || is_in (atoms_of ends) i) ≡ true
-wanted_cases atoms now literals ends numbers wanted extends spoken are named i there =
-    all_in (λ j. is_in numbers j || is_in (atoms_of ends) j) wanted i
-    (are.least (λ j. is_in numbers j || is_in (atoms_of ends) j) first parts) there
-  where
-    first : list_all (λ j. is_in numbers j || is_in (atoms_of ends) j) (atoms_of (literals ++ ends)) ≡ true
-    first =
-        ap (list_all (λ j. is_in numbers j || is_in (atoms_of ends) j))
-        (map-append (λ (l : Lit). l.atom) literals ends)
-        ∙ list_all-append (λ j. is_in numbers j || is_in (atoms_of ends) j) (atoms_of literals) (atoms_of ends)
-        ∙ and_from (list_all (λ j. is_in numbers j || is_in (atoms_of ends) j) (atoms_of literals))
-        (list_all (λ j. is_in numbers j || is_in (atoms_of ends) j) (atoms_of ends))
-        (all_weaker (is_in numbers) (λ j. is_in numbers j || is_in (atoms_of ends) j)
-        (λ j h. or_left (is_in numbers j) (is_in (atoms_of ends) j) h) (atoms_of literals) spoken.wanted.first)
-        (all_in_itself (λ j. is_in numbers j || is_in (atoms_of ends) j) (atoms_of ends)
-        (λ j h. or_right (is_in numbers j) (is_in (atoms_of ends) j) h))
-
-    -- the parts of an atom of the table are those that it had
-    same_parts : (j : ℕ) → is_in numbers j ≡ true → parts_at now j ≡ parts_at atoms j
-    same_parts j h =
-        let low : j < length atoms = ltb-true j (length atoms) (all_in (is_atom atoms) numbers j spoken.known h) in
-        let at = slice_get-get_or atoms j (bool_atom 0) low in
-        ap (λ (o : Option (AtomOver ℕ)). elim o as (λ _. List ℕ) [ None ↦ [] | Some atom ↦ parts_of atom ])
-        (named-still atoms now j (get_or atoms j (bool_atom 0)) extends at ∙ sym at)
-
-    parts : (j : ℕ) → (is_in numbers j || is_in (atoms_of ends) j) ≡ true
-        → list_all (λ k. is_in numbers k || is_in (atoms_of ends) k) (parts_at now j) ≡ true
-    parts j h = elim (or_cases (is_in numbers j) (is_in (atoms_of ends) j) h) [
-      | inl one_of ↦
-          let closed = all_in (is_closed atoms numbers) numbers j spoken.wanted.closed one_of in
-          let inside = (and_parts (is_simple_at atoms j) (list_all (is_in numbers) (parts_at atoms j)) closed).1 in
-          ap (list_all (λ k. is_in numbers k || is_in (atoms_of ends) k)) (same_parts j one_of)
-          ∙ all_weaker (is_in numbers) (λ k. is_in numbers k || is_in (atoms_of ends) k)
-          (λ k there. or_left (is_in numbers k) (is_in (atoms_of ends) k) there) (parts_at atoms j) inside
-      | inr end ↦
-          let it = named j end in
-          ap (λ (o : Option (AtomOver ℕ)).
-          list_all (λ k. is_in numbers k || is_in (atoms_of ends) k)
-          (elim o as (λ _. List ℕ) [ None ↦ [] | Some atom ↦ parts_of atom ])) it.1
-    ]
+-- What a search is over.
 
 -- the literals are of atoms of the table
 pub asked_known : (s : Stacked) (places : List ℕ) (x y : Store) (e f : Backing) (told between : Option (List ℕ))
@@ -188,22 +136,23 @@ module _ (s : Stacked) (places : List ℕ) (x y : Store) (e f : Backing) (told b
     settled_declared had = goes.declared (state_of s).sorts (stated.declared had)
 
   -- A search was made behind it, over these literals and those of the assumptions.
-  module _ (assumed : List Lit) (u z : Store) (g k : Backing) (settled new : Option (List ℕ)) (numbers : List ℕ)
-      (ends : List Lit) (proves : Bool) (before middle after : Spending) (solution : Solved)
+  module _ (assumed : List Lit) (u z : Store) (g k : Backing) (settled new : Option (List ℕ)) (ends : List Lit)
+      (proves : Bool) (before middle after : Spending) (solution : Solved)
       (gates : 0 < length (literals ++ assumed) → HasGates (length f.atoms) f.atoms f.kept)
       (said : AreSaid f.atoms s.assumptions assumed)
-      (spoken : AreSpokenOf f.atoms (literals ++ assumed) numbers)
-      (all : AllSettle proves y f before between numbers u g middle settled ends)
+      (all : AllSettle proves y f before between u g middle settled ends)
       (done : IsDone s ((literals ++ assumed) ++ ends) assumed proves u g middle settled z k after new solution)
     where
       abbrev goes : Goes proves y f before between u g middle settled
       goes = all.goes
 
-      pub puts : proves ≡ true → (start : AllKept) → Backs x.arena x.graph.memo e start → IsCounted asked start before
+      pub puts : are_declared (state_of s).sorts e.atoms ≡ true → proves ≡ true → (start : AllKept)
+          → Backs x.arena x.graph.memo e start → IsCounted asked start before
           → Evidences asked start z.arena z.graph.memo k after told new
-      puts on start b counted =
+      puts had on start b counted =
           let p = settled_puts u g proves before middle settled goes on start b counted in
-          let q = done.searched.puts on asked p.after p.backs p.counts in
+          let q = done.searched.puts on asked p.after (settled_declared u g proves before middle settled goes had)
+          p.backs p.counts in
           record {
             after = q.after;
             puts = puts_both asked start p.after q.after told settled new p.puts q.puts;
@@ -216,7 +165,7 @@ module _ (s : Stacked) (places : List ℕ) (x y : Store) (e f : Backing) (told b
           → IsTrue asked x.arena x.graph.memo e → IsTrue asked z.arena z.graph.memo k
       sound rule line again off terms t =
           true-following asked proves u z g k middle after settled new off done.searched goes.regexes
-          (settled_sound u g proves before middle settled goes rule line again off terms t)
+          done.stand.earlier (settled_sound u g proves before middle settled goes rule line again off terms t)
 
       pub levels : AreOfLevels asked.live e.asserted k.asserted
       levels = subst (AreOfLevels asked.live e.asserted) (sym done.searched.asserted)
@@ -233,45 +182,15 @@ module _ (s : Stacked) (places : List ℕ) (x y : Store) (e f : Backing) (told b
 
       pub declared : are_declared (state_of s).sorts e.atoms ≡ true → are_declared (state_of s).sorts k.atoms ≡ true
       declared had =
-          subst (λ (ts : List (AtomOver ℕ)). are_declared (state_of s).sorts ts ≡ true) (sym done.searched.atoms)
-          (settled_declared u g proves before middle settled goes had)
+          done.searched.atoms.declared (state_of s).sorts (settled_declared u g proves before middle settled goes had)
 
       -- the answer
-
-      -- those of the ends are in the table
-      ends_named : (i : ℕ) → is_in (atoms_of ends) i ≡ true → IsEnd u.arena g i
-      ends_named i there =
-          all.ends.each i (subst (λ (ls : List Lit). is_in (atoms_of ls) i ≡ true) all.ends.is there)
-
-      ends_known : (ls : List Lit) → ((i : ℕ) → is_in (atoms_of ls) i ≡ true → i < length g.atoms)
-          → are_atoms g.atoms ls ≡ true
-      ends_known [] h = refl
-      ends_known (l ∷ ls) h =
-          and_from (is_atom g.atoms l.atom) (are_atoms g.atoms ls)
-          (lt-ltb l.atom (length g.atoms)
-          (h l.atom (or_left (nat_eq l.atom l.atom) (is_in (atoms_of ls) l.atom) (equal_itself l.atom))))
-          (ends_known ls (λ i there. h i (or_right (nat_eq i l.atom) (is_in (atoms_of ls) i) there)))
 
       said_there : AreSaid g.atoms s.assumptions assumed
       said_there = said_over f.atoms g.atoms goes.atoms s.assumptions assumed said
 
-      wanted_atoms : list_all (is_atom g.atoms) done.wanted ≡ true
-      wanted_atoms =
-          done.among [] (earlier_table [] g.atoms done.stand.earlier)
-          (list_all-append (λ (l : Lit). is_atom g.atoms l.atom) (literals ++ assumed) ends
-          ∙ and_from (are_atoms g.atoms (literals ++ assumed)) (are_atoms g.atoms ends)
-          (list_all-append (λ (l : Lit). is_atom g.atoms l.atom) literals assumed
-          ∙ and_from (are_atoms g.atoms literals) (are_atoms g.atoms assumed)
-          (are_of_table s y.arena f g.atoms
-          (λ place l one. subst (λ (n : Lit). n.atom < length g.atoms) one.literal
-          (done.stand.of_atoms place one.clause
-          (ap (λ (xs : List (Option Asserted)). asserted_at xs place) goes.asserted ∙ one.there)))
-          places literals stated.all) (said_known g.atoms s.assumptions assumed said_there))
-          (ends_known ends (λ i there.
-          let it = ends_named i there in slice_get_within g.atoms i (in_atom [] it.0) it.1)))
-
       extends : table.Extends f.atoms k.atoms
-      extends = subst (table.Extends f.atoms) (sym done.searched.atoms) goes.atoms
+      extends = extends-both f.atoms g.atoms k.atoms goes.atoms done.searched.atoms.extends
 
       literals_there : TranslationStays → (start : AllKept) → Backs x.arena x.graph.memo e start
           → AreLiterals (atoms_in z.arena k.atoms) k.kept (terms_at (live (state_of s)) places) literals
@@ -298,8 +217,7 @@ module _ (s : Stacked) (places : List ℕ) (x y : Store) (e f : Backing) (told b
           )) places literals stated.all
 
       said_behind : AreSaid k.atoms s.assumptions assumed
-      said_behind = subst (λ (ts : List (AtomOver ℕ)). AreSaid ts s.assumptions assumed) (sym done.searched.atoms)
-          said_there
+      said_behind = said_over g.atoms k.atoms done.searched.atoms.extends s.assumptions assumed said_there
 
       all_gates : 0 < length ((literals ++ assumed) ++ ends) → HasGates (length g.atoms) g.atoms g.kept
       all_gates = gates_over (literals ++ assumed) gates
@@ -309,30 +227,6 @@ module _ (s : Stacked) (places : List ℕ) (x y : Store) (e f : Backing) (told b
           gates_over [] has some =
               all.ends.own (subst (λ (ls : List Lit). 0 < length ls) all.ends.is some)
           gates_over (l ∷ ls) has some = goes.gates (has (omega arith))
-
-      -- what is settled, with what the search keeps
-      settled_there : AreSettled z.arena g.atoms k.kept done.wanted done.wanted
-      settled_there = λ i ps r there named letters.
-          let low : r < length u.arena = goes.regexes i (in_atom ps r) named in
-          let still : (was : List ℕ) → ((c : ℕ) → is_in was c ≡ true → is_in done.wanted c ≡ true)
-          → IsSettled u.arena g.kept was i ps r → IsSettled z.arena k.kept done.wanted i ps r =
-          λ was among h.
-          still-settled u.arena z.arena g.kept k.kept was done.wanted i ps r done.searched.store.more.extends low
-          (λ id clause at. kept_grown g.kept k.kept id clause done.searched.kept at) among h in
-          elim (or_cases (is_in numbers i) (is_in (atoms_of ends) i)
-          (wanted_cases f.atoms g.atoms (literals ++ assumed) ends numbers done.wanted goes.atoms spoken done.closed
-          (λ j end. let it = ends_named j end in (it.0, it.1)) i there)) [
-            | inl one_of ↦ still (atoms_of ends) ends_wanted (all.each i one_of ps r named letters)
-            | inr end ↦
-                let it = ends_named i end in
-                still [] (λ c none. absurd (false≢true none))
-                (named-settles u.arena g [] i [] it.0 it.1 it.2 ps r named letters)
-          ]
-        where
-          ends_wanted : (c : ℕ) → is_in (atoms_of ends) c ≡ true → is_in done.wanted c ≡ true
-          ends_wanted c end =
-              all_in (is_in done.wanted) (atoms_of ((literals ++ assumed) ++ ends)) c done.closed.first
-              (in-behind (literals ++ assumed) ends c end)
 
       first_there : list_all (is_in done.wanted) (atoms_of (literals ++ assumed)) ≡ true
       first_there =
@@ -348,22 +242,23 @@ module _ (s : Stacked) (places : List ℕ) (x y : Store) (e f : Backing) (told b
           → IsAnswered z.arena k.atoms done.wanted literals assumed k.kept v.search.trail.literals v.theory places
           (state_of s) s.assumptions
       answered stays words truths v start b terms = record {
-        decided = subst (λ (ts : List (AtomOver ℕ)). IsDecided z.arena ts done.wanted k.kept v.search.trail.literals)
-            (sym done.searched.atoms)
-            (record {
-              table = earlier_table z.arena g.atoms done.stand.earlier;
-              distinct = done.distinct;
-              known = wanted_atoms;
-              closed = done.closed.closed;
-              full = v.full.full;
-              none_false = subst (λ (kept : Kept). HasNoneFalse kept (held v.search.trail.literals)) v.keeps
-                  v.full.none_false;
-              gates = gated g.atoms g.kept k.kept ((literals ++ assumed) ++ ends) done.wanted done.searched.kept
-                  all_gates
-                  done.closed wanted_atoms;
-              unjoined = done.stand.unjoined;
-              settled = settled_there;
-            });
+        decided = record {
+          table = earlier_table z.arena k.atoms
+              (earlier_grown g.atoms k.atoms done.searched.atoms done.stand.earlier);
+          distinct = done.distinct;
+          known = numbers_still g.atoms k.atoms done.wanted done.searched.atoms.extends done.known;
+          closed = closed_still g.atoms k.atoms done.wanted done.wanted done.searched.atoms.extends done.known
+              done.closed.closed;
+          full = v.full.full;
+          none_false = subst (λ (kept : Kept). HasNoneFalse kept (held v.search.trail.literals)) v.keeps
+              v.full.none_false;
+          gates = λ i there.
+              subst (λ (a : AtomOver ℕ). AreKept k.kept (gate_clauses i a))
+              (sym (place_still g.atoms k.atoms i done.searched.atoms.extends
+              (ltb-true i (length g.atoms) (all_in (is_atom g.atoms) done.wanted i done.known there))))
+              (gated g.atoms g.kept k.kept ((literals ++ assumed) ++ ends) done.wanted done.searched.kept all_gates
+              done.closed done.known i there);
+        };
         agrees = v.agrees;
         wanted_there = first_there;
         stated = literals_there stays start b;

@@ -1,9 +1,10 @@
 -- Where each atom that is wanted has a value, and no kept clause is false, the values are truths.
-use Rattle.sb_solve.proofs.Words.{◌≡◌, ℕ, zero, suc, ◌+◌, ◌<◌, ◌⊎◌, Bool, true, false, not, ◌&&◌, ◌==◌, nat_eq, nat_lt, cond, if◌then◌else◌, List, [], ◌∷◌, length, get_or, slice_get, Option, Some, None, option_map, option_and_then, unwrap_or, refl, sym, ap, ap₂, subst, ◌∙◌, arith, inl, inr, list_all, list_any, is_none, false≢true, and_parts, and_from, or_cases, or_left, or_right, eqb-true, eq-eqb, ltb-true, append-nil, slice_get-map, get_or_from_slice_get, unwrap_or-slice_get, Lit, is_among, is_same_literal, is_false_under, is_false_clause, is_true_under, Kept, is_same_literal-of, is_same_literal-true, literal_of_parts, all_among, Regex, regex_at, Assigned, held, value_of, entry_of, IsConsistent, HasNoneFalse, Sort, Term, Valuation, holds, Piece, constant_piece, word_piece, Atom, AtomOver, bool_atom, in_atom, le_atom, sum_atom, and_atom, iff_atom, literal_holds, truths_of, translation, HasSorts, fits_sorts, TranslationHolds, IsTruthAt, truth_at_place, all_in_front, literal_holds-take, over, atoms_in, are_alike, gate_clauses, gate, is_as_it_says, all_say, each-part, of-gate, has_value, word_at, is_true_by, is_true_of, fits_subject, constant_of, subject_of, is_atom, is_of_wanted, wanted_of, wanted_on, is_in, is_same_truth, atoms_of, parts_of, is_simple, is_closed, is_true, is_constant, makes_true, truth_by, IsKept, AreKept, IsDecided, IsGiven, all_weaker, list_all-map, slice_get-get_or, some-none, any-filter_same, language, all_hold, number_in, list_any_none, IsCovered, IsSaid, are_letters, is_unjoined_atom, of_sign, ◌||◌}
+use Rattle.sb_solve.proofs.Words.{◌≡◌, ℕ, zero, suc, ◌+◌, ◌<◌, ◌⊎◌, Bool, true, false, not, ◌&&◌, ◌==◌, nat_eq, nat_lt, cond, if◌then◌else◌, List, [], ◌∷◌, length, get_or, slice_get, Option, Some, None, option_map, option_and_then, unwrap_or, refl, sym, ap, ap₂, subst, ◌∙◌, arith, inl, inr, list_all, list_any, is_none, false≢true, and_parts, and_from, or_cases, or_left, or_right, eqb-true, eq-eqb, ltb-true, append-nil, slice_get-map, get_or_from_slice_get, unwrap_or-slice_get, Lit, is_among, is_same_literal, is_false_under, is_false_clause, is_true_under, Kept, is_same_literal-of, is_same_literal-true, literal_of_parts, all_among, Regex, regex_at, Assigned, held, value_of, entry_of, IsConsistent, HasNoneFalse, Sort, Term, Valuation, holds, Piece, constant_piece, word_piece, Atom, AtomOver, bool_atom, in_atom, le_atom, sum_atom, and_atom, iff_atom, literal_holds, truths_of, translation, HasSorts, fits_sorts, TranslationHolds, IsTruthAt, truth_at_place, all_in_front, literal_holds-take, over, atoms_in, are_alike, gate_clauses, gate, is_as_it_says, all_say, each-part, of-gate, has_value, word_at, is_true_by, fits_subject, constant_of, subject_of, is_atom, is_of_wanted, wanted_of, wanted_on, is_in, is_same_truth, atoms_of, parts_of, is_simple, is_closed, is_true, is_constant, makes_true, truth_by, IsKept, AreKept, IsDecided, IsGiven, all_weaker, list_all-map, slice_get-get_or, some-none, any-filter_same, language, all_hold, number_in, list_any_none, Contains, ◌++◌}
 use Rattle.sb_rulebook.specs.Atoms as rulebook
-use Rattle.sb_lit.specs.Clauses.{are_among}
-use Rattle.sb_solve.specs.Decided.{by_end, by_itself}
-use Rattle.sb_solve.proofs.Gathered.{all_at, names_before}
+use Rattle.std.specs.List.{flat_map}
+use Rattle.sb_theory.specs.Memberships.{fits_pieces, joined_word}
+use Rattle.sb_solve.proofs.Gathered.{names_before}
+use Rattle.sb_solve.proofs.Truths.{contains_first, contains_later}
 
 -- A literal of a wanted atom is one of those of wanted atoms.
 among_wanted : (wanted : List ℕ) (ls : List Lit) (l : Lit) → is_in wanted l.atom ≡ true → is_among ls l ≡ true
@@ -143,80 +144,6 @@ kept_true es n kept (clause ∷ clauses) none_false k h =
               (moved ls q.1 later)
         ]
 
--- A kept clause that has only literals of another one.
-
-any_among : (p : Lit → Bool) (ls ms : List Lit) → are_among ls ms ≡ true → list_any p ls ≡ true
-    → list_any p ms ≡ true
-any_among p [] ms among h = absurd (false≢true h)
-any_among p (l ∷ ls) ms among h =
-    let q = and_parts (is_among ms l) (are_among ls ms) among in
-    elim (or_cases (p l) (list_any p ls) h) [
-      | inl here ↦ one_among ms l q.0 here
-      | inr later ↦ any_among p ls ms q.1 later
-    ]
-  where
-    one_among : (ms : List Lit) (l : Lit) → is_among ms l ≡ true → p l ≡ true → list_any p ms ≡ true
-    one_among [] l there holds = absurd (false≢true there)
-    one_among (m ∷ ms) l there holds = elim (or_cases (is_same_literal m l) (is_among ms l) there) [
-      | inl same ↦ or_left (p m) (list_any p ms) (ap p (is_same_literal-true m l same) ∙ holds)
-      | inr more ↦ or_right (p m) (list_any p ms) (one_among ms l more holds)
-    ]
-
--- the other one is true on the trail, where each of its literals has a value
-covered_true : (es : List Assigned) (kept : Kept) (clause : List Lit) → HasNoneFalse kept (held es)
-    → IsCovered kept clause → list_all (λ l. has_value es l.atom) clause ≡ true
-    → list_any (on_trail es) clause ≡ true
-covered_true es kept clause none_false h full =
-    let ls = h.1.literals in
-    any_among (on_trail es) ls clause h.3
-    (some_true es ls
-    (all_weaker (is_among clause) (λ (l : Lit). has_value es l.atom)
-    (λ l among. all_among (λ (m : Lit). has_value es m.atom) clause l full among) ls h.3)
-    (none_false h.0 h.1 h.2))
-
-sign_is : (b t : Bool) → (if b then t else not t) ≡ true → t ≡ b
-sign_is true true h = refl
-sign_is true false h = absurd (false≢true h)
-sign_is false true h = absurd (false≢true h)
-sign_is false false h = refl
-
-sign_other : (b t : Bool) → t ≡ b → (if not b then t else not t) ≡ false
-sign_other true true h = refl
-sign_other true false h = absurd (false≢true h)
-sign_other false true h = absurd (false≢true (sym h))
-sign_other false false h = refl
-
--- a clause of one literal says the value of its atom
-alone_value : (es : List Assigned) (kept : Kept) (wanted : List ℕ) (i : ℕ) (b : Bool) → HasNoneFalse kept (held es)
-    → list_all (has_value es) wanted ≡ true → is_in wanted i ≡ true → IsCovered kept (of_sign b i ∷ [])
-    → is_true es i ≡ b
-alone_value es kept wanted i b none_false full there covered =
-    let has = all_in (has_value es) wanted i full there in
-    let some = covered_true es kept (of_sign b i ∷ []) none_false covered (and_from (has_value es i) true has refl) in
-    elim (or_cases (on_trail es (of_sign b i)) false some) [
-      | inl holds ↦ sign_is b (is_true es i) holds
-      | inr none ↦ absurd (false≢true none)
-    ]
-
--- the truth that clauses say is the value
-said_value : (es : List Assigned) (kept : Kept) (wanted : List ℕ) (i : ℕ) (b : Bool) → HasNoneFalse kept (held es)
-    → list_all (has_value es) wanted ≡ true → is_in wanted i ≡ true → IsSaid kept wanted i b → is_true es i ≡ b
-said_value es kept wanted i b none_false full there (by_itself covered) =
-    alone_value es kept wanted i b none_false full there covered
-said_value es kept wanted i b none_false full there (by_end c end one both) =
-    let has = all_in (has_value es) wanted i full there in
-    let second = all_in (has_value es) wanted c full end in
-    let value = alone_value es kept wanted c b none_false full end one in
-    let some = covered_true es kept (of_sign b i ∷ of_sign (not b) c ∷ []) none_false both
-    (and_from (has_value es i) (has_value es c && true) has (and_from (has_value es c) true second refl)) in
-    elim (or_cases (on_trail es (of_sign b i)) (on_trail es (of_sign (not b) c) || false) some) [
-      | inl holds ↦ sign_is b (is_true es i) holds
-      | inr other ↦ elim (or_cases (on_trail es (of_sign (not b) c)) false other) [
-        | inl holds ↦ absurd (false≢true (sym (sign_other b (is_true es c) value) ∙ holds))
-        | inr none ↦ absurd (false≢true none)
-      ]
-    ]
-
 -- Atom by atom.
 
 same_sign : (p b : Bool) → (if p then b else not b) ≡ true → is_same_truth b p ≡ true
@@ -288,24 +215,47 @@ module _ (rs : List Regex) (atoms : List (AtomOver ℕ)) (wanted : List ℕ) (ke
 
     -- of a membership
 
-    of_membership : (i serial r : ℕ) → is_in wanted i ≡ true
-        → slice_get atoms i ≡ Some (in_atom (constant_piece serial ∷ []) r)
-        → is_true es i ≡ language (regex_at rs r) (word_at words serial)
-    of_membership i serial r there at =
+    -- a literal of it that is true of the words is true of the joined word of its pieces
+    joined_fits : (i : ℕ) (b : Bool) (ps : List Piece) (r : ℕ) → slice_get atoms i ≡ Some (in_atom ps r)
+        → fits_subject rs atoms words (signed i b) (constant_of (in_atom ps r)) ≡ true
+        → fits_pieces rs words b (Some (in_atom ps r)) ≡ true
+    joined_fits i b [] r at h = ap (fits_pieces rs words b) (sym at) ∙ h
+    joined_fits i b (word_piece w ∷ ps) r at h = ap (fits_pieces rs words b) (sym at) ∙ h
+    joined_fits i b (constant_piece x ∷ p ∷ ps) r at h = ap (fits_pieces rs words b) (sym at) ∙ h
+    joined_fits i b (constant_piece x ∷ []) r at h =
+        let number : number_in (get_or atoms i (bool_atom 0)) ≡ r =
+        ap number_in (get_or_from_slice_get atoms i (in_atom (constant_piece x ∷ []) r) (bool_atom 0) at) in
+        ap₂ (λ (n : ℕ) (w : List ℕ). if b then language (regex_at rs n) w else not (language (regex_at rs n) w))
+        (sym number) (append-nil (word_at words x))
+        ∙ h
+
+    of_membership : (i : ℕ) (ps : List Piece) (r : ℕ) → is_in wanted i ≡ true
+        → slice_get atoms i ≡ Some (in_atom ps r) → is_true es i ≡ language (regex_at rs r) (joined_word words ps)
+    of_membership i ps r there at =
         let l = signed i (is_true es i) in
         let has = all_in (has_value es) wanted i d.full there in
         let among = value_among es i (is_true es i) (valued es i has) in
         let fits : is_true_by rs atoms words l ≡ true =
         all_among (is_true_by rs atoms words) (wanted_on wanted es) l g.agrees
         (among_wanted wanted (held es) l there among) in
-        let subject : subject_of atoms l ≡ Some serial = ap (λ o. option_and_then constant_of o) at in
-        let now : is_true_of rs atoms (word_at words serial) l ≡ true =
+        let subject : subject_of atoms l ≡ constant_of (in_atom ps r) = ap (λ o. option_and_then constant_of o) at in
+        let now : fits_subject rs atoms words l (constant_of (in_atom ps r)) ≡ true =
         ap (fits_subject rs atoms words l) (sym subject) ∙ fits in
-        let number : number_in (get_or atoms i (bool_atom 0)) ≡ r =
-        ap number_in (get_or_from_slice_get atoms i (in_atom (constant_piece serial ∷ []) r) (bool_atom 0) at) in
-        same_truths (is_true es i) (language (regex_at rs r) (word_at words serial))
-        (ap (λ n. if is_true es i then language (regex_at rs n) (word_at words serial)
-        else not (language (regex_at rs n) (word_at words serial))) (sym number) ∙ now)
+        same_truths (is_true es i) (language (regex_at rs r) (joined_word words ps))
+        (joined_fits i (is_true es i) ps r at now)
+
+    -- the words of its pieces are those that the valuation gives
+    words_given : (ps : List Piece)
+        → ((serial : ℕ) → Contains ps (constant_piece serial) → rulebook.word_at v serial ≡ word_at words serial)
+        → flat_map (rulebook.word_of_piece v) ps ≡ joined_word words ps
+    words_given [] h = refl
+    words_given (constant_piece x ∷ ps) h =
+        ap₂ (λ (first rest : List ℕ). first ++ rest) (h x (contains_first (constant_piece x) ps))
+        (words_given ps (λ serial there.
+        h serial (contains_later (constant_piece x) ps (constant_piece serial) there)))
+    words_given (word_piece w ∷ ps) h =
+        ap (λ (rest : List ℕ). w ++ rest)
+        (words_given ps (λ serial there. h serial (contains_later (word_piece w) ps (constant_piece serial) there)))
 
     closed_there : (i : ℕ) (a : AtomOver ℕ) → is_in wanted i ≡ true → slice_get atoms i ≡ Some a
         → (is_simple a ≡ true) × (list_all (is_in wanted) (parts_of a) ≡ true)
@@ -395,27 +345,6 @@ module _ (rs : List Regex) (atoms : List (AtomOver ℕ)) (wanted : List ℕ) (ke
         ∙ sym (literal_holds-take T i m second (omega (arith, at_place.0))))
         ∙ sym at_place.1
 
-    -- without constants
-    of_letters : (i : ℕ) (ps : List Piece) (r : ℕ) → is_in wanted i ≡ true → slice_get atoms i ≡ Some (in_atom ps r)
-        → are_letters ps ≡ true → Right i
-    of_letters i ps r there at letters =
-        let s = d.settled i ps r there at letters in
-        said_value es kept wanted i s.truth d.none_false d.full there s.said
-        ∙ sym (s.is v)
-        ∙ sym (truth_is i (in_atom ps r) at).1
-
-    -- of no more than one piece
-    of_pieces : (i : ℕ) (ps : List Piece) (r : ℕ) → is_in wanted i ≡ true → slice_get atoms i ≡ Some (in_atom ps r)
-        → is_unjoined_atom (in_atom ps r) ≡ true → Right i
-    of_pieces i [] r there at unjoined = of_letters i [] r there at refl
-    of_pieces i (word_piece w ∷ []) r there at unjoined = of_letters i (word_piece w ∷ []) r there at refl
-    of_pieces i (p ∷ q ∷ ps) r there at unjoined = absurd (false≢true unjoined)
-    of_pieces i (constant_piece serial ∷ []) r there at unjoined =
-        of_membership i serial r there at
-        ∙ ap (language (regex_at rs r))
-        (sym (g.gives_words i serial r there at) ∙ sym (append-nil (rulebook.word_at v serial)))
-        ∙ sym (truth_is i (in_atom (constant_piece serial ∷ []) r) at).1
-
     of_atom : (i : ℕ) (o : Option (AtomOver ℕ)) → slice_get atoms i ≡ o → is_in wanted i ≡ true
         → ((j : ℕ) → j < i → is_in wanted j ≡ true → Right j) → Right i
     of_atom i None at there rest =
@@ -424,7 +353,10 @@ module _ (rs : List Regex) (atoms : List (AtomOver ℕ)) (wanted : List ℕ) (ke
         sym (of_constant i serial there at) ∙ sym (g.gives_truths i serial there at)
         ∙ sym (truth_is i (bool_atom serial) at).1
     of_atom i (Some (in_atom ps r)) at there rest =
-        of_pieces i ps r there at (all_at is_unjoined_atom atoms i (in_atom ps r) d.unjoined at)
+        of_membership i ps r there at
+        ∙ ap (language (regex_at rs r))
+        (sym (words_given ps (λ serial among. g.gives_words i serial r ps there at among)))
+        ∙ sym (truth_is i (in_atom ps r) at).1
     of_atom i (Some (le_atom x k)) at there rest = absurd (false≢true (closed_there i (le_atom x k) there at).0)
     of_atom i (Some (sum_atom k ss)) at there rest = absurd (false≢true (closed_there i (sum_atom k ss) there at).0)
     of_atom i (Some (and_atom ls)) at there rest = of_conjunction i ls there at rest

@@ -1,12 +1,11 @@
 -- Atoms that are defined for a term whose constants are declared are over declared constants, and so is that of an
 -- assumption of a declared constant.
-use Rattle.sb_solve.proofs.Words.{◌≡◌, ◌≤◌, ℕ, true, List, [], ◌∷◌, ◌++◌, length, append_assoc, refl, sym, ap, subst, ◌∙◌, arith, list_all, and_from, and_parts, Atom, AtomOver, bool_atom, in_atom, le_atom, sum_atom, and_atom, iff_atom, constant_piece, word_piece, Sort, text, is_declared, has_declared, has_its_parts, Term, Names, AreDefined, are_declared, is_sorted, Piece, boolean, map, all_weaker, list_all-map, inl, inr, IsWith}
+use Rattle.sb_solve.proofs.Words.{◌≡◌, ◌≤◌, ℕ, true, List, [], ◌∷◌, ◌++◌, length, append_assoc, refl, sym, ap, subst, ◌∙◌, arith, list_all, and_from, and_parts, Atom, AtomOver, bool_atom, in_atom, le_atom, sum_atom, and_atom, iff_atom, constant_piece, word_piece, Sort, text, is_declared, has_declared, has_its_parts, Term, Names, AreDefined, are_declared, is_sorted, Piece, boolean, map, all_weaker, list_all-map, inl, inr, IsWith, is_declared_constant}
 use Rattle.std.proofs.Common.{replicate}
 use Rattle.std.specs.List.{flat_map}
 use Rattle.sb_script.specs.Sums.{Variable, Summand, int_constant, length_of}
 use Rattle.sb_rulebook.specs.AtomRules.{is_declared_piece, is_declared_variable}
 use Rattle.sb_rulebook.specs.Atoms.{piece_constants, variable_constant}
-use Rattle.sb_solve.specs.SortedAtoms.{is_declared_constant}
 use Rattle.std.proofs.lemmas.List.{length-append, length-replicate}
 use Rattle.sb_atoms.specs.Numbered as table
 

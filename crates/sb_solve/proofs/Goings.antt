@@ -1,29 +1,22 @@
--- Steps towards the truth of memberships without constants, one behind the other.
-use Rattle.sb_solve.proofs.Words.{◌≡◌, ◌≢◌, ◌⊎◌, ℕ, zero, suc, ◌+◌, ◌<◌, ◌≤◌, Bool, true, false, not, ◌&&◌, nat_lt, List, [], ◌∷◌, ◌++◌, length, take, get_or, slice_get, Option, Some, None, option_map, inl, inr, refl, sym, ap, subst, ◌∙◌, arith, append-nil, append_assoc, list_all, list_any-append, and_from, eqb-true, false≢true, lt-ltb, ltb-true, map-append, nat_eq, or_cases, or_left, or_right, nat_tests, same_Some, slice_get-map, slice_get_within, take_more, AtomOver, Backing, Contains, CountedAgainStaysSound, Extends, FollowsByRule, HasGates, HaveRegexesBelow, IsCovered, IsEnd, IsSettled, IsTrue, Kept, KeptStay, LineStaysSound, Lit, Names, Piece, Regex, RegexesGrow, SettlesAt, SettlesEnd, Settles, Spending, Store, are_atoms, are_declared, are_letters, atoms_in, atoms_of, bool_atom, cons-cases, covered-stays, covered-turned, gates-stay, in_atom, is_atom, is_in, kept-stays, kept_at, language, not-in-nil, of_sign, over, regex_at, regexes_both, regexes_same, word_piece, Cuts, Goes, HasEnds, IsCutAt, AllSettle, ap₂, ◌==◌, le_atom, sum_atom, and_atom, iff_atom, equal_itself, slice_get-get_or, is_table, earlier_table}
-use Rattle.std.specs.List.{flat_map}
+-- Steps that keep clauses of memberships without constants, one behind the other.
+use Rattle.sb_solve.proofs.Words.{◌≡◌, ◌≢◌, ℕ, ◌+◌, ◌<◌, ◌≤◌, Bool, true, false, not, ◌&&◌, nat_lt, List, [], ◌∷◌, ◌++◌, length, get_or, slice_get, Option, Some, option_map, inl, inr, refl, sym, ap, ap₂, subst, ◌∙◌, arith, ◌==◌, append-nil, append_assoc, list_all, list_all-append, and_from, eqb-true, false≢true, lt-ltb, ltb-true, nat_tests, same_Some, slice_get-get_or, slice_get-map, slice_get_within, AllSettle, AtomOver, Backing, Contains, CountedAgainStaysSound, FollowsByRule, Goes, HasEnds, HasGates, HaveRegexesBelow, IsCutAt, IsTrue, KeptStay, LineStaysSound, Lit, Names, Piece, Regex, RegexesGrow, Settles, Spending, StepsOnce, Store, and_atom, are_atoms, are_declared, atoms_in, bool_atom, cons-cases, earlier_table, gates-stay, iff_atom, in_atom, is_atom, is_table, kept-stays, kept_at, le_atom, not-in-nil, of_sign, over, regex_at, regexes_both, regexes_same, sum_atom, word_piece}
 use Rattle.sb_word.specs.Words.{IsWord}
-use Rattle.sb_lang.specs.Derivative.{nullable, nd_along}
-use Rattle.sb_lang.specs.DerivativeLaws.{DerivativeAlongHasRests, NullableHasEmptyWord}
+use Rattle.sb_lang.specs.Derivative.{nullable}
 use Rattle.sb_lit.specs.Clauses.{are_ascending}
-use Rattle.sb_regex.proofs.CallerLemmas.{at_kept}
-use Rattle.sb_atoms.proofs.CallerLemmas.{named_before, regexes_kept}
+use Rattle.sb_atoms.proofs.CallerLemmas.{regexes_kept}
 use Rattle.sb_atoms.specs.Numbered.{NameEarlier}
 use Rattle.sb_atoms.specs.Numbered as table
 use Rattle.sb_refute.proofs.CallerLemmas.{backs-grown}
 use Rattle.sb_refute.specs.Lines.{IsAlone}
 use Rattle.sb_refute.specs.Settling.{IsBare, IsBareAtom, Steps, pieces_of_word}
 use Rattle.sb_refute.specs.declared.bare.Bare.{Bare}
-use Rattle.sb_rulebook.specs.Atoms as rulebook
 use Rattle.sb_rulebook.specs.Splits.{is_step}
 use Rattle.sb_sound.specs.ClauseForms.{IsSetOf}
 use Rattle.sb_sound.specs.MembershipLaws.{StepsAreExact, StepsHold, of_not_nullable, of_nullable, of_word}
 use Rattle.sb_trace.proofs.CallerLemmas.{puts_both, puts_none}
-use Rattle.sb_solve.specs.Decided.{IsSaid, by_end, by_itself}
 use Rattle.sb_solve.proofs.Declaring.{declared_end}
-use Rattle.sb_solve.proofs.Deciding.{all_in}
 use Rattle.sb_solve.proofs.Gathered.{all_at}
-use Rattle.std.proofs.lemmas.List.{length-append}
-use Rattle.sb_solve.proofs.Stated.{names_more}
+use Rattle.sb_solve.proofs.Growing.{grown_long, literals_still}
 use Rattle.sb_solve.proofs.Truths.{contains_first, contains_later, true-behind, true-kept}
 
 -- One behind the other.
@@ -248,114 +241,28 @@ both-known n l m first second =
 pub one-known : (n : ℕ) (l : Lit) → l.atom < n → list_all (λ (k : Lit). nat_lt k.atom n) (l ∷ []) ≡ true
 one-known n l low = and_from (nat_lt l.atom n) true (lt-ltb l.atom n low) refl
 
--- What is settled.
-
--- the atom of the empty word
-pub end-settled : NullableHasEmptyWord → (rs : List Regex) (kept : Kept) (i r : ℕ) (b : Bool)
-    → nullable (regex_at rs r) ≡ b → IsCovered kept (of_sign b i ∷ []) → IsSettled rs kept [] i [] r
-end-settled law rs kept i r b is covered =
-    record { truth = b; is = λ v. sym (law (regex_at rs r)) ∙ is; said = by_itself covered }
-
--- the atom of a word, by that of its end
-pub word-settled : NullableHasEmptyWord → DerivativeAlongHasRests → (rs : List Regex) (kept : Kept) (i end : ℕ)
-    (w : List ℕ) (r q : ℕ) (b : Bool) (ends : List ℕ) → regex_at rs q ≡ nd_along (regex_at rs r) w
-    → nullable (regex_at rs q) ≡ b → is_in ends end ≡ true → IsCovered kept (of_sign b end ∷ [])
-    → IsCovered kept (of_sign b i ∷ of_sign (not b) end ∷ []) → IsSettled rs kept ends i (word_piece w ∷ []) r
-word-settled nulls law rs kept i end w r q b ends rest is there one both = record {
-  truth = b;
-  is = λ v.
-      sym (law (regex_at rs r) w []) ∙ ap (λ (s : Regex). language s []) (sym rest) ∙ sym (nulls (regex_at rs q)) ∙ is;
-  said = by_end end there one both;
-}
-
--- it stays so where more is known
-pub still-said : (old new : Kept) (was now : List ℕ) (i : ℕ) (b : Bool) → KeptStay old new
-    → ((c : ℕ) → is_in was c ≡ true → is_in now c ≡ true) → IsSaid old was i b → IsSaid new now i b
-still-said old new was now i b stay among (by_itself covered) =
-    by_itself (covered-stays old new (of_sign b i ∷ []) stay covered)
-still-said old new was now i b stay among (by_end c there one both) =
-    by_end c (among c there) (covered-stays old new (of_sign b c ∷ []) stay one)
-    (covered-stays old new (of_sign b i ∷ of_sign (not b) c ∷ []) stay both)
-
-pub still-settled : (rs more : List Regex) (old new : Kept) (was now : List ℕ) (i : ℕ) (ps : List Piece) (r : ℕ)
-    → Extends rs more → r < length rs → KeptStay old new → ((c : ℕ) → is_in was c ≡ true → is_in now c ≡ true)
-    → IsSettled rs old was i ps r → IsSettled more new now i ps r
-still-settled rs more old new was now i ps r grows low stay among h = record {
-  truth = h.truth;
-  is = λ v.
-      ap (λ (s : Regex). language s (flat_map (rulebook.word_of_piece v) ps)) (at_kept rs more r grows low) ∙ h.is v;
-  said = still-said old new was now i h.truth stay among h.said;
-}
-
-pub named-still : (e f : List (AtomOver ℕ)) (i : ℕ) (a : AtomOver ℕ) → table.Extends e f → Names e i a → Names f i a
-named-still e f i a extends named =
-    subst (λ (ts : List (AtomOver ℕ)). Names ts i a) (sym extends.is) (names_more e extends.more i a named)
-
-module _ (proves : Bool) (x y : Store) (e f : Backing) (b c : Spending) (old new : Option (List ℕ))
-    (goes : Goes proves x e b old y f c new) where
-  pub settles-still : (was now : List ℕ) (i : ℕ) → i < length e.atoms
-      → ((k : ℕ) → is_in was k ≡ true → is_in now k ≡ true) → SettlesAt x.arena e was i → SettlesAt y.arena f now i
-  settles-still was now i low among h = λ ps r named letters.
-      let before : Names e.atoms i (in_atom ps r) =
-      named_before e.atoms goes.atoms.more i (in_atom ps r) low
-      (subst (λ (ts : List (AtomOver ℕ)). Names ts i (in_atom ps r)) goes.atoms.is named) in
-      still-settled x.arena y.arena e.kept f.kept was now i ps r goes.store.more.extends
-      (goes.below i (in_atom ps r) before) goes.stay among (h ps r before letters)
-
-  pub end-still : (i : ℕ) → IsEnd x.arena e i → IsEnd y.arena f i
-  end-still i h = (
-    h.0,
-    named-still e.atoms f.atoms i (in_atom [] h.0) goes.atoms h.1,
-    still-settled x.arena y.arena e.kept f.kept [] [] i [] h.0 goes.store.more.extends
-        (goes.below i (in_atom [] h.0) h.1) goes.stay (λ k there. there) h.2,
-  )
-
-  pub ends-still : (was now : List Lit) → HasEnds x.arena e was now → HasEnds y.arena f was now
-  ends-still was now h = record {
-    more = h.more;
-    is = h.is;
-    each = λ i there. end-still i (h.each i there);
-    own = λ some. goes.gates (h.own some);
-  }
-
 -- Ends.
 
-pub ends-none : (rs : List Regex) (e : Backing) (was : List Lit) → HasEnds rs e was was
-ends-none rs e was = record {
-  more = [];
-  is = sym (append-nil was);
-  each = λ i there. absurd (false≢true there);
-  own = λ some. absurd (omega (arith, some));
+pub ends-still : (proves : Bool) (x y : Store) (e f : Backing) (b c : Spending) (old new : Option (List ℕ))
+    → Goes proves x e b old y f c new → (was now : List Lit) → HasEnds e was now → HasEnds f was now
+ends-still proves x y e f b c old new goes was now h = record {
+  more = h.more;
+  is = h.is;
+  known = literals_still e.atoms f.atoms h.more goes.atoms h.known;
+  own = λ some. goes.gates (h.own some);
 }
 
-in-append : (xs ys : List Lit) (i : ℕ) → is_in (atoms_of (xs ++ ys)) i ≡ true
-    → (is_in (atoms_of xs) i ≡ true) ⊎ (is_in (atoms_of ys) i ≡ true)
-in-append xs ys i h =
-    or_cases (is_in (atoms_of xs) i) (is_in (atoms_of ys) i)
-    (sym (ap (λ (ns : List ℕ). is_in ns i) (map-append (λ (l : Lit). l.atom) xs ys)
-    ∙ list_any-append (nat_eq i) (atoms_of xs) (atoms_of ys)) ∙ h)
+pub ends-none : (e : Backing) (was : List Lit) → HasEnds e was was
+ends-none e was =
+    record { more = []; is = sym (append-nil was); known = refl; own = λ some. absurd (omega (arith, some)) }
 
-pub in-front : (xs ys : List Lit) (i : ℕ) → is_in (atoms_of xs) i ≡ true → is_in (atoms_of (xs ++ ys)) i ≡ true
-in-front xs ys i h =
-    ap (λ (ns : List ℕ). is_in ns i) (map-append (λ (l : Lit). l.atom) xs ys)
-    ∙ list_any-append (nat_eq i) (atoms_of xs) (atoms_of ys)
-    ∙ or_left (is_in (atoms_of xs) i) (is_in (atoms_of ys) i) h
-
-pub in-behind : (xs ys : List Lit) (i : ℕ) → is_in (atoms_of ys) i ≡ true → is_in (atoms_of (xs ++ ys)) i ≡ true
-in-behind xs ys i h =
-    ap (λ (ns : List ℕ). is_in ns i) (map-append (λ (l : Lit). l.atom) xs ys)
-    ∙ list_any-append (nat_eq i) (atoms_of xs) (atoms_of ys)
-    ∙ or_right (is_in (atoms_of xs) i) (is_in (atoms_of ys) i) h
-
-pub ends-both : (rs : List Regex) (e : Backing) (first was now : List Lit) → HasEnds rs e first was
-    → HasEnds rs e was now → HasEnds rs e first now
-ends-both rs e first was now p q = record {
+pub ends-both : (e : Backing) (first was now : List Lit) → HasEnds e first was → HasEnds e was now
+    → HasEnds e first now
+ends-both e first was now p q = record {
   more = p.more ++ q.more;
   is = q.is ∙ ap (λ (ls : List Lit). ls ++ q.more) p.is ∙ append_assoc first p.more q.more;
-  each = λ i there. elim (in-append p.more q.more i there) [
-    | inl before ↦ p.each i before
-    | inr behind ↦ q.each i behind
-  ];
+  known = list_all-append (λ (l : Lit). is_atom e.atoms l.atom) p.more q.more
+      ∙ and_from (are_atoms e.atoms p.more) (are_atoms e.atoms q.more) p.known q.known;
   own = λ some. gates p.more p.own some;
 }
   where
@@ -364,103 +271,51 @@ ends-both rs e first was now p q = record {
     gates [] first some = q.own some
     gates (l ∷ ls) first some = first (omega arith)
 
-pub ends-one : (rs : List Regex) (e : Backing) (was now : List Lit) (end : ℕ) → now ≡ was ++ of_sign true end ∷ []
-    → IsEnd rs e end → HasGates (length e.atoms) e.atoms e.kept → HasEnds rs e was now
-ends-one rs e was now end is settled gates = record {
+pub ends-one : (e : Backing) (was now : List Lit) (end : ℕ) → now ≡ was ++ of_sign true end ∷ []
+    → end < length e.atoms → HasGates (length e.atoms) e.atoms e.kept → HasEnds e was now
+ends-one e was now end is low gates = record {
   more = of_sign true end ∷ [];
   is = is;
-  each = λ i there. elim (or_cases (nat_eq i end) false there) [
-    | inl same ↦ subst (IsEnd rs e) (sym (eqb-true i end same)) settled
-    | inr none ↦ absurd (false≢true none)
-  ];
+  known = one-known (length e.atoms) (of_sign true end) low;
   own = λ some. gates;
 }
 
--- that one is among them
-pub end-among : (was now : List Lit) (end : ℕ) → now ≡ was ++ of_sign true end ∷ [] → nat_eq end end ≡ true
-    → is_in (atoms_of now) end ≡ true
-end-among was now end is itself =
-    ap (λ (ls : List Lit). is_in (atoms_of ls) end) is
-    ∙ in-behind was (of_sign true end ∷ []) end (or_left (nat_eq end end) false itself)
-
--- An atom is settled that is what it is named.
-
-same-pieces : (ps qs : List Piece) (r s : ℕ) → ◌≡◌ {A = AtomOver ℕ} (in_atom ps r) (in_atom qs s) → ps ≡ qs
-same-pieces ps qs r s e = cc
-
-same-regex : (ps qs : List Piece) (r s : ℕ) → ◌≡◌ {A = AtomOver ℕ} (in_atom ps r) (in_atom qs s) → r ≡ s
-same-regex ps qs r s e = cc
-
-pub named-settles : (rs : List Regex) (e : Backing) (ends : List ℕ) (i : ℕ) (ps : List Piece) (r : ℕ)
-    → Names e.atoms i (in_atom ps r) → IsSettled rs e.kept ends i ps r → SettlesAt rs e ends i
-named-settles rs e ends i ps r named h = λ qs s other letters.
-    let same : in_atom ps r ≡ in_atom qs s = same_Some (in_atom ps r) (in_atom qs s) (sym named ∙ other) in
-    subst (λ (m : ℕ). IsSettled rs e.kept ends i qs m) (same-regex ps qs r s same)
-    (subst (λ (xs : List Piece). IsSettled rs e.kept ends i xs r) (same-pieces ps qs r s same) h)
-
--- another one has no truth of its own
-pub other-settles : (rs : List Regex) (e : Backing) (ends : List ℕ) (i : ℕ) (a : AtomOver ℕ) → Names e.atoms i a
-    → ((ps : List Piece) (r : ℕ) → a ≡ in_atom ps r → are_letters ps ≡ false) → SettlesAt rs e ends i
-other-settles rs e ends i a named none = λ ps r there letters.
-    absurd (false≢true (sym (none ps r (same_Some a (in_atom ps r) (sym named ∙ there))) ∙ letters))
-
--- All of them, one more each time.
-
-pub take-cases : (xs : List ℕ) (i d n : ℕ) → i < length xs → is_in (take (i + 1) xs) n ≡ true
-    → (is_in (take i xs) n ≡ true) ⊎ (n ≡ get_or xs i d)
-take-cases xs i d n low h =
-    elim (or_cases (is_in (take i xs) n) (is_in (get_or xs i d ∷ []) n)
-    (sym (ap (λ (ns : List ℕ). is_in ns n) (take_more xs i d low)
-    ∙ list_any-append (nat_eq n) (take i xs) (get_or xs i d ∷ [])) ∙ h)) [
-      | inl before ↦ inl before
-      | inr last ↦ elim (or_cases (nat_eq n (get_or xs i d)) false last) [
-        | inl same ↦ inr (eqb-true n (get_or xs i d) same)
-        | inr none ↦ absurd (false≢true none)
-      ]
-    ]
-
-take-in : (xs : List ℕ) (k n : ℕ) → is_in (take k xs) n ≡ true → is_in xs n ≡ true
-take-in [] zero n h = h
-take-in [] (suc k) n h = h
-take-in (x ∷ xs) zero n h = absurd (false≢true h)
-take-in (x ∷ xs) (suc k) n h = elim (or_cases (nat_eq n x) (is_in (take k xs) n) h) [
-  | inl here ↦ or_left (nat_eq n x) (is_in xs n) here
-  | inr later ↦ or_right (nat_eq n x) (is_in xs n) (take-in xs k n later)
-]
-
-grown-long : (e f : List (AtomOver ℕ)) → table.Extends e f → length e ≤ length f
-grown-long e f h = omega (arith, ap length h.is, length-append e h.more)
+-- the literals with the ends are of known atoms
+pub with-ends-known : (e f : Backing) (asked ends : List Lit) → table.Extends e.atoms f.atoms
+    → are_atoms e.atoms asked ≡ true → HasEnds f [] ends → are_atoms f.atoms (asked ++ ends) ≡ true
+with-ends-known e f asked ends extends known h =
+    list_all-append (λ (l : Lit). is_atom f.atoms l.atom) asked ends
+    ∙ and_from (are_atoms f.atoms asked) (are_atoms f.atoms ends)
+    (literals_still e.atoms f.atoms asked extends known)
+    (ap (are_atoms f.atoms) h.is ∙ h.known)
 
 -- a number of atoms is one of a larger table
 pub atom-known : (e f : List (AtomOver ℕ)) (xs : List ℕ) (i d : ℕ) → list_all (is_atom e) xs ≡ true → i < length xs
     → table.Extends e f → get_or xs i d < length f
 atom-known e f xs i d known low extends =
     let there = all_at (is_atom e) xs i (get_or xs i d) known (slice_get-get_or xs i d low) in
-    omega (arith, ltb-true (get_or xs i d) (length e) there, grown-long e f extends)
+    omega (arith, ltb-true (get_or xs i d) (length e) there, grown_long e f extends)
 
 -- What comes of one clause.
 
-pub end-steps : StepsAreExact → StepsHold → NullableHasEmptyWord → (proves : Bool) (x : Store) (e f : Backing)
-    (b c : Spending) (old new : Option (List ℕ)) (i r : ℕ) (t done : Bool) → HaveRegexesBelow (length x.arena) e.atoms
+pub end-steps : StepsAreExact → StepsHold → (proves : Bool) (x : Store) (e f : Backing) (b c : Spending)
+    (old new : Option (List ℕ)) (i r : ℕ) (t done : Bool) → HaveRegexesBelow (length x.arena) e.atoms
     → Names e.atoms i (in_atom [] r) → nullable (regex_at x.arena r) ≡ t
-    → Steps (of_sign t i ∷ []) proves b c e f old new done → SettlesEnd proves x e b old i r f c new done
-end-steps exact hold nulls proves x e f b c old new i r t done below named is h =
+    → Steps (of_sign t i ∷ []) proves b c e f old new done → StepsOnce proves x e b old f c new done
+end-steps exact hold proves x e f b c old new i r t done below named is h =
     let known = one-known (length e.atoms) (of_sign t i) (slice_get_within e.atoms i (in_atom [] r) named) in
     let step = end-step exact x.arena e.atoms i r t named is in
     record {
       goes = goes-step hold proves x (of_sign t i ∷ []) e f b c old new done below known step h;
       same = step-atoms hold proves x (of_sign t i ∷ []) e f b c old new done below known step h;
       spent = h.spent;
-      covered = λ truth same yes.
-          subst (λ (p : Bool). IsCovered f.kept (of_sign p i ∷ [])) (sym is ∙ same) (h.covered yes);
-      settled = λ yes. end-settled nulls x.arena f.kept i r t is (h.covered yes);
     }
 
 module _ (exact : StepsAreExact) (hold : StepsHold) (proves : Bool) (x : Store) (e f : Backing) (b c : Spending)
     (old new : Option (List ℕ)) (i end : ℕ) (t done : Bool) (below : HaveRegexesBelow (length x.arena) e.atoms)
     (first : i < length e.atoms) (second : end < length e.atoms) (at : IsCutAt x.arena e.atoms i end) where
   pub cut-steps : Steps (of_sign t i ∷ of_sign (not t) end ∷ []) proves b c e f old new done
-      → Cuts proves x e b old (of_sign t i ∷ of_sign (not t) end ∷ []) f c new done
+      → StepsOnce proves x e b old f c new done
   cut-steps h =
       let clause = of_sign t i ∷ of_sign (not t) end ∷ [] in
       let known = both-known (length e.atoms) (of_sign t i) (of_sign (not t) end) first second in
@@ -469,11 +324,10 @@ module _ (exact : StepsAreExact) (hold : StepsHold) (proves : Bool) (x : Store) 
         goes = goes-step hold proves x clause e f b c old new done below known step h;
         same = step-atoms hold proves x clause e f b c old new done below known step h;
         spent = h.spent;
-        covered = h.covered;
       }
 
   pub cut-steps-turned : Steps (of_sign (not t) end ∷ of_sign t i ∷ []) proves b c e f old new done
-      → Cuts proves x e b old (of_sign t i ∷ of_sign (not t) end ∷ []) f c new done
+      → StepsOnce proves x e b old f c new done
   cut-steps-turned h =
       let clause = of_sign (not t) end ∷ of_sign t i ∷ [] in
       let known = both-known (length e.atoms) (of_sign (not t) end) (of_sign t i) second first in
@@ -482,87 +336,49 @@ module _ (exact : StepsAreExact) (hold : StepsHold) (proves : Bool) (x : Store) 
         goes = goes-step hold proves x clause e f b c old new done below known step h;
         same = step-atoms hold proves x clause e f b c old new done below known step h;
         spent = h.spent;
-        covered = λ yes. covered-turned f.kept (of_sign (not t) end) (of_sign t i) (h.covered yes);
       }
 
 -- What comes of one atom.
 
 -- of the empty word
-pub end-settles : (proves : Bool) (x : Store) (e f : Backing) (b c : Spending) (old new : Option (List ℕ)) (i r : ℕ)
-    (was : List Lit) (done : Bool) → Names e.atoms i (in_atom [] r) → SettlesEnd proves x e b old i r f c new done
-    → Settles proves x e b old i was x f c new was done
-end-settles proves x e f b c old new i r was done named h =
-    let now : Names f.atoms i (in_atom [] r) =
-    subst (λ (ts : List (AtomOver ℕ)). Names ts i (in_atom [] r)) (sym h.same) named in
-    record {
-      goes = h.goes;
-      spent = h.spent;
-      settled = λ yes.
-          named-settles x.arena f (atoms_of was) i [] r now
-          (still-settled x.arena x.arena f.kept f.kept [] (atoms_of was) i [] r (regexes_same x).more.extends
-          (h.goes.regexes i (in_atom [] r) now) (λ id clause there. there) (λ k there. absurd (false≢true there))
-          (h.settled yes));
-      ends = ends-none x.arena f was;
-    }
+pub end-settles : (proves : Bool) (x : Store) (e f : Backing) (b c : Spending) (old new : Option (List ℕ))
+    (was : List Lit) (done : Bool) → StepsOnce proves x e b old f c new done
+    → Settles proves x e b old was x f c new was done
+end-settles proves x e f b c old new was done h =
+    record { goes = h.goes; spent = h.spent; ends = ends-none f was }
 
 -- of none
-pub other-settled : (proves : Bool) (x : Store) (e : Backing) (b : Spending) (told : Option (List ℕ)) (i : ℕ)
-    (was : List Lit) → HaveRegexesBelow (length x.arena) e.atoms → SettlesAt x.arena e (atoms_of was) i
-    → Settles proves x e b told i was x e b told was true
-other-settled proves x e b told i was below h = record {
+pub other-settled : (proves : Bool) (x : Store) (e : Backing) (b : Spending) (told : Option (List ℕ)) (was : List Lit)
+    → HaveRegexesBelow (length x.arena) e.atoms → Settles proves x e b told was x e b told was true
+other-settled proves x e b told was below = record {
   goes = goes-none proves x e b told below;
   spent = λ not_done. absurd (false≢true (sym not_done));
-  settled = λ yes. h;
-  ends = ends-none x.arena e was;
+  ends = ends-none e was;
 }
 
 -- of a word, where all is spent
-pub word-spent : (proves : Bool) (x y : Store) (e f : Backing) (b c : Spending) (old new : Option (List ℕ)) (i : ℕ)
+pub word-spent : (proves : Bool) (x y : Store) (e f : Backing) (b c : Spending) (old new : Option (List ℕ))
     (was : List Lit) → Goes proves x e b old y f c new → c.spent ≡ c.limit
-    → Settles proves x e b old i was y f c new was false
-word-spent proves x y e f b c old new i was goes spent = record {
-  goes = goes;
-  spent = λ not_done. spent;
-  settled = λ yes. absurd (false≢true yes);
-  ends = ends-none y.arena f was;
-}
+    → Settles proves x e b old was y f c new was false
+word-spent proves x y e f b c old new was goes spent =
+    record { goes = goes; spent = λ not_done. spent; ends = ends-none f was }
 
 -- and where it is not
-module _ (nulls : NullableHasEmptyWord) (law : DerivativeAlongHasRests) (proves : Bool) (x y : Store)
-    (e f g k : Backing) (b c d : Spending) (first second third last : Option (List ℕ)) (i end : ℕ) (w : List ℕ)
-    (r rest : ℕ) (truth : Bool) (was now : List Lit) (start : Goes proves x e b first y f b second)
-    (end-named : Names f.atoms end (in_atom [] rest)) (gates : HasGates (length f.atoms) f.atoms f.kept)
-    (named : Names e.atoms i (in_atom (word_piece w ∷ []) r))
-    (is-rest : regex_at y.arena rest ≡ nd_along (regex_at y.arena r) w) (is : nullable (regex_at y.arena rest) ≡ truth)
-    (one : SettlesEnd proves y f b second end rest g c third true)
-    (cut : Cuts proves y g c third (of_sign truth i ∷ of_sign (not truth) end ∷ []) k d last true)
-    (pushed : now ≡ was ++ of_sign true end ∷ []) where
-  to-end : Goes proves x e b first y g c third
-  to-end = goes-both proves x y y e f g b b c first second third start one.goes
-
-  there : Names g.atoms end (in_atom [] rest)
-  there = subst (λ (ts : List (AtomOver ℕ)). Names ts end (in_atom [] rest)) (sym one.same) end-named
-
-  itself : nat_eq end end ≡ true
-  itself = equal_itself end
-
-  pub word-settles : Settles proves x e b first i was y k d last now true
-  word-settles =
-      let whole = goes-both proves x y y e g k b c d first third last to-end cut.goes in
-      record {
-        goes = whole;
-        spent = λ not_done. absurd (false≢true (sym not_done));
-        settled = λ yes.
-            named-settles y.arena k (atoms_of now) i (word_piece w ∷ []) r
-            (named-still e.atoms k.atoms i (in_atom (word_piece w ∷ []) r) whole.atoms named)
-            (word-settled nulls law y.arena k.kept i end w r rest truth (atoms_of now) is-rest is
-            (end-among was now end pushed itself)
-            (covered-stays g.kept k.kept (of_sign truth end ∷ []) cut.goes.stay (one.covered truth is refl))
-            (cut.covered refl));
-        ends = ends-one y.arena k was now end pushed
-            (end-still proves y y g k c d third last cut.goes end (rest, there, one.settled refl))
-            (cut.goes.gates (one.goes.gates gates));
-      }
+pub word-settles : (proves : Bool) (x y : Store) (e f g k : Backing) (b c d : Spending)
+    (first second third last : Option (List ℕ)) (end rest : ℕ) (was now : List Lit)
+    → Goes proves x e b first y f b second → Names f.atoms end (in_atom [] rest)
+    → HasGates (length f.atoms) f.atoms f.kept → StepsOnce proves y f b second g c third true
+    → StepsOnce proves y g c third k d last true → now ≡ was ++ of_sign true end ∷ []
+    → Settles proves x e b first was y k d last now true
+word-settles proves x y e f g k b c d first second third last end rest was now start named gates one cut pushed =
+    let both = goes-both proves y y y f g k b c d second third last one.goes cut.goes in
+    record {
+      goes = goes-both proves x y y e f k b b d first second last start both;
+      spent = λ not_done. absurd (false≢true (sym not_done));
+      ends = ends-one k was now end pushed
+          (omega (arith, slice_get_within f.atoms end (in_atom [] rest) named, grown_long f.atoms k.atoms both.atoms))
+          (both.gates gates);
+    }
 
 -- what comes in front
 pub word-starts : FollowsByRule → LineStaysSound → CountedAgainStaysSound → (proves : Bool) (x y : Store)
@@ -572,6 +388,9 @@ word-starts rule line again proves x y e f b old new r n below grows alone =
     goes-both proves x y y e e f b b b old old new (goes-grown proves x y e b old below grows)
     (goes-end rule line again proves y e f b old new r n
     (regexes_kept x.arena y.arena e.atoms grows.more.extends below) alone)
+
+same-pieces : (ps qs : List Piece) (r s : ℕ) → ◌≡◌ {A = AtomOver ℕ} (in_atom ps r) (in_atom qs s) → ps ≡ qs
+same-pieces ps qs r s e = cc
 
 -- where the one atom says that a word is in a regex, and the other that the empty word is in one, they are two
 pub two-atoms : (atoms : List (AtomOver ℕ)) (i end : ℕ) (w : List ℕ) (r q : ℕ)
@@ -587,39 +406,22 @@ two-atoms atoms i end w r q one other same =
 -- What comes of all.
 
 pub all-none : (proves : Bool) (x : Store) (e : Backing) (b : Spending) (told : Option (List ℕ))
-    → HaveRegexesBelow (length x.arena) e.atoms → AllSettle proves x e b told [] x e b told []
-all-none proves x e b told below = record {
-  goes = goes-none proves x e b told below;
-  each = λ i there. absurd (false≢true there);
-  ends = ends-none x.arena e [];
-}
+    → HaveRegexesBelow (length x.arena) e.atoms → AllSettle proves x e b told x e b told []
+all-none proves x e b told below = record { goes = goes-none proves x e b told below; ends = ends-none e [] }
 
 pub all-more : (proves : Bool) (x y z : Store) (e f g : Backing) (a b c : Spending) (old mid new : Option (List ℕ))
-    (numbers : List ℕ) (i d : ℕ) (was now : List Lit) → list_all (is_atom e.atoms) numbers ≡ true → i < length numbers
-    → AllSettle proves x e a old (take i numbers) y f b mid was
-    → Settles proves y f b mid (get_or numbers i d) was z g c new now true
-    → AllSettle proves x e a old (take (i + 1) numbers) z g c new now
-all-more proves x y z e f g a b c old mid new numbers i d was now known low h one = record {
+    (was now : List Lit) → AllSettle proves x e a old y f b mid was
+    → Settles proves y f b mid was z g c new now true → AllSettle proves x e a old z g c new now
+all-more proves x y z e f g a b c old mid new was now h one = record {
   goes = goes-both proves x y z e f g a b c old mid new h.goes one.goes;
-  each = λ n there. elim (take-cases numbers i d n low there) [
-    | inl before ↦
-        let kept = ltb-true n (length e.atoms)
-        (all_in (is_atom e.atoms) numbers n known (take-in numbers i n before)) in
-        settles-still proves y z f g b c mid new one.goes (atoms_of was) (atoms_of now) n
-        (omega (arith, kept, grown-long e.atoms f.atoms h.goes.atoms))
-        (λ k among.
-        ap (λ (ls : List Lit). is_in (atoms_of ls) k) one.ends.is ∙ in-front was one.ends.more k among)
-        (h.each n before)
-    | inr same ↦ subst (SettlesAt z.arena g (atoms_of now)) (sym same) (one.settled refl)
-  ];
-  ends = ends-both z.arena g [] was now (ends-still proves y z f g b c mid new one.goes [] was h.ends) one.ends;
+  ends = ends-both g [] was now (ends-still proves y z f g b c mid new one.goes [] was h.ends) one.ends;
 }
 
 pub settlement-spent : (proves : Bool) (x y z : Store) (e f g : Backing) (a b c : Spending)
-    (old mid new : Option (List ℕ)) (n : ℕ) (was now : List Lit) → Goes proves x e a old y f b mid
-    → Settles proves y f b mid n was z g c new now false
+    (old mid new : Option (List ℕ)) (was now : List Lit) → Goes proves x e a old y f b mid
+    → Settles proves y f b mid was z g c new now false
     → Goes proves x e a old z g c new × (c.spent ≡ c.limit)
-settlement-spent proves x y z e f g a b c old mid new n was now h one =
+settlement-spent proves x y z e f g a b c old mid new was now h one =
     (goes-both proves x y z e f g a b c old mid new h one.goes, one.spent refl)
 
 -- Words of memberships.
@@ -646,11 +448,6 @@ bare-named atoms i g h = step h.0 h.1 h.2
     step (sum_atom k ss) named is = absurd is
     step (and_atom ls) named is = absurd is
     step (iff_atom l m) named is = absurd is
-
-pub no-bare : (rs : List Regex) (e : Backing) (ends : List ℕ) (i : ℕ) → IsBare e.atoms i None
-    → SettlesAt rs e ends i
-no-bare rs e ends i h =
-    other-settles rs e ends i h.0 h.1 (λ ps r is. subst (λ (a : AtomOver ℕ). IsBareAtom a None) is h.2)
 
 -- The numbers of what is asked are those of the table.
 pub numbers-known : (atoms now : List (AtomOver ℕ)) (literals : List Lit) (keys : List ℕ) → now ≡ atoms

@@ -1,6 +1,7 @@
 mod Words
 pub mod Gathered
 mod Declaring
+pub mod Growing
 pub mod Deciding
 pub mod Entailing
 pub mod LiveRows

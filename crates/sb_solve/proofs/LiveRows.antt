@@ -1,5 +1,5 @@
 -- The live assertions with their levels, by the assertions that are kept.
-use Rattle.sb_solve.proofs.Words.{◌≡◌, ℕ, zero, suc, ◌+◌, Bool, true, false, ◌==◌, if◌then◌else◌, List, [], ◌∷◌, ◌++◌, map, length, take, drop, get_or, slice_get, Option, Some, None, option_map, refl, sym, ap, ap₂, subst, ◌∙◌, arith, AreTerms, fits_sorts, live_laid, IfSome, ◌<◌, nat_eq, All, list_all, and_parts, and_from, false≢true, map-append, take-map, drop-map, take-append-drop, slice_get-get_or, slice_get-map, slice_get_within, same_Some, same_number, Sort, Term, Terms, constant, word, numeral, apply, parameter, no_terms, with_term, is_same_sort, Assertion, asserted, a_mark, live, live_terms, terms_in, term_of, at_level, live_by_level, asked_in, is_declared, names_in, has_sort, are_sorted, is_one_of, speaks_of, speak_of, Stacked, state_of, live_constants, assertion_of, assertion_in, front_names, first_level, levels_above, have_levels, HasNumberBelow, same_sort, IsAssertionAt, term_at, Naming, is_decided, has_declared, have_declared, FittingIsTranslated, HasNoLiteral, brought_translation, fits, is_structure, is_unjoined, ◌&&◌, is_well_sorted, translation}
+use Rattle.sb_solve.proofs.Words.{◌≡◌, ℕ, zero, suc, ◌+◌, Bool, true, false, ◌==◌, if◌then◌else◌, List, [], ◌∷◌, ◌++◌, map, length, take, drop, get_or, slice_get, Option, Some, None, option_map, refl, sym, ap, ap₂, subst, ◌∙◌, arith, AreTerms, fits_sorts, live_laid, IfSome, ◌<◌, nat_eq, All, list_all, and_parts, and_from, false≢true, map-append, take-map, drop-map, take-append-drop, slice_get-get_or, slice_get-map, slice_get_within, same_Some, same_number, Sort, Term, Terms, constant, word, numeral, apply, parameter, no_terms, with_term, is_same_sort, Assertion, asserted, a_mark, live, live_terms, terms_in, term_of, at_level, live_by_level, asked_in, is_declared, names_in, has_sort, are_sorted, is_one_of, speaks_of, speak_of, Stacked, state_of, live_constants, assertion_of, assertion_in, front_names, first_level, levels_above, have_levels, HasNumberBelow, same_sort, IsAssertionAt, term_at, Naming, is_decided, has_declared, have_declared, FittingIsTranslated, HasNoLiteral, brought_translation, fits, is_structure, ◌&&◌, is_well_sorted, translation}
 use Rattle.std.specs.List.{Contains}
 use Rattle.sb_term.specs.declared.assertion.Assertion as code
 use Rattle.sb_stack.specs.declared.level.Level as levels
@@ -127,15 +127,10 @@ term_passes p (asserted u ∷ rest) (suc place) t h there =
 term_passes p (a_mark ∷ rest) zero t h there = absurd (cc (there))
 term_passes p (a_mark ∷ rest) (suc place) t h there = term_passes p rest place t h there
 
--- what is decided is Boolean structure within the limits on sizes, in which no constants are joined
+-- what is decided is Boolean structure within the fragment
 decided_parts : (t : Term) → is_decided (asserted t) ≡ true
-    → (is_structure t ≡ true) × (is_unjoined t ≡ true) × (fits t ≡ true)
-decided_parts t h =
-    let parts = and_parts (is_structure t && is_unjoined t) (fits t) h in
-    let both = and_parts (is_structure t) (is_unjoined t) parts.0 in (both.0, both.1, parts.1)
-
-pub decided_unjoined : (t : Term) → is_decided (asserted t) ≡ true → is_unjoined t ≡ true
-decided_unjoined t h = (decided_parts t h).1
+    → (is_structure t ≡ true) × (fits t ≡ true)
+decided_parts t h = and_parts (is_structure t) (fits t) h
 
 -- a well-sorted one that is decided has a literal
 pub has_literal : FittingIsTranslated → (assertions : List Assertion) (place : ℕ) (t : Term)
@@ -143,7 +138,7 @@ pub has_literal : FittingIsTranslated → (assertions : List Assertion) (place :
     → slice_get assertions place ≡ Some (asserted t) → HasNoLiteral t → ⊥
 has_literal law assertions place t decided sorted there none =
     let parts = decided_parts t (all_at is_decided assertions place (asserted t) decided there) in
-    let found = law t parts.2 (term_passes is_well_sorted assertions place t sorted there) [] in
+    let found = law t parts.1 (term_passes is_well_sorted assertions place t sorted there) [] in
     let is : brought_translation found.0 t ≡ Some found.1 =
     ap (λ b. if b then translation found.0 t else None) parts.0 ∙ found.2 in
     let e : Some found.1 ≡ None = sym is ∙ none found.0 in

@@ -1,6 +1,7 @@
 -- The values of the end of a search make the assertions true that it is about, and the assumptions.
-use Rattle.sb_solve.proofs.Words.{◌≡◌, ℕ, zero, suc, ◌+◌, ◌<◌, Bool, true, false, if◌then◌else◌, List, [], ◌∷◌, map, length, get_or, slice_get, Option, Some, None, refl, sym, ap, ap₂, subst, ◌∙◌, arith, list_all, false≢true, and_parts, or_left, or_right, eq-eqb, same_Some, Lit, Kept, Regex, Assigned, Sort, boolean, integer, text, reglan, Term, Terms, constant, word, numeral, apply, parameter, no_terms, with_term, is_same_sort, Value, Valuation, Text, Int, Truth, is_of, default_of, value_in, holds, constant_piece, Assertion, asserted, a_mark, live, Atom, AtomOver, bool_atom, in_atom, HasSorts, TranslationHolds, is_declared, is_one_of, speaks_of, speak_of, Stacked, state_of, live_constants, value_at, values_at, value_there, same_sort, atoms_in, is_in, atoms_of, truth_by, truth_in, word_in, word_or_empty, word_there, is_word_there, are_words_there, AreLiterals, IsAnswered, IsLiteral, term_onto, terms_at, are_declared, is_sorted, HasLive, AreTrueAt, ne_eqb, are_characters, is_brought_sort, occurs, occurs_in_some, sort_in, list_all-map, AreSaid, AreTrueUnder, Assumption, IsConsistent, Says, and_from, are_true, held, is_same_truth, is_true_under, list_all-append, make_true, map-append}
-use Rattle.std.specs.List.{Contains}
+use Rattle.sb_solve.proofs.Words.{◌≡◌, ℕ, zero, suc, ◌+◌, ◌<◌, Bool, true, false, if◌then◌else◌, List, [], ◌∷◌, map, length, get_or, slice_get, Option, Some, None, refl, sym, ap, ap₂, subst, ◌∙◌, arith, list_all, false≢true, and_parts, or_left, or_right, eq-eqb, same_Some, Lit, Kept, Regex, Assigned, Sort, boolean, integer, text, reglan, Term, Terms, constant, word, numeral, apply, parameter, no_terms, with_term, is_same_sort, Value, Valuation, Text, Int, Truth, is_of, default_of, value_in, holds, constant_piece, Assertion, asserted, a_mark, live, Atom, AtomOver, bool_atom, in_atom, HasSorts, TranslationHolds, is_declared, is_one_of, speaks_of, speak_of, Stacked, state_of, live_constants, value_at, values_at, value_there, same_sort, atoms_in, is_in, atoms_of, truth_by, truth_in, word_in, word_or_empty, word_there, is_word_there, are_words_there, AreLiterals, IsAnswered, IsLiteral, term_onto, terms_at, are_declared, is_sorted, HasLive, AreTrueAt, ne_eqb, are_characters, is_brought_sort, occurs, occurs_in_some, sort_in, list_all-map, AreSaid, AreTrueUnder, Assumption, IsConsistent, Says, and_from, are_true, held, is_same_truth, is_true_under, list_all-append, make_true, map-append, Piece, cons-cases, inl, inr, is_declared_constant, not-in-nil, word_piece}
+use Rattle.std.specs.List.{Contains, flat_map}
+use Rattle.sb_rulebook.specs.Atoms.{piece_constants}
 use Rattle.sb_meaning.specs.Truth as meaning
 use Rattle.sb_term.specs.declared.sort.Sort as code_sort
 use Rattle.sb_solve.specs.Decided as deciding
@@ -96,6 +97,30 @@ declared_there sorts k n h = step (slice_get sorts n) h
     step None h = absurd (false≢true h)
     step (Some other) h = ap Some (sym (same_sort k other h))
 
+-- the constants of pieces are declared where those of their atom are
+piece_declared : (sorts : List Sort) (ps : List Piece) (n : ℕ)
+    → list_all (is_declared_constant sorts) (flat_map piece_constants ps) ≡ true → Contains ps (constant_piece n)
+    → is_declared sorts text n ≡ true
+piece_declared sorts [] n h among = absurd (not-in-nil (constant_piece n) among)
+piece_declared sorts (constant_piece x ∷ ps) n h among =
+    let p = and_parts (is_declared sorts text x)
+    (list_all (is_declared_constant sorts) (flat_map piece_constants ps)) h in
+    elim (cons-cases (constant_piece x) ps (constant_piece n) among) [
+      | inl same ↦ ap (is_declared sorts text) (sym (same_constant x n same)) ∙ p.0
+      | inr more ↦ piece_declared sorts ps n p.1 more
+    ]
+  where
+    same_constant : (x n : ℕ) → constant_piece x ≡ constant_piece n → x ≡ n
+    same_constant x n e = cc
+piece_declared sorts (word_piece w ∷ ps) n h among =
+    elim (cons-cases (word_piece w) ps (constant_piece n) among) [
+      | inl same ↦ absurd (other_piece same)
+      | inr more ↦ piece_declared sorts ps n h more
+    ]
+  where
+    other_piece : word_piece w ≡ constant_piece n → ⊥
+    other_piece e = Prim.cc (e)
+
 -- The literal of a term at one of the places.
 
 record IsStatedBy (atoms : List Atom) (kept : Kept) (wanted : List ℕ) (t : Term) : Type 0 where
@@ -172,9 +197,8 @@ module _ (rs : List Regex) (atoms : List (AtomOver ℕ)) (wanted : List ℕ) (li
     gives : deciding.IsGiven rs atoms wanted entries theory v
     gives = record {
       agrees = a.agrees;
-      gives_words = λ i n r there at.
-          ap text_of (value_here n text
-          (and_parts (is_declared Sorts text n) true (atom_sorted i (in_atom (constant_piece n ∷ []) r) there at)).0);
+      gives_words = λ i n r ps there at among.
+          ap text_of (value_here n text (piece_declared Sorts ps n (atom_sorted i (in_atom ps r) there at) among));
       gives_truths = λ i n there at.
           ap truth_of (value_here n boolean
           (and_parts (is_declared Sorts boolean n) true (atom_sorted i (bool_atom n) there at)).0) ∙ said n;

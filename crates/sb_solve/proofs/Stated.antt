@@ -1,6 +1,7 @@
 -- The clauses of live assertions, and the literals of assumptions, one behind the other.
-use Rattle.sb_solve.proofs.Words.{AreSaid, Assumes, Assumption, HasGates, Names, and_parts, append-nil, append_assoc, assumption_fits, bool_atom, list_all, list_all-append, slice_get_within, suc, zero, ◌≡◌, ◌≢◌, ◌⊎◌, inl, inr, ℕ, ◌<◌, Bool, true, false, nat_eq, List, [], ◌∷◌, ◌++◌, length, slice_get, Option, Some, refl, sym, ap, subst, ◌∙◌, arith, and_from, eqb-false, eqb-true, lt-ltb, same_Some, Lit, Kept, Regex, Extends, grows_both, grows_same, Term, Assertion, asserted, live, asked_in, Atom, AtomOver, translation, Stacked, state_of, HaveRegexesBelow, atoms_in, atoms_kept, atoms_more, is_atom, are_atoms, Asserted, Backing, asserted_at, leads-none, uncounted-both, IsLiteral, AreLiterals, term_onto, terms_at, AreOfLevels, level_at, IsStated, States, AllStated, AreStated, Sort, Store, TranslationStays}
+use Rattle.sb_solve.proofs.Words.{AreSaid, Assumes, Assumption, HasGates, Names, and_parts, append-nil, append_assoc, assumption_fits, bool_atom, list_all, list_all-append, slice_get_within, ◌≡◌, ◌≢◌, ◌⊎◌, inl, inr, ℕ, ◌<◌, Bool, true, false, nat_eq, List, [], ◌∷◌, ◌++◌, length, slice_get, Option, Some, refl, sym, ap, subst, ◌∙◌, arith, and_from, eqb-false, eqb-true, lt-ltb, same_Some, Lit, Kept, Regex, Extends, grows_both, grows_same, Term, Assertion, asserted, live, asked_in, Atom, AtomOver, translation, Stacked, state_of, HaveRegexesBelow, atoms_in, atoms_kept, atoms_more, is_atom, are_atoms, Asserted, Backing, asserted_at, leads-none, uncounted-both, IsLiteral, AreLiterals, term_onto, terms_at, AreOfLevels, level_at, IsStated, States, AllStated, AreStated, Sort, Store, TranslationStays}
 use Rattle.sb_atoms.specs.Numbered as table
+use Rattle.sb_solve.proofs.Growing.{names_more}
 use Rattle.sb_solve.proofs.LiveRows.{same_term}
 
 -- One behind the other.
@@ -139,11 +140,6 @@ are_of_table s more f atoms each (place ∷ places) (l ∷ ls) h =
     (are_of_table s more f atoms each places ls h.1)
 
 -- Assumptions.
-
-pub names_more : (old more : List (AtomOver ℕ)) (i : ℕ) (a : AtomOver ℕ) → Names old i a → Names (old ++ more) i a
-names_more [] more i a h = absurd (omega (arith, slice_get_within [] i a h))
-names_more (x ∷ old) more zero a h = h
-names_more (x ∷ old) more (suc i) a h = names_more old more i a h
 
 -- one literal behind those that there were, over a larger table
 said_more : (old new : List (AtomOver ℕ)) → table.Extends old new → (given bs : List Assumption) (ls ms : List Lit)

@@ -1,7 +1,9 @@
 -- What stays true of the evidence: where lines are put that follow, and where clauses that follow are kept by no lines.
-use Rattle.sb_solve.proofs.Words.{◌≡◌, ℕ, zero, suc, ◌+◌, ◌≤◌, Bool, true, false, nat_lt, if◌then◌else◌, List, [], ◌∷◌, map, length, slice_get, Option, Some, None, unwrap_or, Result, Ok, Err, refl, sym, ap, subst, ◌∙◌, inl, inr, arith, ltb-false, le-ltb, length-map, slice_get_within, same_Some, Kept, KeptClause, kept_at, Regex, Memo, Spending, Store, Term, Valuation, Atom, are_known, AllKept, Asked, count_again, AreTerms, IsSound, LevelsHold, PlacesHold, StandsAt, FollowsByRule, LineStaysSound, CountedAgainStaysSound, HaveRegexesBelow, atoms_in, atoms_kept, Puts, follow_all, tracks_grow, cons-cases, not-in-nil, Asserted, Backing, Backs, asserted_at, unit_at, AreEntailed, IsSearched, IsTrue, Contains, Refusal, Line, follows, Traced, Tracks, are_known_in, tracks_kept, ◌++◌, HasWords, Lit, are_atoms, clause_holds, kept-cases, kept-stays}
+use Rattle.sb_solve.proofs.Words.{◌≡◌, ℕ, zero, suc, ◌+◌, ◌≤◌, Bool, true, false, nat_lt, if◌then◌else◌, List, [], ◌∷◌, map, length, slice_get, Option, Some, None, unwrap_or, Result, Ok, Err, refl, sym, ap, subst, ◌∙◌, inl, inr, arith, ltb-false, le-ltb, length-map, slice_get_within, same_Some, Kept, KeptClause, kept_at, Regex, Memo, Spending, Store, Term, Valuation, Atom, are_known, AllKept, Asked, count_again, AreTerms, IsSound, LevelsHold, PlacesHold, StandsAt, FollowsByRule, LineStaysSound, CountedAgainStaysSound, HaveRegexesBelow, atoms_in, atoms_kept, Puts, follow_all, tracks_grow, cons-cases, not-in-nil, Asserted, Backing, Backs, asserted_at, unit_at, AreEntailed, IsSearched, IsTrue, Contains, Refusal, Line, follows, Traced, Tracks, are_known_in, tracks_kept, ◌++◌, HasWords, Lit, are_atoms, clause_holds, kept-cases, kept-stays, atoms_more, earlier_table, is_table}
 use Rattle.sb_solve.proofs.Ended.{kept_grown}
-use Rattle.sb_solve.proofs.Entailing.{searched_entailed, slice_there, with_entailed}
+use Rattle.sb_atoms.specs.Numbered.{NameEarlier}
+use Rattle.sb_solve.proofs.Entailing.{entailed_more, searched_entailed, slice_there, with_entailed}
+use Rattle.sb_solve.proofs.Growing.{earlier_grown}
 
 -- Lines are put.
 
@@ -152,15 +154,29 @@ rests_there live [] (suc id) clause h = absurd (Prim.cc (h))
 rests_there live (place ∷ kept) zero clause h = ap (rest_of live) h
 rests_there live (place ∷ kept) (suc id) clause h = rests_there live kept id clause h
 
--- what is kept, with these clauses in place of its own
-abbrev keeping : Asked → AllKept → Kept → AllKept
-keeping asked kept now = record kept { clauses = now; rests = rests_on asked.live now; counted = 0 }
+-- what is kept, with this table and these clauses in place of its own
+abbrev keeping : Asked → AllKept → List Atom → Kept → AllKept
+keeping asked kept table now =
+    record kept { atoms = table; clauses = now; rests = rests_on asked.live now; counted = 0 }
 
-sound-keeping : (asked : Asked) (kept : AllKept) (now : Kept) → IsSound asked kept
-    → ((id : ℕ) (clause : KeptClause) → kept_at now id ≡ Some clause → are_known kept.atoms clause.literals ≡ true)
-    → AreEntailed asked kept.atoms now → IsSound asked (keeping asked kept now)
-sound-keeping asked kept now sound known entailed = record {
-  table = sound.table;
+tracks_keeping : (asked : Asked) (rs : List Regex) (memo : Memo) (t : Traced) (kept : AllKept) (table : List Atom)
+    (now : Kept) → Tracks rs memo t kept → Tracks rs memo t (keeping asked kept table now)
+tracks_keeping asked rs memo t kept table now h = record {
+  numbers = h.numbers;
+  regexes = h.regexes;
+  expansions_long = h.expansions_long;
+  dead_long = h.dead_long;
+  expanded = h.expanded;
+  dead = h.dead;
+  targets = h.targets;
+}
+
+sound-keeping : (asked : Asked) (kept : AllKept) (table : List Atom) (now : Kept) → IsSound asked kept
+    → is_table table ≡ true
+    → ((id : ℕ) (clause : KeptClause) → kept_at now id ≡ Some clause → are_known table clause.literals ≡ true)
+    → AreEntailed asked table now → IsSound asked (keeping asked kept table now)
+sound-keeping asked kept table now sound is known entailed = record {
+  table = is;
   right = sound.right;
   empty = sound.empty;
   expanded = sound.expanded;
@@ -177,27 +193,29 @@ sound-keeping asked kept now sound known entailed = record {
       (subst (λ (ps : List ℕ). PlacesHold v asked.live ps) (rests_there asked.live now id clause there) hold));
 }
 
--- Clauses follow level by level, and what stands of regexes stays: a search put no lines.
+-- Clauses follow level by level over a table that gained memberships, and what stands of regexes stays: a search put no
+-- lines.
 pub true-following : (asked : Asked) (proves : Bool) (x y : Store) (e f : Backing) (before after : Spending)
     (old new : Option (List ℕ)) → proves ≡ false → IsSearched proves x e before old y f after new
-    → HaveRegexesBelow (length x.arena) e.atoms → IsTrue asked x.arena x.graph.memo e
+    → HaveRegexesBelow (length x.arena) e.atoms → NameEarlier 0 e.atoms → IsTrue asked x.arena x.graph.memo e
     → IsTrue asked y.arena y.graph.memo f
-true-following asked proves x y e f before after old new off h below t = record {
-  kept = keeping asked t.kept f.kept;
+true-following asked proves x y e f before after old new off h below earlier t = record {
+  kept = keeping asked t.kept (atoms_in y.arena f.atoms) f.kept;
   backs = record {
-    tracks = tracks_kept y.arena y.graph.memo f.trace t.kept f.kept (rests_on asked.live f.kept) 0
+    tracks = tracks_keeping asked y.arena y.graph.memo f.trace t.kept (atoms_in y.arena f.atoms) f.kept
         (subst (λ (traced : Traced). Tracks y.arena y.graph.memo traced t.kept) (sym (h.silent off))
-        (tracks_grow x.arena y.arena x.graph.memo y.graph.memo e.trace t.kept h.store.more.extends h.store.more.derivatives
-        t.backs.tracks));
-    atoms = table ∙ ap (atoms_in y.arena) (sym h.atoms);
+        (tracks_grow x.arena y.arena x.graph.memo y.graph.memo e.trace t.kept h.store.more.extends
+        h.store.more.derivatives t.backs.tracks));
+    atoms = refl;
     clauses = refl;
     asserted = λ place a there.
         kept_grown e.kept f.kept a.clause.0 (unit_at a) h.kept (t.backs.asserted place a
         (subst (λ (xs : List (Option Asserted)). asserted_at xs place ≡ Some a) h.asserted there));
   };
-  sound = sound-keeping asked t.kept f.kept t.sound
-      (λ id clause there. are_known_in y.arena e.atoms t.kept.atoms clause.literals table (h.known id clause there))
-      entailed;
+  sound = sound-keeping asked t.kept (atoms_in y.arena f.atoms) f.kept t.sound
+      (earlier_table y.arena f.atoms (earlier_grown e.atoms f.atoms h.atoms earlier))
+      (λ id clause there.
+      are_known_in y.arena f.atoms (atoms_in y.arena f.atoms) clause.literals refl (h.known id clause there)) entailed;
   counted = refl;
 }
   where
@@ -208,9 +226,21 @@ true-following asked proves x y e f before after old new off h below t = record 
     at_first = subst (λ (kept : Kept). AreEntailed asked (atoms_in y.arena e.atoms) kept) t.backs.clauses
         (subst (λ (ts : List Atom). AreEntailed asked ts t.kept.clauses) table t.sound.clauses)
 
-    entailed : AreEntailed asked t.kept.atoms f.kept
-    entailed = subst (λ (ts : List Atom). AreEntailed asked ts f.kept) (sym table)
-        (searched_entailed asked y.arena e.atoms e.kept f.kept at_first h.follows)
+    known_first : (id : ℕ) (clause : KeptClause) → kept_at e.kept id ≡ Some clause
+        → are_known (atoms_in y.arena e.atoms) clause.literals ≡ true
+    known_first id clause there =
+        subst (λ (ts : List Atom). are_known ts clause.literals ≡ true) table
+        (t.sound.known id clause (ap (λ (k : Kept). kept_at k id) t.backs.clauses ∙ there))
+
+    over_more : AreEntailed asked (atoms_in y.arena f.atoms) e.kept
+    over_more =
+        let more = h.atoms.extends.more in
+        subst (λ (ts : List Atom). AreEntailed asked ts e.kept)
+        (sym (ap (atoms_in y.arena) h.atoms.extends.is ∙ atoms_more y.arena e.atoms more))
+        (entailed_more asked (atoms_in y.arena e.atoms) (atoms_in y.arena more) e.kept known_first at_first)
+
+    entailed : AreEntailed asked (atoms_in y.arena f.atoms) f.kept
+    entailed = searched_entailed asked y.arena f.atoms e.kept f.kept over_more h.follows
 
 -- A clause is kept that follows from nothing, by no line.
 pub true-kept : (asked : Asked) (rs : List Regex) (memo : Memo) (e f : Backing) (clause : List Lit)
@@ -220,18 +250,18 @@ pub true-kept : (asked : Asked) (rs : List Regex) (memo : Memo) (e f : Backing) 
     → IsTrue asked rs memo e → IsTrue asked rs memo f
 true-kept asked rs memo e f clause is known holds t =
     subst (λ (g : Backing). IsTrue asked rs memo g) (sym is) (record {
-      kept = keeping asked t.kept (e.kept ++ Some (record { literals = clause; level = 0 }) ∷ []);
+      kept = keeping asked t.kept t.kept.atoms (e.kept ++ Some (record { literals = clause; level = 0 }) ∷ []);
       backs = record {
-        tracks = tracks_kept rs memo e.trace t.kept (e.kept ++ Some (record { literals = clause; level = 0 }) ∷ [])
-            (rests_on asked.live (e.kept ++ Some (record { literals = clause; level = 0 }) ∷ [])) 0 t.backs.tracks;
+        tracks = tracks_keeping asked rs memo e.trace t.kept t.kept.atoms
+            (e.kept ++ Some (record { literals = clause; level = 0 }) ∷ []) t.backs.tracks;
         atoms = t.backs.atoms;
         clauses = refl;
         asserted = λ place a there.
             kept-stays e.kept (Some (record { literals = clause; level = 0 }) ∷ []) a.clause.0 (unit_at a)
             (t.backs.asserted place a there);
       };
-      sound = sound-keeping asked t.kept (e.kept ++ Some (record { literals = clause; level = 0 }) ∷ []) t.sound
-          known_there entailed;
+      sound = sound-keeping asked t.kept t.kept.atoms (e.kept ++ Some (record { literals = clause; level = 0 }) ∷ [])
+          t.sound t.sound.table known_there entailed;
       counted = refl;
     })
   where

@@ -1,5 +1,5 @@
 -- The words of the crates below, and of this one, that its proofs speak of.
-pub use Rattle.std.proofs.Common.{Bool, Err, List, None, Ok, Option, Result, Some, [], ap, append_assoc, ap₂, arith, cond, drop, false, get_or, if◌then◌else◌, inl, inr, length, map, nat_eq, nat_lt, not, option_and_then, option_map, refl, slice_get, subst, suc, sym, take, true, unwrap_or, zero, ℕ, ◌&&◌, ◌++◌, ◌+◌, ◌-◌, ◌<◌, ◌==◌, ◌^◌, ◌∙◌, ◌∷◌, ◌||◌, ◌≡◌, ◌≢◌, ◌≤◌, ◌⊎◌}
+pub use Rattle.std.proofs.Common.{Bool, Err, List, None, Ok, Option, Result, Some, [], ap, append_assoc, ap₂, arith, cond, drop, false, get_or, if◌then◌else◌, inl, inr, length, map, nat_eq, nat_lt, not, option_and_then, option_map, refl, slice_get, subst, suc, sym, take, true, unwrap_or, zero, ℕ, ◌&&◌, ◌++◌, ◌+◌, ◌-◌, ◌<◌, ◌==◌, ◌^◌, ◌∙◌, ◌∷◌, ◌≡◌, ◌≢◌, ◌≤◌, ◌⊎◌}
 pub use Rattle.std.proofs.Math.Seq.{take-append_seam}
 pub use Rattle.std.proofs.lemmas.Bool.{and_from, and_parts, eq-eqb, eqb-false, eqb-true, false≢true, le-ltb, lt-ltb, ltb-false, ltb-true, ne_eqb, or_cases, or_left, or_right}
 pub use Rattle.std.proofs.lemmas.Bool.Decides.{nat_tests}
@@ -22,7 +22,7 @@ pub use Rattle.sb_lang.specs.Language.{language}
 pub use Rattle.sb_meaning.specs.Sorts.{is_same_sort}
 pub use Rattle.sb_meaning.specs.Terms.{Terms, apply, constant, integer, no_terms, numeral, parameter, reglan, with_term, word}
 pub use Rattle.sb_meaning.specs.Values.{Int, Text, Truth, Value, default_of, is_of, value_in}
-pub use Rattle.sb_script.specs.Brought.{is_brought_sort, is_structure, is_unjoined}
+pub use Rattle.sb_script.specs.Brought.{is_brought_sort, is_structure}
 pub use Rattle.sb_script.specs.Fragment.{fits}
 pub use Rattle.sb_script.specs.Models.{occurs, occurs_in_some}
 pub use Rattle.sb_script.specs.Pieces.{Piece, word_piece}
@@ -70,28 +70,27 @@ pub use Rattle.sb_trace.specs.Tracking.{Traced, Tracks}
 pub use Rattle.sb_clash.specs.Literals.{number_in}
 pub use Rattle.sb_theory.proofs.CallerLemmas.{all_known}
 pub use Rattle.sb_theory.specs.Laws.{are_known_in, tracks_kept}
-pub use Rattle.sb_theory.specs.Memberships.{constant_of, fits_subject, is_true_of, subject_of}
+pub use Rattle.sb_theory.specs.Memberships.{constant_of, fits_subject, subject_of}
 pub use Rattle.sb_theory.specs.Wanted.{IsTaught, is_of_wanted, wanted_of}
 pub use Rattle.sb_theory.specs.declared.strings.Strings.{Strings}
-pub use Rattle.sb_refute.proofs.CallerLemmas.{cons-cases, covered-stays, covered-turned, gates-stay, each-part, each-reserved, kept-cases, kept-stays, leads-none, not-in-nil, of-gate, room-for-each, stand-traced, structure-is, uncounted-both}
+pub use Rattle.sb_refute.proofs.CallerLemmas.{cons-cases, gates-stay, each-part, each-reserved, kept-cases, kept-stays, leads-none, not-in-nil, of-gate, room-for-each, stand-atoms, stand-traced, structure-is, uncounted-both}
 pub use Rattle.sb_refute.specs.Assuming.{Says}
 pub use Rattle.sb_refute.specs.Backing.{unit_at}
 pub use Rattle.sb_solve.specs.Answered.{AreLiterals, IsAnswered, IsLiteral, term_onto, terms_at}
 pub use Rattle.sb_solve.specs.Assumed.{AreSaid, IsRefuting, denied_in, make_true}
-pub use Rattle.sb_solve.specs.Decided.{AreKept, AreSettled, IsDecided, IsGiven, IsKept, IsSaid, IsSettled}
+pub use Rattle.sb_solve.specs.Decided.{AreKept, IsDecided, IsGiven, IsKept}
 pub use Rattle.sb_solve.specs.Entailed.{AreEntailed, AssertedIsEntailed, ContinuedAreEntailed, DroppedAreEntailed, EntailedInLarger, EntailedOverMore, GateIsEntailed, NoneAreEntailed, RefutedAreContradicted, RefutedAreFalse, SearchedAreEntailed, with_clause}
 pub use Rattle.sb_solve.specs.Denying.{AreDenials, are_equal, claim_of}
 pub use Rattle.sb_solve.specs.Gathering.{Closes, Follow}
-pub use Rattle.sb_solve.specs.SortedAtoms.{are_declared, is_sorted}
 pub use Rattle.sb_solve.specs.Modelled.{HasLive}
 pub use Rattle.sb_solve.specs.Searched.{Answers, AreAmong, AreTaken, IsDone, IsSearched, IsValuedBy, Runs, backing_in}
-pub use Rattle.sb_solve.specs.Settling.{AllSettle, AreSpokenOf, Cuts, Goes, HasEnds, IsCutAt, IsEnd, Settles, SettlesAll, SettlesAt, SettlesEnd}
+pub use Rattle.sb_solve.specs.Settling.{AllSettle, Goes, HasEnds, IsCutAt, Settles, StepsOnce}
 pub use Rattle.sb_solve.specs.Solved.{AreOfLevels, AreTrueAt, AreTrueUnder, IsSolved, level_at}
 pub use Rattle.sb_solve.specs.Stating.{AllStated, AreStated, Assumes, IsAssertionAt, IsStated, States}
 pub use Rattle.sb_solve.specs.Truth.{IsTrue}
 pub use Rattle.sb_solve.specs.Values.{are_words_there, is_constant, is_true, is_word_there, makes_true, truth_by, truth_in, word_in, word_or_empty, word_there}
 pub use Rattle.sb_solve.specs.Wanted.{AreLeast, AreWanted, atoms_of, is_closed, is_in, is_simple, is_simple_at, parts_at, parts_of}
-pub use Rattle.sb_solve.specs.Words.{All, AllKept, AreDistinct, AreTerms, Asked, Asserted, Assertion, Assigned, Assumption, Atom, AtomOver, Backing, Backs, CountsTapeFault, EmptyClause, Evidences, EvidencesUncounted, Extends, FollowsByLevel, Grows, HasGates, HasSorts, HasWords, HaveAtoms, HaveRegexesBelow, IsConsistent, IsCounted, IsCovered, IsDistinct, IsStatement, IsStoreOf, IsValid, Kept, KeptClause, KeptStay, Lit, Memo, Names, Regex, RegexesGrow, Sort, Spending, Stacked, Stand, Store, Term, Valuation, a_mark, and_atom, are_atoms, are_letters, asked_in, asserted, asserted_at, atoms_in, bool_atom, boolean, clause_holds, constant_piece, fits_sorts, have_levels, held, holds, iff_atom, in_atom, is_atom, is_decided, is_declared, is_table, is_true_by, is_unjoined_atom, kept_at, kept_up_to, list_all, list_any, literal_holds, live, live_constants, of_sign, sort_in, state_of, text, translation, truths_of, value_of, values_at, wanted_on, word_at}
+pub use Rattle.sb_solve.specs.Words.{All, AllKept, AreDistinct, AreTerms, Asked, Asserted, Assertion, Assigned, Assumption, Atom, AtomOver, Backing, Backs, CountsTapeFault, EmptyClause, Evidences, EvidencesUncounted, Extends, FollowsByLevel, Grows, HasGates, HasSorts, HasWords, HaveAtoms, HaveRegexesBelow, IsConsistent, IsCounted, IsDistinct, IsStatement, IsStoreOf, IsValid, Kept, KeptClause, KeptStay, Lit, Memo, Names, Regex, RegexesGrow, Sort, Spending, Stacked, Stand, Store, TableGrows, Term, Valuation, a_mark, and_atom, are_atoms, are_declared, asked_in, asserted, asserted_at, atoms_in, bool_atom, boolean, clause_holds, constant_piece, fits_sorts, have_levels, held, holds, iff_atom, in_atom, is_atom, is_decided, is_declared, is_declared_constant, is_sorted, is_table, is_true_by, kept_at, kept_up_to, list_all, list_any, literal_holds, live, live_constants, of_sign, sort_in, state_of, text, translation, truths_of, value_of, values_at, wanted_on, word_at}
 pub use Rattle.sb_solve.specs.declared.check.Solved.{Solved}
 pub use Rattle.sb_solve.specs.declared.denying.Claim.{Claim}
 pub use Rattle.sb_solve.specs.declared.searching.Tables.{Tables}

@@ -5,7 +5,6 @@ pub mod Values
 pub mod Assumed
 pub mod Denying
 pub mod Decided
-pub mod SortedAtoms
 pub mod Entailed
 pub mod Truth
 pub mod Settling

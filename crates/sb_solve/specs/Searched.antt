@@ -1,6 +1,6 @@
 -- Private: a search over the evidence and the tables, from its beginning to its answer.
 use Rattle.std.specs.Prelude.{◌≡◌, ◌≤◌, ℕ, Bool, true, false, List, [], length, Option}
-use Rattle.sb_solve.specs.Words.{AllKept, AreDistinct, Asked, AtomOver, Backing, Backs, EmptyClause, Evidences, FollowsByLevel, HaveAtoms, HaveRegexesBelow, IsCounted, IsValid, Kept, Lit, Regex, RegexesGrow, Spending, Stacked, Stand, Stands, Store, are_atoms, atoms_in, is_atom, is_table, is_true_by, list_all, state_of, wanted_on}
+use Rattle.sb_solve.specs.Words.{AllKept, AreDistinct, Asked, AtomOver, Backing, Backs, EmptyClause, Evidences, FollowsByLevel, HaveAtoms, HaveRegexesBelow, IsCounted, IsValid, Kept, Lit, Regex, RegexesGrow, Spending, Stacked, Stand, Stands, Store, TableGrows, are_atoms, are_declared, atoms_in, is_atom, is_table, is_true_by, list_all, state_of, wanted_on}
 use Rattle.sb_clauses.specs.Propagation.{State}
 use Rattle.sb_analyze.specs.Cores.{IsKeptCore}
 use Rattle.sb_search.specs.Found.{GrowsTo, IsFull}
@@ -39,24 +39,26 @@ abbrev pub AreAmong : List (AtomOver ℕ) → List Lit → List ℕ → Type 0
 AreAmong atoms literals wanted = (rs : List Regex) → is_table (atoms_in rs atoms) ≡ true
     → are_atoms atoms literals ≡ true → list_all (is_atom atoms) wanted ≡ true
 
--- What is known of regexes grows, clauses stay, and new ones follow from these and from what is true of words, level by
--- level; where lines are put, those for the new clauses follow, and where none are, what stands of regexes in the proof
--- stays. The budget keeps its limit, and no step of it comes back.
+-- What is known of regexes grows, atoms stay, and new ones are memberships; clauses stay, and new ones follow from
+-- these and from what is true of words, level by level. Where lines are put, those for the new atoms and clauses follow
+-- if constants are declared, and where none are, what stands of regexes in the proof stays. The budget keeps its limit,
+-- and no step of it comes back.
 pub record IsSearched (proves : Bool) (x : Store) (e : Backing) (before : Spending) (old : Option (List ℕ))
     (y : Store) (f : Backing) (after : Spending) (new : Option (List ℕ)) : Type 0
   where
     pub store : RegexesGrow x y
     pub regexes : HaveRegexesBelow (length y.arena) f.atoms
-    pub atoms : f.atoms ≡ e.atoms
+    pub atoms : TableGrows e.atoms f.atoms
     pub asserted : f.asserted ≡ e.asserted
     pub kept : GrowsTo e.kept f.kept
-    pub known : HaveAtoms e.atoms f.kept
-    pub follows : FollowsByLevel (IsValid y.arena e.atoms) e.kept f.kept
+    pub known : HaveAtoms f.atoms f.kept
+    pub follows : FollowsByLevel (IsValid y.arena f.atoms) e.kept f.kept
     pub silent : proves ≡ false → f.trace ≡ e.trace
     pub limit : after.limit ≡ before.limit
     pub spends : before.spent ≤ after.spent
-    pub puts : proves ≡ true → (asked : Asked) (kept : AllKept) → Backs x.arena x.graph.memo e kept
-        → IsCounted asked kept before → Evidences asked kept y.arena y.graph.memo f after old new
+    pub puts : proves ≡ true → (asked : Asked) (kept : AllKept) → are_declared asked.sorts e.atoms ≡ true
+        → Backs x.arena x.graph.memo e kept → IsCounted asked kept before
+        → Evidences asked kept y.arena y.graph.memo f after old new
 
 -- The words are words of characters, and where the end of the search is an answer about the assertions at some places
 -- and the assumptions, these are true of the words and the truth values.
@@ -110,7 +112,7 @@ pub record IsDone (s : Stacked) (literals assumed : List Lit) (proves : Bool) (x
     pub stand : Stand e
     pub searched : IsSearched proves x e before old y f after new
     pub wanted : List ℕ
-    pub distinct : AreDistinct e.atoms
+    pub distinct : AreDistinct f.atoms
     pub closed : AreWanted e.atoms literals wanted
-    pub among : AreAmong e.atoms literals wanted
+    pub known : list_all (is_atom e.atoms) wanted ≡ true
     pub answers : Answers s assumed y.arena f.atoms f.kept wanted after solved

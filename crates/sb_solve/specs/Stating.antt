@@ -1,10 +1,9 @@
 -- Private: the clauses of live assertions, and the literals of assumptions, as they are put in front of a search.
 use Rattle.std.specs.Prelude.{◌≡◌, ◌≢◌, ℕ, ◌<◌, true, List, [], ◌∷◌, length, slice_get, Option, Some}
-use Rattle.sb_solve.specs.Words.{AllKept, Asked, Asserted, Assumption, Backing, Backs, EvidencesUncounted, Grows, HasGates, HaveRegexesBelow, IsStatement, Lit, Memo, Regex, Sort, Stacked, Store, Term, asked_in, asserted, asserted_at, atoms_in, list_all, live, state_of, translation}
+use Rattle.sb_solve.specs.Words.{AllKept, Asked, Asserted, Assumption, Backing, Backs, EvidencesUncounted, Grows, HasGates, HaveRegexesBelow, IsStatement, Lit, Memo, Regex, Sort, Stacked, Store, Term, are_declared, asked_in, asserted, asserted_at, atoms_in, list_all, live, state_of, translation}
 use Rattle.sb_term.specs.Numbered.{term_at}
 use Rattle.sb_atoms.specs.Numbered as table
 use Rattle.sb_sound.specs.ScriptLaws.{assumption_fits}
-use Rattle.sb_solve.specs.SortedAtoms.{are_declared}
 use Rattle.sb_solve.specs.Assumed.{AreSaid}
 use Rattle.sb_solve.specs.Solved.{AreOfLevels, level_at}
 

@@ -29,14 +29,14 @@ pub use Rattle.sb_store.specs.declared.store.Store.{Store}
 pub use Rattle.sb_search.specs.Following.{AreRefuted, FollowsByLevel}
 pub use Rattle.sb_script.specs.Fragment.{is_decided}
 pub use Rattle.sb_atoms.specs.Numbered.{AreDistinct, HaveRegexesBelow, Names, atom_in, atoms_in}
-pub use Rattle.sb_atoms.specs.Translated.{is_unjoined_atom}
 pub use Rattle.sb_stack.specs.Stacked.{Stacked, are_words, have_levels, live_constants, state_of, values_at}
 pub use Rattle.sb_trace.specs.Putting.{CountsTapeFault, IsCounted}
 pub use Rattle.sb_theory.specs.Memberships.{HaveAtoms, IsValid, are_atoms, is_atom, is_true_by, word_at}
 pub use Rattle.sb_theory.specs.Strings.{Stands}
+pub use Rattle.sb_theory.specs.Tables.{AreFormed, TableGrows, are_declared, is_declared_constant, is_sorted}
 pub use Rattle.sb_theory.specs.Wanted.{wanted_on}
 pub use Rattle.sb_refute.specs.Backing.{Backing, Backs, Evidences, EvidencesUncounted, HasGates, IsStatement, asserted_at}
-pub use Rattle.sb_refute.specs.Settling.{IsCovered, KeptStay, are_letters}
+pub use Rattle.sb_refute.specs.Settling.{KeptStay}
 pub use Rattle.sb_refute.specs.Standing.{Stand}
 pub use Rattle.sb_refute.specs.declared.evidence.Asserted.{Asserted}
 pub use Rattle.sb_refute.specs.declared.evidence.EmptyClause.{EmptyClause}

@@ -1,8 +1,7 @@
 //! The check of the live assertions.
 
 ghost use Rattle.std.specs.Prelude.{◌≡◌, ◌<◌, ◌≤◌, true, false, length, IfOk, OnOk};
-ghost use Rattle.sb_solve.specs.Words.{All, AllKept, AreTerms, Backs, CountsTapeFault, Evidences, Grows, HaveRegexesBelow, IsCounted, IsStoreOf, asked_in, is_decided, is_well_sorted, list_all, live, live_terms, state_of};
-ghost use Rattle.sb_solve.specs.SortedAtoms.{are_declared};
+ghost use Rattle.sb_solve.specs.Words.{All, AllKept, AreTerms, Backs, CountsTapeFault, Evidences, Grows, HaveRegexesBelow, IsCounted, IsStoreOf, are_declared, asked_in, is_decided, is_well_sorted, list_all, live, live_terms, state_of};
 ghost use Rattle.sb_solve.specs.Solved.{AreOfLevels, IsSolved};
 ghost use Rattle.sb_solve.specs.Truth.{IsTrue};
 

@@ -2,9 +2,8 @@
 //! and the truth values of the trail.
 
 ghost use Rattle.std.specs.Prelude.{◌≡◌, ℕ, true, List, IfOk};
-ghost use Rattle.sb_solve.specs.Words.{IsConsistent, Kept, Lit, Regex, held, state_of};
+ghost use Rattle.sb_solve.specs.Words.{IsConsistent, Kept, Lit, Regex, are_declared, held, state_of};
 ghost use Rattle.sb_solve.specs.Answered.{IsAnswered};
-ghost use Rattle.sb_solve.specs.SortedAtoms.{are_declared};
 ghost use Rattle.sb_solve.specs.Modelled.{HasLive};
 ghost use Rattle.sb_solve.specs.Solved.{AreTrueUnder};
 ghost use Rattle.sb_solve.specs.Values.{are_words_there};

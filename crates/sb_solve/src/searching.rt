@@ -2,8 +2,7 @@
 
 ghost use Rattle.std.specs.Prelude.{◌≡◌, [], true, take, length, IfOk, OnOk};
 ghost use Rattle.sb_clauses.specs.Propagation.{has_room_for};
-ghost use Rattle.sb_solve.specs.Words.{AreDistinct, CountsTapeFault, HaveRegexesBelow, IsStore, Stand, Stands, are_atoms, state_of};
-ghost use Rattle.sb_solve.specs.SortedAtoms.{are_declared};
+ghost use Rattle.sb_solve.specs.Words.{AreDistinct, CountsTapeFault, HaveRegexesBelow, IsStore, Stand, Stands, are_atoms, are_declared, is_atom, list_all, state_of};
 ghost use Rattle.sb_solve.specs.Searched.{AreAmong, AreTaken, HasModel, IsDone, Runs, backing_in};
 ghost use Rattle.sb_solve.specs.Wanted.{AreWanted};
 
@@ -52,16 +51,19 @@ pub(crate) fn search_for<L: Tape>(
     requires store { IsStore store.old }
     requires regexes { HaveRegexesBelow (length store.old.arena) evidence.old.atoms }
     requires declared { are_declared (state_of stack.now).sorts evidence.old.atoms ≡ true }
+    requires literals { are_atoms evidence.old.atoms literals.now ≡ true }
     requires assumed { are_atoms evidence.old.atoms assumed.now ≡ true }
     ensures done { IfOk result (IsDone stack.now literals.now assumed.now proves store.old evidence.old budget.old
         (L.Tape.told tape.old) store.new evidence.new budget.new (L.Tape.told tape.new)) }
     ensures counts { CountsTapeFault result (L.Tape.faults tape.old) (L.Tape.faults tape.new) }
 {
+    evidence.stands();
     let wanted = wanted_of(alloc, evidence.atoms(), literals)?;
-    let mut tables = taken(alloc, evidence, store, wanted, proves);
+    let mut tables = taken(alloc, evidence, store, wanted, proves)?;
     match run(alloc, &mut tables, stack, assumed, tape, budget) {
         Ok(solved) => {
             put_back(tables, evidence, store);
+            each_once(evidence);
             Ok(solved)
         }
         Err(fault) => {
@@ -73,26 +75,32 @@ pub(crate) fn search_for<L: Tape>(
 
 /// The atoms that these literals speak of.
 fn wanted_of(alloc: Global, atoms: &Atoms, literals: &[Lit]) -> Result<WantedAtoms, AllocError>
-    ensures distinct { AreDistinct atoms.now }
     ensures wanted { IfOk result (λ found. AreWanted atoms.now literals.now found) }
     ensures among { IfOk result (λ found. AreAmong atoms.now literals.now found) }
 {
-    atoms.atoms_each_once();
     let found = wanted(alloc, atoms, literals)?;
     Ok(WantedAtoms::of(found))
 }
 
-/// Takes the evidence and the store out of their places, where empty ones are left.
+/// Says of the evidence that no atom stands in it twice.
+fn each_once(evidence: &Evidence)
+    ensures { AreDistinct evidence.now.atoms }
+{
+    evidence.atoms().atoms_each_once();
+}
+
+/// Takes the evidence and the store out of their places, where empty ones are left, and makes the theory over them.
 fn taken(
     alloc: Global,
     evidence: &mut Evidence,
     store: &mut Store,
     wanted: WantedAtoms,
     proves: bool,
-) -> Tables
+) -> Result<Tables, AllocError>
     requires store { IsStore store.old }
     requires regexes { HaveRegexesBelow (length store.old.arena) evidence.old.atoms }
-    ensures { AreTaken store.old evidence.old wanted proves result }
+    requires wanted { list_all (is_atom evidence.old.atoms) wanted ≡ true }
+    ensures { IfOk result (AreTaken store.old evidence.old wanted proves) }
 {
     let Parts {
         trace,
@@ -105,15 +113,22 @@ fn taken(
     } = mem::replace(evidence, Evidence::new(alloc)).into_parts();
     let store = mem::replace(store, Store::new(alloc));
     let before = engine.clauses().len();
-    let strings = Strings::new(alloc, store, trace, atoms, proves, wanted);
-    Tables {
-        strings,
-        engine,
-        asserted,
-        refuted,
-        gates,
-        choices,
-        before,
+    match Strings::new(alloc, store, trace, atoms, proves, wanted) {
+        Ok(strings) => Ok(Tables {
+            strings,
+            engine,
+            asserted,
+            refuted,
+            gates,
+            choices,
+            before,
+        }),
+        Err(fault) => {
+            drop(engine);
+            drop(asserted);
+            drop(choices);
+            Err(fault)
+        }
     }
 }
 

@@ -1,14 +1,13 @@
 //! The truth of memberships without constants, in front of a search.
 
-ghost use Rattle.std.specs.Prelude.{◌≡◌, ◌≢◌, ◌<◌, ◌++◌, ◌∷◌, [], true, not, length, IfOk, OnOk};
+ghost use Rattle.std.specs.Prelude.{◌≡◌, ◌≢◌, ◌<◌, ◌++◌, ◌∷◌, [], true, length, IfOk, OnOk};
 ghost use Rattle.sb_word.specs.Words.{IsWord};
 ghost use Rattle.sb_script.specs.Pieces.{word_piece};
 ghost use Rattle.sb_refute.specs.Settling.{pieces_of_word};
 ghost use Rattle.sb_solve.specs.Words.{CountsTapeFault, HaveRegexesBelow, IsStore, Names, Store, are_atoms, in_atom, is_atom, list_all, of_sign};
-ghost use Rattle.sb_solve.specs.Settling.{Cuts, IsCutAt, IsSettlement, Settles, SettlesAll, SettlesEnd};
+ghost use Rattle.sb_solve.specs.Settling.{IsCutAt, IsSettlement, Settles, StepsOnce};
 
 use crate::gather::wanted;
-use sb_lang::derivative::{derivative_along_has_rests, nullable_has_empty_word};
 use sb_lit::{Budget, Lit};
 use sb_proof::{Tape, TapeFault};
 use sb_refute::Evidence;
@@ -37,7 +36,7 @@ pub(crate) fn settle<L: Tape>(
     requires store { IsStore store.old }
     requires regexes { HaveRegexesBelow (length store.old.arena) evidence.old.atoms }
     ensures settles { IfOk result (IsSettlement proves store.old evidence.old budget.old (L.Tape.told tape.old)
-        literals.now store.new evidence.new budget.new (L.Tape.told tape.new)) }
+        store.new evidence.new budget.new (L.Tape.told tape.new)) }
     ensures counts { CountsTapeFault result (L.Tape.faults tape.old) (L.Tape.faults tape.new) }
 {
     evidence.stands();
@@ -66,8 +65,8 @@ fn settle_all<L: Tape>(
     requires known { list_all (is_atom evidence.old.atoms) numbers.now ≡ true }
     requires store { IsStore store.old }
     requires regexes { HaveRegexesBelow (length store.old.arena) evidence.old.atoms }
-    ensures settles { IfOk result (SettlesAll proves store.old evidence.old budget.old (L.Tape.told tape.old)
-        numbers.now store.new evidence.new budget.new (L.Tape.told tape.new)) }
+    ensures settles { IfOk result (IsSettlement proves store.old evidence.old budget.old (L.Tape.told tape.old)
+        store.new evidence.new budget.new (L.Tape.told tape.new)) }
     ensures counts { CountsTapeFault result (L.Tape.faults tape.old) (L.Tape.faults tape.new) }
 {
     let mut ends = Vec::new(alloc);
@@ -94,7 +93,7 @@ fn settle_one<L: Tape>(
     requires known { atom < length evidence.old.atoms }
     requires store { IsStore store.old }
     requires regexes { HaveRegexesBelow (length store.old.arena) evidence.old.atoms }
-    ensures settles { IfOk result (Settles proves store.old evidence.old budget.old (L.Tape.told tape.old) atom
+    ensures settles { IfOk result (Settles proves store.old evidence.old budget.old (L.Tape.told tape.old)
         ends.old.items store.new evidence.new budget.new (L.Tape.told tape.new) ends.new.items) }
     ensures counts { CountsTapeFault result (L.Tape.faults tape.old) (L.Tape.faults tape.new) }
 {
@@ -131,7 +130,7 @@ fn settle_bare<L: Tape>(
     requires word { IsWord word.now }
     requires store { IsStore store.old }
     requires regexes { HaveRegexesBelow (length store.old.arena) evidence.old.atoms }
-    ensures settles { IfOk result (Settles proves store.old evidence.old budget.old (L.Tape.told tape.old) atom
+    ensures settles { IfOk result (Settles proves store.old evidence.old budget.old (L.Tape.told tape.old)
         ends.old.items store.new evidence.new budget.new (L.Tape.told tape.new) ends.new.items) }
     ensures counts { CountsTapeFault result (L.Tape.faults tape.old) (L.Tape.faults tape.new) }
 {
@@ -159,7 +158,7 @@ fn settle_word<L: Tape>(
     requires word { IsWord word.now }
     requires store { IsStore store.old }
     requires regexes { HaveRegexesBelow (length store.old.arena) evidence.old.atoms }
-    ensures settles { IfOk result (Settles proves store.old evidence.old budget.old (L.Tape.told tape.old) atom
+    ensures settles { IfOk result (Settles proves store.old evidence.old budget.old (L.Tape.told tape.old)
         ends.old.items store.new evidence.new budget.new (L.Tape.told tape.new) ends.new.items) }
     ensures counts { CountsTapeFault result (L.Tape.faults tape.old) (L.Tape.faults tape.new) }
 {
@@ -167,8 +166,6 @@ fn settle_word<L: Tape>(
     follows_by_rule();
     line_stays_sound();
     counted_again_stays_sound();
-    derivative_along_has_rests();
-    nullable_has_empty_word();
     let rest = store.plain.along(&mut store.arena, word, regex)?;
     let end = evidence.ends(&store.arena, rest, tape)?;
     let settled = settle_end(evidence, &store.arena, end, rest, proves, tape, budget)?;
@@ -197,11 +194,10 @@ fn settle_end<L: Tape>(
 ) -> Result<bool, TapeFault>
     requires names { Names evidence.old.atoms atom (in_atom [] regex) }
     requires regexes { HaveRegexesBelow (length arena.now) evidence.old.atoms }
-    ensures settles { IfOk result (λ done. (x : Store) → x.arena ≡ arena.now → SettlesEnd proves x evidence.old
-        budget.old (L.Tape.told tape.old) atom regex evidence.new budget.new (L.Tape.told tape.new) done) }
+    ensures steps { IfOk result (λ done. (x : Store) → x.arena ≡ arena.now → StepsOnce proves x evidence.old
+        budget.old (L.Tape.told tape.old) evidence.new budget.new (L.Tape.told tape.new) done) }
     ensures counts { CountsTapeFault result (L.Tape.faults tape.old) (L.Tape.faults tape.new) }
 {
-    nullable_has_empty_word();
     steps_are_exact();
     steps_hold();
     let positive = arena.nullable(regex);
@@ -221,9 +217,9 @@ fn cut<L: Tape>(
 ) -> Result<bool, TapeFault>
     requires known { (atom < length evidence.old.atoms) × (end < length evidence.old.atoms) }
     requires apart { atom ≢ end }
-    ensures cuts { IfOk result (λ done. (x : Store) → HaveRegexesBelow (length x.arena) evidence.old.atoms
-        → IsCutAt x.arena evidence.old.atoms atom end → Cuts proves x evidence.old budget.old (L.Tape.told tape.old)
-        (of_sign truth atom ∷ of_sign (not truth) end ∷ []) evidence.new budget.new (L.Tape.told tape.new) done) }
+    ensures steps { IfOk result (λ done. (x : Store) → HaveRegexesBelow (length x.arena) evidence.old.atoms
+        → IsCutAt x.arena evidence.old.atoms atom end → StepsOnce proves x evidence.old budget.old
+        (L.Tape.told tape.old) evidence.new budget.new (L.Tape.told tape.new) done) }
     ensures counts { CountsTapeFault result (L.Tape.faults tape.old) (L.Tape.faults tape.new) }
 {
     steps_are_exact();

@@ -1,5 +1,6 @@
 use Rattle.sb_solve.proofs.Words.{subst, IfOk-from_err, IfOk-weaker, err_from_is_err_and, Global, Vec, Lit, Option, grows_both, counts_on, CountsTapeFault, state_of, sym, ◌∙◌, counts_none}
 use Rattle.sb_solve.proofs.Answering.{answer, asked_known, declared, levels, limit, puts, settled_declared, settled_levels, settled_puts, settled_sound, sound, spends, stores}
+use Rattle.sb_solve.proofs.Goings.{with-ends-known}
 use Rattle.sb_solve.proofs.Stated.{gates_under, said_known, said_over, stated_under}
 use Rattle.sb_solve.proofs.check.solve.Goals as goal
 
@@ -31,15 +32,30 @@ search_for-requires g c =
     let s = c.args.stack.now in
     let first = c.in_ok-stated.ensures.stated in
     let assumes = rw c.assumptions.ensures.value at c.in_ok-assumed.ensures.assumes in
-    let settled = rw (c.deref-2.ensures.value, c.in_ok-asked.ensures, c.deref.ensures.value, c.in-Some.is)
-    at c.in_ok-found.ensures.settles in
-    let goes = settled.2.goes in
+    let told = g.L.Tape.told c.args.tape.now in
+    let between = g.L.Tape.told c.literals.new.tape in
+    let mid = g.L.Tape.told c.assumed.new.tape in
+    let stated = stated_under c.translation_stays.ensures s c.args.places.now s.assumptions c.args.store.now
+    c.literals.new.store c.args.evidence.now c.literals.new.evidence c.assumed.new.evidence told between mid
+    c.in_ok-stated.stated.items c.in_ok-assumed.assumed.items c.assumptions.ensures.assumed.sorted first assumes in
+    let settled = rw c.in-Some.is at c.in_ok-found.ensures.settles in
+    let goes = settled.goes in
     record {
       store = goes.store.right (first.store.right c.requires.store).regexes;
       regexes = goes.regexes;
       declared = goes.declared (state_of s).sorts
           (assumes.declared (state_of s).sorts c.assumptions.ensures.assumed.sorted
           (first.declared c.requires.declared));
+      literals = rw (
+        c.deref-4.ensures.value,
+        c.in_ok-all.ensures,
+        c.deref-3.ensures.value,
+        c.in_ok-asked.ensures,
+        c.deref.ensures.value,
+      ) (with-ends-known c.assumed.new.evidence c.settle.new.evidence _ _ goes.atoms
+          (asked_known s c.args.places.now c.args.store.now c.literals.new.store c.args.evidence.now
+          c.assumed.new.evidence told mid c.in_ok-stated.stated.items c.in_ok-assumed.assumed.items stated
+          c.stands.ensures assumes.all) settled.ends);
       assumed = rw c.deref-5.ensures.value
           (said_known c.settle.new.evidence.atoms s.assumptions c.in_ok-assumed.assumed.items
           (said_over c.assumed.new.evidence.atoms c.settle.new.evidence.atoms goes.atoms s.assumptions
@@ -60,10 +76,7 @@ returns g c =
     c.in_ok-stated.stated.items c.in_ok-assumed.assumed.items c.assumptions.ensures.assumed.sorted first assumes in
     let gates = gates_under s.assumptions c.literals.new.store.arena c.literals.new.evidence c.assumed.new.evidence
     between mid c.in_ok-stated.stated.items c.in_ok-assumed.assumed.items first.gates assumes in
-    let settled = rw (c.deref-2.ensures.value, c.in_ok-asked.ensures, c.deref.ensures.value, c.in-Some.is)
-    at c.in_ok-found.ensures.settles in
-    let spoken = settled.1 in
-    let all = settled.2 in
+    let all = rw c.in-Some.is at c.in_ok-found.ensures.settles in
     let ok = rw (
       c.deref-4.ensures.value,
       c.deref-5.ensures.value,
@@ -74,25 +87,26 @@ returns g c =
     ) at c.search_for.ensures.done in
     record {
       puts = IfOk-weaker r _ _
-          (λ x done. puts _ _ _ _ _ _ _ _ _ stated _ _ _ _ _ _ _ _ _ _ _ _ _ _ gates assumes.all spoken all done) ok;
+          (λ x done. puts _ _ _ _ _ _ _ _ _ stated _ _ _ _ _ _ _ _ _ _ _ _ _ gates assumes.all all done
+          c.requires.declared) ok;
       answer = IfOk-weaker r _ _
-          (λ x done. answer _ _ _ _ _ _ _ _ _ stated _ _ _ _ _ _ _ _ _ _ _ _ _ _ gates assumes.all spoken all done
+          (λ x done. answer _ _ _ _ _ _ _ _ _ stated _ _ _ _ _ _ _ _ _ _ _ _ _ gates assumes.all all done
           c.translation_stays.ensures) ok;
       sound = IfOk-weaker r _ _
-          (λ x done. sound _ _ _ _ _ _ _ _ _ stated _ _ _ _ _ _ _ _ _ _ _ _ _ _ gates assumes.all spoken all done
+          (λ x done. sound _ _ _ _ _ _ _ _ _ stated _ _ _ _ _ _ _ _ _ _ _ _ _ gates assumes.all all done
           c.follows_by_rule.ensures c.line_stays_sound.ensures c.counted_again_stays_sound.ensures) ok;
       levels = IfOk-weaker r _ _
-          (λ x done. levels _ _ _ _ _ _ _ _ _ stated _ _ _ _ _ _ _ _ _ _ _ _ _ _ gates assumes.all spoken all done) ok;
+          (λ x done. levels _ _ _ _ _ _ _ _ _ stated _ _ _ _ _ _ _ _ _ _ _ _ _ gates assumes.all all done) ok;
       limit = IfOk-weaker r _ _
-          (λ x done. limit _ _ _ _ _ _ _ _ _ stated _ _ _ _ _ _ _ _ _ _ _ _ _ _ gates assumes.all spoken all done) ok;
+          (λ x done. limit _ _ _ _ _ _ _ _ _ stated _ _ _ _ _ _ _ _ _ _ _ _ _ gates assumes.all all done) ok;
       spends = IfOk-weaker r _ _
-          (λ x done. spends _ _ _ _ _ _ _ _ _ stated _ _ _ _ _ _ _ _ _ _ _ _ _ _ gates assumes.all spoken all done) ok;
+          (λ x done. spends _ _ _ _ _ _ _ _ _ stated _ _ _ _ _ _ _ _ _ _ _ _ _ gates assumes.all all done) ok;
       store = IfOk-weaker r _ _
           (λ x done. grows_both _ _ _ _ first.store (c.regexes_grow.ensures.alone _ _ _
-          (stores _ _ _ _ _ _ _ _ _ stated _ _ _ _ _ _ _ _ _ _ _ _ _ _ gates assumes.all spoken all done))) ok;
+          (stores _ _ _ _ _ _ _ _ _ stated _ _ _ _ _ _ _ _ _ _ _ _ _ gates assumes.all all done))) ok;
       regexes = IfOk-weaker r _ _ (λ x done. done.searched.regexes) ok;
       declared = IfOk-weaker r _ _
-          (λ x done. declared _ _ _ _ _ _ _ _ _ stated _ _ _ _ _ _ _ _ _ _ _ _ _ _ gates assumes.all spoken all done
+          (λ x done. declared _ _ _ _ _ _ _ _ _ stated _ _ _ _ _ _ _ _ _ _ _ _ _ gates assumes.all all done
           c.requires.declared) ok;
       counts = subst (λ old. CountsTapeFault r old (g.L.Tape.faults c.search_for.new.tape))
           (c.in_ok-found.ensures.counts ∙ c.in_ok-assumed.ensures.counts ∙ c.in_ok-stated.ensures.counts)
@@ -110,12 +124,11 @@ returns-in_default g c =
     let stated = stated_under c.translation_stays.ensures s c.args.places.now s.assumptions c.args.store.now
     c.literals.new.store c.args.evidence.now c.literals.new.evidence c.assumed.new.evidence told between mid
     c.in_ok-stated.stated.items c.in_ok-assumed.assumed.items c.assumptions.ensures.assumed.sorted first assumes in
-    let settled = rw (c.deref-2.ensures.value, c.in_ok-asked.ensures, c.deref.ensures.value, c.in_default.is)
-    at c.in_ok-found.ensures.settles in
-    let goes = settled.2.0 in
+    let settled = rw c.in_default.is at c.in_ok-found.ensures.settles in
+    let goes = settled.0 in
     record {
       puts = settled_puts _ _ _ _ _ _ _ _ _ stated _ _ _ _ _ _ goes;
-      answer = settled.2.1;
+      answer = settled.1;
       sound = settled_sound _ _ _ _ _ _ _ _ _ stated _ _ _ _ _ _ goes c.follows_by_rule.ensures
           c.line_stays_sound.ensures c.counted_again_stays_sound.ensures;
       levels = settled_levels _ _ _ _ _ _ _ _ _ stated _ _ _ _ _ _ goes;

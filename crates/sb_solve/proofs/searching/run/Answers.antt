@@ -1,5 +1,5 @@
-use Rattle.sb_solve.proofs.Words.{refl, sym, subst, IsFound, Found, all_known, IfOk-from_err, err_from_is_err_and, counts_none, counts_on, CountsTapeFault, ℕ, ◌≡◌, true, List, AtomOver, are_declared, state_of, all_among, is_atom}
-use Rattle.sb_solve.proofs.Ended.{atoms_stay, runs_to}
+use Rattle.sb_solve.proofs.Words.{refl, sym, subst, IsFound, Found, all_known, IfOk-from_err, err_from_is_err_and, counts_none, counts_on, CountsTapeFault, state_of, all_among, is_atom}
+use Rattle.sb_solve.proofs.Ended.{declared_behind, runs_to}
 use Rattle.sb_solve.proofs.searching.run.Goals as goal
 
 pub search-requires-clause-passes : goal.search-requires-clause-passes
@@ -13,8 +13,7 @@ search-requires-clause-passes g c =
 
 pub values_of-requires : goal.values_of-requires
 values_of-requires g c =
-    subst (λ (atoms : List (AtomOver ℕ)). are_declared (state_of c.args.stack.now).sorts atoms ≡ true)
-    (sym (atoms_stay _ _ _ _ c.in_ok-found.ensures.puts)) c.requires.declared
+    declared_behind (state_of c.args.stack.now).sorts _ _ _ _ c.in_ok-found.ensures.puts c.requires.declared
 
 pub returns-in_err-found : goal.returns-in_err-found
 returns-in_err-found g c =
@@ -31,8 +30,8 @@ returns-in-Unsat g c =
     let y = c.search.new.theory in
     record {
       runs = runs_to c.args.stack.now c.args.assumed.now c.args.tables.now _ y c.search.new.engine
-          c.search.new.choices y.words _ _ _ _ _ refl c.search.ensures.wanted c.requires.known h.stands h.kept
-          h.follows_by_level h.puts h.limit h.spends
+          c.search.new.choices y.words _ _ _ _ _ refl c.search.ensures.wanted c.requires.known
+          c.requires.stands h.stands h.kept h.follows_by_level h.puts h.limit h.spends
           (subst (IsFound y.wanted c.args.assumed.now c.search.new.engine c.search.new.budget) c.in-Unsat.is h.found);
       counts = h.counts;
     }
@@ -43,8 +42,8 @@ returns-in-Spent g c =
     let y = c.search.new.theory in
     record {
       runs = runs_to c.args.stack.now c.args.assumed.now c.args.tables.now _ y c.search.new.engine
-          c.search.new.choices y.words _ _ _ _ _ refl c.search.ensures.wanted c.requires.known h.stands h.kept
-          h.follows_by_level h.puts h.limit h.spends
+          c.search.new.choices y.words _ _ _ _ _ refl c.search.ensures.wanted c.requires.known
+          c.requires.stands h.stands h.kept h.follows_by_level h.puts h.limit h.spends
           (subst (IsFound y.wanted c.args.assumed.now c.search.new.engine c.search.new.budget) c.in-Spent.is h.found);
       counts = h.counts;
     }
@@ -56,8 +55,8 @@ returns-in_ok-values-in-Sat g c =
     let v = c.in_ok-values-in-Sat.ensures in
     record {
       runs = runs_to c.args.stack.now c.args.assumed.now c.args.tables.now c.values_of.new.tables y
-          c.search.new.engine c.search.new.choices _ _ _ _ _ _ v.rest c.search.ensures.wanted c.requires.known h.stands
-          h.kept h.follows_by_level h.puts h.limit h.spends
+          c.search.new.engine c.search.new.choices _ _ _ _ _ _ v.rest c.search.ensures.wanted c.requires.known
+          c.requires.stands h.stands h.kept h.follows_by_level h.puts h.limit h.spends
           (record {
             search = c.search.new.engine;
             theory = y.words.items;

@@ -5,7 +5,6 @@ pub returns-in_err-found : goal.returns-in_err-found
 returns-in_err-found c =
     let x = c.from_residual in
     record {
-      distinct = c.atoms_each_once.ensures;
       wanted = IfOk-from_err x.result _ x.ensures.0;
       among = IfOk-from_err x.result _ x.ensures.0;
     }
@@ -14,7 +13,6 @@ pub returns : goal.returns
 returns c =
     let table = c.args.atoms.now in
     record {
-      distinct = c.atoms_each_once.ensures;
       wanted = subst (λ (ns : List ℕ). AreWanted table c.args.literals.now ns) (sym c.of.ensures)
           c.in_ok-found.ensures.wanted;
       among = subst (λ (ns : List ℕ). AreAmong table c.args.literals.now ns) (sym c.of.ensures)

@@ -25,7 +25,7 @@ step-requires-2 g c =
 
 pub returns-then-atom-end : goal.returns-then-atom-end
 returns-then-atom-end g c = record {
-  cuts = IfOk-weaker c.step.result _ _
+  steps = IfOk-weaker c.step.result _ _
       (λ done h x below at.
       cut-steps c.steps_are_exact.ensures c.steps_hold.ensures c.args.proves x c.args.evidence.now c.step.new.self
       c.args.budget.now c.step.new.budget (g.L.Tape.told c.args.tape.now) (g.L.Tape.told c.step.new.tape) c.args.atom
@@ -36,7 +36,7 @@ returns-then-atom-end g c = record {
 
 pub returns : goal.returns
 returns g c = record {
-  cuts = IfOk-weaker c.step-2.result _ _
+  steps = IfOk-weaker c.step-2.result _ _
       (λ done h x below at.
       cut-steps-turned c.steps_are_exact.ensures c.steps_hold.ensures c.args.proves x c.args.evidence.now
       c.step-2.new.self c.args.budget.now c.step-2.new.budget (g.L.Tape.told c.args.tape.now)

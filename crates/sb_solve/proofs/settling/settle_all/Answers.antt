@@ -1,4 +1,4 @@
-use Rattle.sb_solve.proofs.Words.{ℕ, Bool, List, [], get_or, take_all, refl, sym, subst, ◌∙◌, arith, AllSettle, CountsTapeFault, IfOk-from_err, Lit, Settles, counts_on, err_from_is_err_and}
+use Rattle.sb_solve.proofs.Words.{Bool, List, refl, sym, subst, ◌∙◌, AllSettle, CountsTapeFault, IfOk-from_err, Lit, Settles, counts_on, err_from_is_err_and}
 use Rattle.sb_solve.proofs.Goings.{all-more, all-none, atom-known, settlement-spent}
 use Rattle.sb_solve.proofs.settling.settle_all.Goals as goal
 
@@ -8,7 +8,7 @@ loop-atom-init g c =
     let e = c.args.evidence.now in
     let told = g.L.Tape.told c.args.tape.now in (
       refl,
-      subst (λ (ls : List Lit). AllSettle c.args.proves x e c.args.budget.now told [] x e c.args.budget.now told ls)
+      subst (λ (ls : List Lit). AllSettle c.args.proves x e c.args.budget.now told x e c.args.budget.now told ls)
           (sym c.new-ends.ensures.items) (all-none c.args.proves x e c.args.budget.now told c.requires.regexes),
     )
 
@@ -30,12 +30,10 @@ returns-then-not-done g c =
       settles = settlement-spent c.args.proves c.args.store.now c.loop-atom.store c.settle_one.new.store
           c.args.evidence.now c.loop-atom.evidence c.settle_one.new.evidence c.args.budget.now c.loop-atom.budget
           c.settle_one.new.budget (g.L.Tape.told c.args.tape.now) (g.L.Tape.told c.loop-atom.tape) new
-          (get_or c.args.numbers.now c.loop-atom.atom-index 0) c.loop-atom.ends.items
-          c.settle_one.new.ends.items h.1.goes
+          c.loop-atom.ends.items c.settle_one.new.ends.items h.1.goes
           (subst (λ (b : Bool). Settles c.args.proves c.loop-atom.store c.loop-atom.evidence c.loop-atom.budget
-          (g.L.Tape.told c.loop-atom.tape) (get_or c.args.numbers.now c.loop-atom.atom-index 0)
-          c.loop-atom.ends.items c.settle_one.new.store c.settle_one.new.evidence c.settle_one.new.budget new
-          c.settle_one.new.ends.items b) c.if-not-done.true c.in_ok-done.ensures.settles);
+          (g.L.Tape.told c.loop-atom.tape) c.loop-atom.ends.items c.settle_one.new.store c.settle_one.new.evidence
+          c.settle_one.new.budget new c.settle_one.new.ends.items b) c.if-not-done.true c.in_ok-done.ensures.settles);
       counts = c.in_ok-done.ensures.counts ∙ h.0;
     }
 
@@ -46,25 +44,16 @@ loop-atom-preserved g c =
       c.in_ok-done.ensures.counts ∙ h.0,
       all-more c.args.proves c.args.store.now c.loop-atom.store c.settle_one.new.store c.args.evidence.now
           c.loop-atom.evidence c.settle_one.new.evidence c.args.budget.now c.loop-atom.budget c.settle_one.new.budget
-          (g.L.Tape.told c.args.tape.now) (g.L.Tape.told c.loop-atom.tape) new c.args.numbers.now
-          c.loop-atom.atom-index 0 c.loop-atom.ends.items c.settle_one.new.ends.items c.requires.known
-          c.loop-atom-test.true h.1
+          (g.L.Tape.told c.args.tape.now) (g.L.Tape.told c.loop-atom.tape) new c.loop-atom.ends.items
+          c.settle_one.new.ends.items h.1
           (subst (λ (b : Bool). Settles c.args.proves c.loop-atom.store c.loop-atom.evidence c.loop-atom.budget
-          (g.L.Tape.told c.loop-atom.tape) (get_or c.args.numbers.now c.loop-atom.atom-index 0)
-          c.loop-atom.ends.items c.settle_one.new.store c.settle_one.new.evidence c.settle_one.new.budget new
-          c.settle_one.new.ends.items b) c.if-not-done.false c.in_ok-done.ensures.settles),
+          (g.L.Tape.told c.loop-atom.tape) c.loop-atom.ends.items c.settle_one.new.store c.settle_one.new.evidence
+          c.settle_one.new.budget new c.settle_one.new.ends.items b) c.if-not-done.false c.in_ok-done.ensures.settles),
     )
 
 pub returns : goal.returns
 returns g c =
-    let h = c.loop-atom.invariant in
-    record {
-      settles = subst (λ (ns : List ℕ). AllSettle c.args.proves c.args.store.now c.args.evidence.now
-          c.args.budget.now (g.L.Tape.told c.args.tape.now) ns c.loop-atom.store c.loop-atom.evidence
-          c.loop-atom.budget (g.L.Tape.told c.loop-atom.tape) c.loop-atom.ends.items)
-          (take_all c.loop-atom.atom-index c.args.numbers.now (omega (arith, c.loop-atom-test.false))) h.1;
-      counts = h.0;
-    }
+    let h = c.loop-atom.invariant in record { settles = h.1; counts = h.0 }
 
 pub returns-in_err-done : goal.returns-in_err-done
 returns-in_err-done g c =

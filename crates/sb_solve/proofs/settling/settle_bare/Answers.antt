@@ -16,13 +16,9 @@ returns-then-is_empty g c = record {
   settles = IfOk-weaker c.settle_end.result _ _
       (λ done h.
       end-settles c.args.proves c.args.store.now c.args.evidence.now c.settle_end.new.evidence c.args.budget.now
-      c.settle_end.new.budget (g.L.Tape.told c.args.tape.now) (g.L.Tape.told c.settle_end.new.tape) c.args.atom
-      c.args.regex c.args.ends.now.items done
-      (subst (λ (w : List ℕ). Names c.args.evidence.now.atoms c.args.atom
-      (in_atom (pieces_of_word w) c.args.regex))
-      (no-word c.args.word.now (sym c.is_empty.ensures ∙ c.if-is_empty.true)) c.requires.names)
-      (h c.args.store.now refl))
-      c.settle_end.ensures.settles;
+      c.settle_end.new.budget (g.L.Tape.told c.args.tape.now) (g.L.Tape.told c.settle_end.new.tape)
+      c.args.ends.now.items done (h c.args.store.now refl))
+      c.settle_end.ensures.steps;
   counts = c.settle_end.ensures.counts;
 }
 

@@ -16,9 +16,9 @@ step-requires g c = record {
 
 pub returns : goal.returns
 returns g c = record {
-  settles = IfOk-weaker c.step.result _ _
+  steps = IfOk-weaker c.step.result _ _
       (λ done h x same.
-      end-steps c.steps_are_exact.ensures c.steps_hold.ensures c.nullable_has_empty_word.ensures c.args.proves x
+      end-steps c.steps_are_exact.ensures c.steps_hold.ensures c.args.proves x
       c.args.evidence.now c.step.new.self c.args.budget.now c.step.new.budget (g.L.Tape.told c.args.tape.now)
       (g.L.Tape.told c.step.new.tape) c.args.atom c.args.regex c.nullable-positive.result done
       (subst (λ (rs : List Regex). HaveRegexesBelow (length rs) c.args.evidence.now.atoms) (sym same)

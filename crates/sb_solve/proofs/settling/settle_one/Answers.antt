@@ -1,23 +1,19 @@
 use Rattle.sb_word.specs.Words.{IsWord}
 use Rattle.sb_refute.specs.Settling.{IsBare, pieces_of_word}
 use Rattle.sb_refute.specs.declared.bare.Bare.{Bare}
-use Rattle.sb_solve.proofs.Words.{ℕ, List, Option, refl, subst, sym, IfOk-from_err, Names, atoms_of, counts_none, err_from_is_err_and, in_atom}
-use Rattle.sb_solve.proofs.Goings.{bare-named, no-bare, other-settled}
+use Rattle.sb_solve.proofs.Words.{ℕ, List, Option, refl, subst, sym, IfOk-from_err, Names, counts_none, err_from_is_err_and, in_atom}
+use Rattle.sb_solve.proofs.Goings.{bare-named, other-settled}
 use Rattle.sb_solve.proofs.settling.settle_one.Goals as goal
 
 pub bare-requires : goal.bare-requires
 bare-requires g c = c.requires.known
 
 pub returns-in_default : goal.returns-in_default
-returns-in_default g c =
-    let e = c.args.evidence.now in
-    record {
-      settles = other-settled c.args.proves c.args.store.now e c.args.budget.now (g.L.Tape.told c.args.tape.now)
-          c.args.atom c.args.ends.now.items c.requires.regexes
-          (no-bare c.args.store.now.arena e (atoms_of c.args.ends.now.items) c.args.atom
-          (subst (λ (o : Option Bare). IsBare e.atoms c.args.atom o) c.in_default.is c.in_ok-found.ensures));
-      counts = refl;
-    }
+returns-in_default g c = record {
+  settles = other-settled c.args.proves c.args.store.now c.args.evidence.now c.args.budget.now
+      (g.L.Tape.told c.args.tape.now) c.args.ends.now.items c.requires.regexes;
+  counts = refl;
+}
 
 pub settle_bare-requires : goal.settle_bare-requires
 settle_bare-requires g c =

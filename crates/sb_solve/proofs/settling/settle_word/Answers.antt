@@ -1,8 +1,9 @@
-use Rattle.sb_solve.proofs.Words.{ℕ, Bool, [], ◌∷◌, refl, sym, ap, subst, ◌∙◌, slice_get_within, AtomOver, Cuts, IfOk-from_err, CountsTapeFault, List, Names, Regex, SettlesEnd, counts_none, counts_on, err_from_is_err_and, in_atom, not, of_sign, walked, word_piece}
+use Rattle.sb_solve.proofs.Words.{ℕ, Bool, [], ◌∷◌, refl, sym, ap, subst, ◌∙◌, slice_get_within, AtomOver, IfOk-from_err, CountsTapeFault, List, Names, Regex, StepsOnce, counts_none, counts_on, err_from_is_err_and, in_atom, walked, word_piece}
 use Rattle.sb_lang.specs.Derivative.{nd_along}
 use Rattle.sb_regex.proofs.CallerLemmas.{at_kept, names_at}
 use Rattle.sb_atoms.proofs.CallerLemmas.{regexes_kept}
-use Rattle.sb_solve.proofs.Goings.{goes-both, named-still, two-atoms, word-settles, word-spent, word-starts}
+use Rattle.sb_solve.proofs.Goings.{goes-both, two-atoms, word-settles, word-spent, word-starts}
+use Rattle.sb_solve.proofs.Growing.{named_still}
 use Rattle.sb_solve.proofs.settling.settle_word.Goals as goal
 
 pub along-requires : goal.along-requires
@@ -31,14 +32,14 @@ cut-requires g c =
     let x = c.args.store.now in
     let y = record x { arena = c.along.new.arena; plain = c.along.new.self } in
     let e = c.args.evidence.now in
-    let s = c.in_ok-settled.ensures.settles y refl in
+    let s = c.in_ok-settled.ensures.steps y refl in
     let alone = c.in_ok-end.ensures.ends in
     let a = in_atom (word_piece c.args.word.now ∷ []) c.args.regex in
     let b = in_atom [] c.in_ok-rest.rest in
     let k = c.settle_end.new.evidence in
     let named : Names k.atoms c.args.atom a =
     subst (λ (ts : List (AtomOver ℕ)). Names ts c.args.atom a) (sym s.same)
-    (named-still e.atoms c.ends.new.self.atoms c.args.atom a alone.extends c.requires.names) in
+    (named_still e.atoms c.ends.new.self.atoms c.args.atom a alone.extends c.requires.names) in
     let there : Names k.atoms c.in_ok-end.end b =
     subst (λ (ts : List (AtomOver ℕ)). Names ts c.in_ok-end.end b) (sym s.same) alone.names in
     record {
@@ -58,13 +59,13 @@ returns-then-not-settled g c =
     let between = g.L.Tape.told c.ends.new.tape in
     let new = g.L.Tape.told c.settle_end.new.tape in
     let grows = walked c.regexes_grow.ensures.arena x _ _ c.along.ensures.extends c.along.ensures.right in
-    let s = c.in_ok-settled.ensures.settles y refl in
+    let s = c.in_ok-settled.ensures.steps y refl in
     let start = word-starts c.follows_by_rule.ensures c.line_stays_sound.ensures c.counted_again_stays_sound.ensures
     c.args.proves x y c.args.evidence.now c.ends.new.self c.args.budget.now told between c.in_ok-rest.rest
     c.in_ok-end.end c.requires.regexes grows c.in_ok-end.ensures.ends in
     record {
       settles = word-spent c.args.proves x y c.args.evidence.now c.settle_end.new.evidence c.args.budget.now
-          c.settle_end.new.budget told new c.args.atom c.args.ends.now.items
+          c.settle_end.new.budget told new c.args.ends.now.items
           (goes-both c.args.proves x y y c.args.evidence.now c.ends.new.self c.settle_end.new.evidence
           c.args.budget.now c.args.budget.now c.settle_end.new.budget told between new start s.goes)
           (s.spent c.if-not-settled.true);
@@ -83,18 +84,18 @@ returns-then-not-done g c =
     let mid = g.L.Tape.told c.settle_end.new.tape in
     let new = g.L.Tape.told c.cut.new.tape in
     let grows = walked c.regexes_grow.ensures.arena x _ _ c.along.ensures.extends c.along.ensures.right in
-    let s = c.in_ok-settled.ensures.settles y refl in
+    let s = c.in_ok-settled.ensures.steps y refl in
     let alone = c.in_ok-end.ensures.ends in
     let start = word-starts c.follows_by_rule.ensures c.line_stays_sound.ensures c.counted_again_stays_sound.ensures
     c.args.proves x y e f c.args.budget.now told between c.in_ok-rest.rest c.in_ok-end.end c.requires.regexes grows
     alone in
     let to_end = goes-both c.args.proves x y y e f k c.args.budget.now c.args.budget.now c.settle_end.new.budget told
     between mid start s.goes in
-    let cut = c.in_ok-done.ensures.cuts y s.goes.regexes (
+    let cut = c.in_ok-done.ensures.steps y s.goes.regexes (
       c.args.word.now,
       c.args.regex,
       c.in_ok-rest.rest,
-      named-still e.atoms k.atoms c.args.atom (in_atom (word_piece c.args.word.now ∷ []) c.args.regex) to_end.atoms
+      named_still e.atoms k.atoms c.args.atom (in_atom (word_piece c.args.word.now ∷ []) c.args.regex) to_end.atoms
           c.requires.names,
       subst (λ (ts : List (AtomOver ℕ)). Names ts c.in_ok-end.end (in_atom [] c.in_ok-rest.rest)) (sym s.same)
           alone.names,
@@ -106,7 +107,7 @@ returns-then-not-done g c =
     ) in
     record {
       settles = word-spent c.args.proves x y e c.cut.new.evidence c.args.budget.now c.cut.new.budget told new
-          c.args.atom c.args.ends.now.items
+          c.args.ends.now.items
           (goes-both c.args.proves x y y e k c.cut.new.evidence c.args.budget.now c.settle_end.new.budget
           c.cut.new.budget told mid new to_end cut.goes)
           (cut.spent c.if-not-done.true);
@@ -125,7 +126,7 @@ returns g c =
     let mid = g.L.Tape.told c.settle_end.new.tape in
     let new = g.L.Tape.told c.cut.new.tape in
     let grows = walked c.regexes_grow.ensures.arena x _ _ c.along.ensures.extends c.along.ensures.right in
-    let s = c.in_ok-settled.ensures.settles y refl in
+    let s = c.in_ok-settled.ensures.steps y refl in
     let alone = c.in_ok-end.ensures.ends in
     let start = word-starts c.follows_by_rule.ensures c.line_stays_sound.ensures c.counted_again_stays_sound.ensures
     c.args.proves x y e f c.args.budget.now told between c.in_ok-rest.rest c.in_ok-end.end c.requires.regexes grows
@@ -136,27 +137,24 @@ returns g c =
     ∙ ap (λ (r : Regex). nd_along r c.args.word.now)
     (sym (at_kept x.arena y.arena c.args.regex c.along.ensures.extends
     (c.requires.regexes c.args.atom (in_atom (word_piece c.args.word.now ∷ []) c.args.regex) c.requires.names))) in
-    let cut = c.in_ok-done.ensures.cuts y s.goes.regexes (
+    let cut = c.in_ok-done.ensures.steps y s.goes.regexes (
       c.args.word.now,
       c.args.regex,
       c.in_ok-rest.rest,
-      named-still e.atoms k.atoms c.args.atom (in_atom (word_piece c.args.word.now ∷ []) c.args.regex) to_end.atoms
+      named_still e.atoms k.atoms c.args.atom (in_atom (word_piece c.args.word.now ∷ []) c.args.regex) to_end.atoms
           c.requires.names,
       subst (λ (ts : List (AtomOver ℕ)). Names ts c.in_ok-end.end (in_atom [] c.in_ok-rest.rest)) (sym s.same)
           alone.names,
       is_rest,
     ) in
     record {
-      settles = word-settles c.nullable_has_empty_word.ensures c.derivative_along_has_rests.ensures c.args.proves x y e
-          f k c.cut.new.evidence c.args.budget.now c.settle_end.new.budget c.cut.new.budget told between mid new
-          c.args.atom c.in_ok-end.end c.args.word.now c.args.regex c.in_ok-rest.rest c.nullable-truth.result
-          c.args.ends.now.items c.put_end.new.ends.items start alone.names alone.gates c.requires.names is_rest
-          (sym c.nullable-truth.ensures)
-          (subst (λ (b : Bool). SettlesEnd c.args.proves y f c.args.budget.now between c.in_ok-end.end
-          c.in_ok-rest.rest k c.settle_end.new.budget mid b) c.if-not-settled.false s)
-          (subst (λ (b : Bool). Cuts c.args.proves y k c.settle_end.new.budget mid
-          (of_sign c.nullable-truth.result c.args.atom ∷ of_sign (not c.nullable-truth.result) c.in_ok-end.end ∷ [])
-          c.cut.new.evidence c.cut.new.budget new b) c.if-not-done.false cut)
+      settles = word-settles c.args.proves x y e f k c.cut.new.evidence c.args.budget.now c.settle_end.new.budget
+          c.cut.new.budget told between mid new c.in_ok-end.end c.in_ok-rest.rest c.args.ends.now.items
+          c.put_end.new.ends.items start alone.names alone.gates
+          (subst (λ (b : Bool). StepsOnce c.args.proves y f c.args.budget.now between k c.settle_end.new.budget mid b)
+          c.if-not-settled.false s)
+          (subst (λ (b : Bool). StepsOnce c.args.proves y k c.settle_end.new.budget mid c.cut.new.evidence
+          c.cut.new.budget new b) c.if-not-done.false cut)
           c.in_ok-put_end.ensures;
       counts = c.in_ok-done.ensures.counts ∙ c.in_ok-settled.ensures.counts ∙ c.in_ok-end.ensures.counts;
     }

@@ -1,7 +1,7 @@
-use Rattle.sb_solve.proofs.Words.{◌≡◌, ◌<◌, ℕ, true, List, length, Option, Some, refl, sym, ap, subst, ◌∙◌, option_map, IfSome, IfOk-from_err, err_from_is_err_and, Term, term_at, asked_in, state_of, atoms_in, brought_translation, AreDefined, Asserted, EvidencesUncounted, Grows, HasNoLiteral, IsStatement, IsStoreOf, is_unjoined, live, structure-is, counts_on}
+use Rattle.sb_solve.proofs.Words.{◌≡◌, ◌<◌, ℕ, List, length, Option, Some, refl, sym, ap, subst, ◌∙◌, option_map, IfSome, IfOk-from_err, err_from_is_err_and, Term, term_at, asked_in, state_of, atoms_in, brought_translation, AreDefined, Asserted, EvidencesUncounted, Grows, HasNoLiteral, IsStatement, IsStoreOf, live, structure-is, counts_on}
 use Rattle.sb_graph.specs.Findings.{Findings}
 use Rattle.sb_solve.proofs.Declaring.{declared_more}
-use Rattle.sb_solve.proofs.LiveRows.{decided_unjoined, has_literal}
+use Rattle.sb_solve.proofs.LiveRows.{has_literal}
 use Rattle.sb_solve.proofs.stating.state.Goals as goal
 
 pub statement-requires : goal.statement-requires
@@ -10,9 +10,6 @@ statement-requires g c =
     record {
       number = subst (λ (ts : List Term). c.assertion_at-stated.result.term < length ts) same
           c.assertion_at-stated.ensures.known;
-      unjoined = subst (λ (ts : List Term). is_unjoined (term_at ts c.assertion_at-stated.result.term) ≡ true) same
-          (decided_unjoined (term_at c.args.stack.now.table c.assertion_at-stated.result.term)
-          c.assertion_at-stated.ensures.statement.decided);
       store = subst (λ (ts : List Term). IsStoreOf ts c.args.store.now) same c.requires.store;
       regexes = c.requires.regexes;
     }
