@@ -1,9 +1,14 @@
 //! Searches over the theory of memberships, where the steps end, and where no lines are put: what no script shows.
 
-ghost use Rattle.std.specs.Prelude.{◌≡◌, [], true, length};
+ghost use Rattle.std.specs.Prelude.{◌≡◌, ◌≤◌, ℕ, [], true, List, length, IfOk};
+ghost use Rattle.std.specs.List.{list_all};
+ghost use Rattle.sb_rulebook.specs.Atoms.{AtomOver, is_well_formed};
 ghost use Rattle.sb_rulebook.specs.Brought.{is_brought_atom};
 ghost use Rattle.sb_atoms.specs.Numbered.{HasRegexBelow, HaveRegexesBelow, atom_in};
+ghost use Rattle.sb_store.specs.Stores.{IsStore};
+ghost use Rattle.sb_theory.specs.Memberships.{is_atom};
 ghost use Rattle.sb_theory.specs.Strings.{Stands};
+ghost use Rattle.sb_theory.specs.Tables.{AreFormed};
 
 use crate::regexes::regex;
 use indexmap::IndexSet;
@@ -271,7 +276,10 @@ fn regex_of(alloc: Global, arena: &mut Arena, says: &Says) -> Result<RegexId, Al
 }
 
 /// So many first atoms.
-fn first_atoms(alloc: Global, count: u64) -> Result<WantedAtoms, AllocError> {
+fn first_atoms(alloc: Global, count: u64) -> Result<WantedAtoms, AllocError>
+    ensures { IfOk result (λ wanted. (table : List (AtomOver ℕ)) → count ≤ length table
+        → list_all (is_atom table) wanted ≡ true) }
+{
     let mut atoms = IndexSet::new(alloc);
     for atom in 0..count {
         atoms.insert(atom)?;
@@ -297,8 +305,11 @@ fn put_regexes(
 fn add(arena: &Arena, atoms: &mut Atoms, atom: Atom<RegexId>) -> Result<(), AllocError>
     requires atom { HasRegexBelow (length arena.now) (atom_in atom) }
     requires brought { is_brought_atom (atom_in atom) ≡ true }
+    requires well { is_well_formed (atom_in atom) ≡ true }
     requires atoms { HaveRegexesBelow (length arena.now) atoms.old }
-    ensures { HaveRegexesBelow (length arena.now) atoms.new }
+    requires formed { AreFormed atoms.old }
+    ensures atoms { HaveRegexesBelow (length arena.now) atoms.new }
+    ensures formed { AreFormed atoms.new }
 {
     atoms.add(atom)?;
     Ok(())
@@ -312,8 +323,10 @@ fn add_said(
     says: &Says,
     id: RegexId,
 ) -> Result<(), AllocError>
-    requires { HaveRegexesBelow (length arena.now) atoms.old }
-    ensures { HaveRegexesBelow (length arena.now) atoms.new }
+    requires atoms { HaveRegexesBelow (length arena.now) atoms.old }
+    requires formed { AreFormed atoms.old }
+    ensures atoms { HaveRegexesBelow (length arena.now) atoms.new }
+    ensures formed { AreFormed atoms.new }
 {
     match says {
         Says::In(serial, _) => {
@@ -324,6 +337,9 @@ fn add_said(
             Err(AllocError)
         }
         Says::And(one, other) => {
+            if one.atom >= other.atom {
+                return Err(AllocError);
+            }
             let literals = SmallVec::from_slice(alloc, &[*one, *other])?;
             add(arena, atoms, Atom::And(literals))
         }
@@ -338,8 +354,10 @@ fn add_all(
     ids: &[RegexId],
     said: &[Says],
 ) -> Result<(), AllocError>
-    requires { HaveRegexesBelow (length arena.now) atoms.old }
-    ensures { HaveRegexesBelow (length arena.now) atoms.new }
+    requires atoms { HaveRegexesBelow (length arena.now) atoms.old }
+    requires formed { AreFormed atoms.old }
+    ensures atoms { HaveRegexesBelow (length arena.now) atoms.new }
+    ensures formed { AreFormed atoms.new }
 {
     for (says, id) in said.iter().zip(ids.iter()) {
         add_said(alloc, arena, atoms, says, *id)?;
@@ -444,6 +462,38 @@ fn search_case(
     Ok(())
 }
 
+/// Makes the theory over the tables of a case, and its search.
+fn search_tables(
+    rt: &impl Abort,
+    alloc: Global,
+    store: Store,
+    atoms: Atoms,
+    wanted: WantedAtoms,
+    case: &Case,
+) -> Result<(), TapeFault>
+    requires store { IsStore store }
+    requires regexes { HaveRegexesBelow (length store.arena) atoms }
+    requires formed { AreFormed atoms }
+    requires wanted { (table : List (AtomOver ℕ)) → case.now.wanted ≤ length table
+        → list_all (is_atom table) wanted ≡ true }
+{
+    if (atoms.len() as u64) < case.wanted {
+        drop(store);
+        drop(atoms);
+        drop(wanted);
+        return Err(TapeFault::NoMemory);
+    }
+    let trace = Trace::new(alloc);
+    let mut theory = Strings::new(alloc, store, trace, atoms, case.proves, wanted)?;
+    let mut engine = Engine::new(alloc);
+    let mut tape = MemTape::new(alloc);
+    let searched = search_case(rt, alloc, &mut theory, &mut engine, &mut tape, case);
+    drop(tape);
+    drop(engine);
+    drop(theory);
+    searched
+}
+
 /// Goes through a case over tables of its own.
 fn expect_case(rt: &impl Abort, alloc: Global, case: &Case) -> Result<(), TapeFault> {
     let wanted = first_atoms(alloc, case.wanted)?;
@@ -460,18 +510,15 @@ fn expect_case(rt: &impl Abort, alloc: Global, case: &Case) -> Result<(), TapeFa
         normals: Normals::new(alloc),
         measures: Measures::new(alloc),
     };
-    let trace = Trace::new(alloc);
-    let mut theory = Strings::new(alloc, store, trace, atoms, case.proves, wanted);
-    let mut engine = Engine::new(alloc);
-    let mut tape = MemTape::new(alloc);
-    let searched = match put.and(added) {
-        Ok(()) => search_case(rt, alloc, &mut theory, &mut engine, &mut tape, case),
-        Err(error) => Err(TapeFault::from(error)),
-    };
-    drop(tape);
-    drop(engine);
-    drop(theory);
-    searched
+    match put.and(added) {
+        Ok(()) => search_tables(rt, alloc, store, atoms, wanted, case),
+        Err(error) => {
+            drop(store);
+            drop(atoms);
+            drop(wanted);
+            Err(TapeFault::from(error))
+        }
+    }
 }
 
 /// Goes through the cases.

@@ -30,10 +30,8 @@ static MEASURES: [Measured; 10] = [
 ];
 
 /// Terms, and why an assertion of each is outside the fragment; of no text a mark.
-static OUTSIDE: [(&[u8], Reason); 20] = [
+static OUTSIDE: [(&[u8], Reason); 18] = [
     (b"xab.e", Reason::NotBrought),
-    (b"xy+awe", Reason::NotBrought),
-    (b"xy+a=", Reason::NotBrought),
     (b"x", Reason::NotBrought),
     (b"ix=", Reason::NotBrought),
     (b"xx+awe", Reason::RepeatedVariable),
@@ -54,7 +52,9 @@ static OUTSIDE: [(&[u8], Reason); 20] = [
 ];
 
 /// Terms of which an assertion is inside it.
-static INSIDE: [&[u8]; 5] = [b"bawe", b"ab=", b"ab+x=", b"ab+x#P/", b"xO"];
+static INSIDE: [&[u8]; 7] = [
+    b"bawe", b"ab=", b"ab+x=", b"ab+x#P/", b"xO", b"xy+awe", b"xy+a=",
+];
 
 /// The term of a text in postfix: `x` and `y` are String constants, `i` an Int constant, `P` a Bool constant, `V` a word
 /// of as many letters as there may be, `W` one of a letter more, `a` and `b` words of one letter, `8` the union of eight
