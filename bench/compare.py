@@ -1,10 +1,11 @@
 """Runs the program, and z3 and cvc5 where they are installed, over the families of scripts, and prints a table: processor
 seconds, peak memory in MB (at least some 10 MB, which is the start of a process from here), and the ratio to the better of
 the other two. Then the program with its proof written to a file: processor seconds, how many times those without a proof
-that is, the proof's MB, how many of them come in a second, how many regexes it expands, and the bytes of memory for
-each of them, where they are 1,000 at least. Then the checker on that script and proof: processor seconds, how many times those of the run
+that is, the proof's MB, how many of them come in a second, how many lines are counted, how many regexes it expands, and the
+bytes of memory for each of them, where they are 1,000 at least. Then the checker on that script and proof: processor seconds, how many times those of the run
 that wrote it that is, and peak memory in MB. A run has 20 seconds."""
 import os
+import re
 import resource
 import shutil
 import subprocess
@@ -14,6 +15,8 @@ import tempfile
 LIMIT = 20
 # the MB of the start of a process from here
 START = 10
+# The lines that are counted: expansions, dead regexes, and clauses of four rules.
+KIND = re.compile(rb"x |d |c (?:linear|step|empty|learn)\b")
 SIZES = {
     "coprime": [30, 210, 2310, 30030, 510510],
     "dictionaries": [625, 1250, 2500, 5000, 40000],
@@ -42,6 +45,19 @@ SIZES = {
     "uses": [1250, 2500, 5000, 10000],
     "bindings": [1250, 2500, 5000, 10000],
     "parameters": [125, 250, 500, 1000],
+    "blocks": [4, 16, 64],
+    "links": [15, 60, 240],
+    "links-clash": [5, 20, 80],
+    "end-letter": [4, 8, 12],
+    "fields": [4, 16, 64],
+    "fields-diff": [4, 16, 64],
+    "fields-fit": [4, 16, 64],
+    "rings": [5, 15, 45],
+    "fan": [10, 50, 200],
+    "literals": [625, 2500, 10000],
+    "literals-clash": [50, 100, 200],
+    "trades": list(range(1, 11)),
+    "injections": [1, 2],
     "checked-classes": [1250, 2500, 5000, 10000, 20000],
     "checked-constants": [1250, 2500, 5000, 10000, 20000],
     "checked-denied": [1250, 2500, 5000, 10000, 20000],
@@ -100,15 +116,17 @@ def prove(path, without):
         seconds, used, _ = run([program, "--proof", proof.name], path)
         size = os.path.getsize(proof.name) / 1e6
         with open(proof.name, "rb") as lines:
-            expanded = sum(line.startswith(b"x ") for line in lines)
+            kinds = [KIND.match(line) for line in lines]
+        expanded = sum(it is not None and it.group() == b"x " for it in kinds)
+        counted = sum(it is not None for it in kinds)
         checked, memory = check(path, proof.name)
     rate = format(size / seconds, ".1f") if seconds else "-"
     each = format((used - START) * 1e6 / expanded, ".0f") if expanded >= 1000 else "-"
-    return columns(seconds, without) + f"{size:>9.1f}{rate:>8}{expanded:>9}{each:>7}" + columns(checked, seconds) + f"{memory:>9.1f}"
+    return columns(seconds, without) + f"{size:>9.1f}{rate:>8}{counted:>9}{expanded:>9}{each:>7}" + columns(checked, seconds) + f"{memory:>9.1f}"
 
 
 families = sys.argv[1:] or list(SIZES)
-print(f"{'family':<18}{'size':>7}" + "".join(f"{name:>12} s{'MB':>8}" for name in solvers) + f"{'ratio':>9}{'proof s':>11}{'times':>8}{'MB':>9}{'MB/s':>8}{'expanded':>9}{'bytes':>7}{'check s':>11}{'times':>8}{'MB':>9}  answer")
+print(f"{'family':<18}{'size':>7}" + "".join(f"{name:>12} s{'MB':>8}" for name in solvers) + f"{'ratio':>9}{'proof s':>11}{'times':>8}{'MB':>9}{'MB/s':>8}{'counted':>9}{'expanded':>9}{'bytes':>7}{'check s':>11}{'times':>8}{'MB':>9}  answer")
 for family in families:
     for size in SIZES[family]:
         with tempfile.NamedTemporaryFile(suffix=".smt2") as script:

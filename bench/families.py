@@ -29,6 +29,24 @@ each: few clauses, and so many that no values are left.
 make true.
 `alternatives`: one constant in one of so many regular expressions, and in one of so many others, of which each two clash.
 
+Of concatenations:
+`blocks`: so many constants in `(ab)*`, the one longer than i blocks, each two neighbours joined in `(ab)*` too; a check, one
+on a level where the first begins with b, and one behind it.
+`links`: a chain of so many concatenations of two neighbours, in `(ab)+`.
+`links-clash`: the same in `(ab)*`, where the first constant is of whole blocks and the last one is not.
+`end-letter`: two constants joined in `[ab]*a[ab]{n}`, of which the first is in `b+`.
+`fields`: so many fields without commas, joined between commas, in a line of one field more, which is written out.
+`fields-diff`, `fields-fit`: the same where the fields are of `(re.diff re.allchar ..)` and the line is a power, of one field
+more, and of as many.
+`rings`: so many constants of one letter, each with the next, and the last with the first, in `ab` or `ba`: an odd ring.
+`fan`: one constant of less than so many a, and behind it in so many concatenations another one of b, which together are
+not i times a and then b, for each i.
+`literals`: five constants of one letter at least, joined, equal to a literal of so many letters.
+`literals-clash`: two constants, joined, equal to so many a, of which the second ends with b.
+`trades`: what is put together of 5 to 8 parts, with a filter on each part and one on the whole: the odd ones are refused,
+the even ones get through: a URL, a mail address, a line of a log, an SQL query, an HTTP header.
+`injections`: user input between quotes in a query, with the filter that stops it, and one that lets it out of its quotes.
+
 Of definitions and `let`:
 `shared`: a truth value of two constants that is made of the one before twice, so often: a tree of two to the size leaves.
 `chain`: so many definitions, each the one before and that the constant is not one more word.
@@ -499,7 +517,170 @@ def parameters(size):
     return text
 
 
+def declared(names):
+    return "".join(f"(declare-const {name} String)\n" for name in names)
+
+
+def asserted(term):
+    return f"(assert {term})\n"
+
+
+def cat(*parts):
+    return "(str.++ " + " ".join(parts) + ")"
+
+
+def numbered(size):
+    return [f"y{i}" for i in range(size)]
+
+
+BLOCKS, WHOLE_BLOCKS = '(re.* (str.to_re "ab"))', '(re.+ (str.to_re "ab"))'
+
+
+def blocks(size):
+    names = numbered(size)
+    text = declared(names) + "".join(asserted(in_text(name, BLOCKS)) for name in names)
+    text += "".join(asserted(f"(not {in_text(name, loop(to_re('ab'), 0, i))})") for i, name in enumerate(names))
+    text += "".join(asserted(in_text(cat(one, two), BLOCKS)) for one, two in zip(names, names[1:]))
+    first = asserted(in_text("y0", '(re.+ (str.to_re "ba"))'))
+    return text + f"(check-sat)\n(push 1)\n{first}(check-sat)\n(pop 1)\n"
+
+
+def links_in(size, regex):
+    names = numbered(size + 1)
+    return declared(names) + "".join(asserted(in_text(cat(one, two), regex)) for one, two in zip(names, names[1:]))
+
+
+def links(size):
+    return links_in(size, WHOLE_BLOCKS)
+
+
+def links_clash(size):
+    text = links_in(size, BLOCKS) + asserted(in_text("y0", WHOLE_BLOCKS))
+    return text + asserted(in_text(f"y{size}", concat(to_re("a"), '(re.* (str.to_re "ba"))')))
+
+
+def end_letter(size):
+    letter = span("a", "b")
+    text = declared(["y0", "y1"]) + asserted(in_text("y0", '(re.+ (str.to_re "b"))'))
+    return text + asserted(in_text(cat("y0", "y1"), concat(f"(re.* {letter})", to_re("a"), power(letter, size))))
+
+
+def fields_in(size, field, line):
+    names = numbered(size)
+    text = declared(names) + "".join(asserted(in_text(name, field)) for name in names)
+    return text + asserted(in_text(cat(*' "," '.join(names).split()), line))
+
+
+OTHERS = either(span("\\u{0}", "+"), span("-", "\\u{2ffff}"))
+FIELD = f"(re.* {OTHERS})"
+LEFT_OUT = '(re.* (re.diff re.allchar (str.to_re ",")))'
+
+
+def fields(size):
+    return fields_in(size, FIELD, f" {to_re(',')} ".join([FIELD] * (size + 1)).join(["(re.++ ", ")"]))
+
+
+def fields_diff(size):
+    return fields_in(size, LEFT_OUT, concat(power(concat(LEFT_OUT, to_re(",")), size), LEFT_OUT))
+
+
+def fields_fit(size):
+    return fields_in(size, LEFT_OUT, concat(power(concat(LEFT_OUT, to_re(",")), size - 1), LEFT_OUT))
+
+
+def rings(size):
+    names = numbered(size)
+    text = declared(names) + "".join(asserted(in_text(name, span("a", "b"))) for name in names)
+    pairs = zip(names, [*names[1:], names[0]])
+    return text + "".join(asserted(in_text(cat(*it), union(["ab", "ba"]))) for it in pairs)
+
+
+def fan(size):
+    names, behind = numbered(size), '(re.+ (str.to_re "b"))'
+    text = declared(names) + in_re(loop(to_re("a"), 0, size - 1))
+    text += "".join(asserted(in_text(name, behind)) for name in names)
+    fronts = [power(to_re("a"), i) for i in range(size)]
+    both = [in_text(cat("x", name), concat(front, behind)) for name, front in zip(names, fronts)]
+    return text + "".join(asserted(f"(not {it})") for it in both)
+
+
+def literals(size):
+    names = numbered(5)
+    text = declared(names) + "".join(asserted(in_text(name, '(re.+ (re.range "a" "e"))')) for name in names)
+    return text + asserted(f'(= {cat(*names)} "{"".join("abcde"[i % 5] for i in range(size))}")')
+
+
+def literals_clash(size):
+    text = declared(["y0", "y1"]) + asserted(in_text("y1", concat('(re.* (str.to_re "a"))', to_re("b"))))
+    return text + asserted(f'(= {cat("y0", "y1")} "{"a" * size}")')
+
+
+def holding(text):
+    return concat(ALL, to_re(text), ALL)
+
+
+def without(text):
+    return comp(holding(text))
+
+
+def trades(size):
+    """Parts, each a name with its filter or a text, and two filters of the whole, of which the first refuses all."""
+    low, digit = span("a", "z"), span("0", "9")
+    name = f"(re.+ {low})"
+    some = f"(re.* {low})"
+    label = f"(re.+ {either(low, digit, to_re('-'))})"
+    host = concat(label, f"(re.* {concat(to_re('.'), label)})")
+    plain = f"(re.* {either(low, digit, to_re(' '))})"
+    trade = [
+        # scheme, host, port, path, query, fragment
+        ([("scheme", either(to_re("http"), to_re("https"))), "://", ("host", host), ":", ("port", loop(digit, 1, 5)),
+          ("path", f"(re.* {concat(to_re('/'), name)})"), "?", ("query", f"(re.* {either(low, to_re('='), to_re('&'))})"),
+          "#", ("fragment", some)], holding("/../"), holding("&admin=")),
+        # name, tag, host, top level, comment
+        ([("user", name), "+", ("tag", some), "@", ("host", label), ".", ("top", loop(low, 2, 6)), " (",
+          ("comment", plain), ")"], concat(ALL, to_re("@"), ALL, to_re("@"), ALL), holding("root+")),
+        # year, month, day, level, user, address, action, message
+        ([("year", power(digit, 4)), "-", ("month", power(digit, 2)), "-", ("day", power(digit, 2)), " ",
+          ("level", either(to_re("info"), to_re("warn"), to_re("error"))), " user=", ("user", name), " from=",
+          ("address", concat(loop(digit, 1, 3), power(concat(to_re("."), loop(digit, 1, 3)), 3))), " action=",
+          ("action", name), " ", ("message", plain)], holding("\\u{a}"), holding("user=admin from=")),
+        # columns, table, column, value, order
+        (["SELECT ", ("columns", concat(name, f"(re.* {concat(to_re(', '), name)})")), " FROM ", ("table", name), " WHERE ",
+          ("column", name), " = '", ("value", without("'")), "' ORDER BY ", ("order", name), " LIMIT ",
+          ("limit", loop(digit, 1, 4))], concat(ALL, to_re("'"), ALL, to_re("'"), ALL, to_re("'"), ALL), holding("--' ORDER")),
+        # field, media type, subtype, parameter, value, quality
+        ([("field", label), ": ", ("type", name), "/", ("subtype", label), "; ", ("parameter", name), "=", ("value", label),
+          "; q=", ("quality", concat(to_re("0."), digit))], holding("\\u{d}\\u{a}"), holding("text/html; charset=utf-8")),
+    ][(size - 1) // 2]
+    parts = trade[0]
+    names = [it for it in parts if isinstance(it, tuple)]
+    text = declared(it for it, _ in names) + "".join(asserted(in_text(*it)) for it in names)
+    whole = cat(*(it[0] if isinstance(it, tuple) else f'"{it}"' for it in parts))
+    return text + asserted(in_text(whole, trade[2 - size % 2]))
+
+
+def injections(size):
+    """The filter of the first one lets no quote through, the other one no quote with a blank behind it."""
+    text = asserted(in_text("x", without("'" if size == 1 else "' ")))
+    query = """(str.++ "SELECT * FROM users WHERE name = '" x "'")"""
+    outside = concat(without("'"), to_re("'"), without("'"), to_re("'"), ALL, to_re("OR"), ALL)
+    return text + asserted(in_text(query, outside))
+
+
 FAMILIES = {
+    "blocks": blocks,
+    "links": links,
+    "links-clash": links_clash,
+    "end-letter": end_letter,
+    "fields": fields,
+    "fields-diff": fields_diff,
+    "fields-fit": fields_fit,
+    "rings": rings,
+    "fan": fan,
+    "literals": literals,
+    "literals-clash": literals_clash,
+    "trades": trades,
+    "injections": injections,
     "shared": shared,
     "chain": chain,
     "uses": uses,
