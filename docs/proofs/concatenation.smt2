@@ -1,4 +1,6 @@
 (declare-const x String)
 (declare-const y String)
-(assert (= (str.++ x "b" y) "aba"))
+(assert (= x "a"))
+(assert (str.in_re (str.++ x y) (re.+ (str.to_re "ab"))))
+(assert (not (str.in_re y (re.++ (str.to_re "b") re.all))))
 (check-sat)
