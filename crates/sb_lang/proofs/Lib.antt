@@ -17,3 +17,4 @@ mod NormalFormFacts
 mod UnionFold
 mod IntersectionFold
 mod SameMembers
+mod AffixFacts

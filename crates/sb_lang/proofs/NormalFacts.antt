@@ -47,7 +47,7 @@ repeat-same_words L L' n m w h l =
 
 -- One character, a word, a range.
 
-one_range : (a b c : ℕ) → in_ranges ((a, b) ∷ []) c ≡ (nat_le a c && nat_le c b)
+pub one_range : (a b c : ℕ) → in_ranges ((a, b) ∷ []) c ≡ (nat_le a c && nat_le c b)
 unfolding in_ranges in_range
 one_range a b c = or-false (nat_le a c && nat_le c b)
   where
@@ -67,7 +67,7 @@ allchar_tells (c ∷ d ∷ w) h = long (length w)
     long n = grind (arith, nat_tests)
 
 -- a first part of one character
-cut-character : (test : ℕ → Bool) (M : Language) (d : ℕ) (w : List ℕ)
+pub cut-character : (test : ℕ → Bool) (M : Language) (d : ℕ) (w : List ℕ)
     → cut (λ u. one_character test (d ∷ u)) M w ≡ (test d && M w)
 cut-character test M d w = step (test d) refl
   where
@@ -84,10 +84,10 @@ cut-character test M d w = step (test d) refl
         fails is [] = is
         fails is (e ∷ u) = refl
 
-one_number : (c d : ℕ) → (nat_le c d && nat_le d c) ≡ (c == d)
+pub one_number : (c d : ℕ) → (nat_le c d && nat_le d c) ≡ (c == d)
 one_number c d = grind (arith, nat_tests)
 
-word_tells : (s w : List ℕ) → language (word_regex s) w ≡ is_word s w
+pub word_tells : (s w : List ℕ) → language (word_regex s) w ≡ is_word s w
 unfolding word_regex language some_language all_languages cut
 word_tells [] [] = refl
 word_tells [] (d ∷ w) = refl

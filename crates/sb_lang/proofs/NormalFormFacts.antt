@@ -22,11 +22,11 @@ is_normal_none : is_normal none ≡ true
 unfolding is_normal all_normal
 is_normal_none = refl
 
-is_normal_eps : is_normal eps ≡ true
+pub is_normal_eps : is_normal eps ≡ true
 unfolding is_normal all_normal
 is_normal_eps = refl
 
-is_normal_anything : is_normal anything ≡ true
+pub is_normal_anything : is_normal anything ≡ true
 unfolding is_normal all_normal mknot
 is_normal_anything = regex_eq-itself (neg none)
 
@@ -311,14 +311,14 @@ one_range_canonical a b le high = ap (λ x. x && true) (fits a b le high)
     fits : (a b : ℕ) → a ≤ b → b ≤ 0x2ffff → fits_from 0 (a, b) ≡ true
     fits a b le high = grind (arith, nat_tests)
 
-set_is_normal : (a b : ℕ) → a ≤ b → b ≤ 0x2ffff → is_normal (set ((a, b) ∷ [])) ≡ true
+pub set_is_normal : (a b : ℕ) → a ≤ b → b ≤ 0x2ffff → is_normal (set ((a, b) ∷ [])) ≡ true
 unfolding mkset
 set_is_normal a b le high = is_normal-mkset ((a, b) ∷ []) (one_range_canonical a b le high)
 
-character_below : (c : ℕ) → is_character c ≡ true → c ≤ 0x2ffff
+pub character_below : (c : ℕ) → is_character c ≡ true → c ≤ 0x2ffff
 character_below c h = leb-true c 0x2ffff h
 
-is_normal-word_regex : (w : List ℕ) → are_characters w ≡ true → is_normal (word_regex w) ≡ true
+pub is_normal-word_regex : (w : List ℕ) → are_characters w ≡ true → is_normal (word_regex w) ≡ true
 unfolding word_regex
 is_normal-word_regex [] h = is_normal_eps
 is_normal-word_regex (c ∷ w) h =

@@ -13,10 +13,13 @@ pub mod ConstructorLaws
 pub mod SortedLaws
 pub mod Normal
 pub mod NormalLaws
+pub mod Affixes
 pub mod Derivative
 pub mod DerivativeLaws
 pub mod Language
 pub mod NormalForm
 pub mod NormalFormLaws
 pub mod FoldLaws
+pub mod AffixLaws
 pub mod Examples
+pub mod AffixExamples

@@ -10,6 +10,7 @@
 //! There is no program code here. Each function is a law with an empty body: a caller calls it to have the law.
 #![tactic(auto)]
 
+pub mod affixes;
 pub mod constructors;
 pub mod derivative;
 pub mod fold;

@@ -4,6 +4,7 @@ use Rattle.std.specs.Ordering.{int_cmp, is_lt, is_eq}
 use Rattle.std.specs.List.{list_all, list_any, flat_map}
 use Rattle.sb_lang.specs.RegLan as reglan
 use Rattle.sb_lang.specs.RegLan.{RegLan}
+use Rattle.sb_lang.specs.Affixes.{is_prefix, is_suffix, is_inside}
 use Rattle.sb_lang.specs.Membership.{in_re, is_word}
 use Rattle.sb_meaning.specs.Terms.{Symbol, Term, Terms, constant, word, numeral, apply, parameter, no_terms, with_term}
 use Rattle.sb_meaning.specs.Terms as symbol
@@ -107,20 +108,6 @@ abbrev pub difference_of : List ℤ → ℤ
 difference_of [] = pos 0
 difference_of (n ∷ []) = pos 0 -ℤ n
 difference_of (n ∷ m ∷ ns) = n -ℤ sum_of (m ∷ ns)
-
--- the first word is a prefix of the second; it is a suffix; it stands somewhere in it
-abbrev pub is_prefix : List ℕ → List ℕ → Bool
-is_prefix [] w = true
-is_prefix (c ∷ v) [] = false
-is_prefix (c ∷ v) (d ∷ w) = (c == d) && is_prefix v w
-
-abbrev pub is_suffix : List ℕ → List ℕ → Bool
-is_suffix v [] = is_word v []
-is_suffix v (d ∷ w) = is_word v (d ∷ w) || is_suffix v w
-
-abbrev pub is_inside : List ℕ → List ℕ → Bool
-is_inside v [] = is_prefix v []
-is_inside v (d ∷ w) = is_prefix v (d ∷ w) || is_inside v w
 
 -- a test of two words
 abbrev pub of_two_words : (List ℕ → List ℕ → Bool) → List (List ℕ) → Bool
