@@ -5,4 +5,4 @@ pub use Rattle.sb_rulebook.proofs.ListFacts.{by_order}
 pub use Rattle.sb_rulebook.proofs.Accepting.{some_of, if_so, if_not, same_ok}
 pub use Rattle.sb_rulebook.proofs.KeptFacts.{table-push, NamesKept, names-kept}
 pub use Rattle.sb_rulebook.proofs.AskedTranslation.{asked_translation}
-pub use Rattle.sb_rulebook.proofs.TableStays.{Stays, AllStay, none_stay, one_stays, negated_stays, conjunction_stays, implication_stays, equivalence_stays, implications_stay, exclusive_from_stays, word_equality_stays, term_stays, argument, arguments_are}
+pub use Rattle.sb_rulebook.proofs.TableStays.{Stays, AllStay, none_stay, one_stays, negated_stays, conjunction_stays, implication_stays, equivalence_stays, implications_stay, exclusive_from_stays, word_equality_stays, affix_stays, term_stays, argument, arguments_are}

@@ -5,23 +5,24 @@ use Rattle.std.specs.List.{list_all}
 use Rattle.std.proofs.lemmas.Bool.{and_parts, and_from, false≢true}
 use Rattle.sb_lit.specs.declared.clause.Lit.{Lit}
 use Rattle.sb_lang.specs.OrderLaws.{OrderTellsApart}
+use Rattle.sb_lang.specs.Affixes.{beginning_with, ending_with, containing, prefixes, suffixes, factors}
 use Rattle.sb_meaning.specs.Terms.{Sort, boolean, integer, text, reglan, Symbol, Term, Terms, constant, word, numeral, apply, parameter, no_terms, with_term, terms_in}
 use Rattle.sb_meaning.specs.Terms as symbol
 use Rattle.sb_meaning.specs.Sorts.{sort_of, is_same_sort, arity_of, takes_sorts}
 use Rattle.sb_meaning.specs.Truth.{meaning_of, is_chain, are_pairs}
 use Rattle.sb_rulebook.specs.Atoms.{Atom, bool_atom}
 use Rattle.sb_rulebook.specs.Parts.{together, regex_meant, regex_of}
-use Rattle.sb_rulebook.specs.Translation.{negated, conjunction, disjunction, equivalence, implications, exclusive, choice, compared, truth_equality, equality, of_neighbours, of_pairs, all_true, only_one, member_of, of_literals, applied, translation, arguments_of}
+use Rattle.sb_rulebook.specs.Translation.{negated, conjunction, disjunction, equivalence, implications, exclusive, choice, compared, affix, truth_equality, equality, of_neighbours, of_pairs, all_true, only_one, member_of, of_terms, of_literals, applied, translation, arguments_of}
 use Rattle.sb_rulebook.proofs.TableStays.{AllStay, none_stay, one_stays, negated_stays, compared_stays, argument, arguments_are, Relation, PairStays, equality_by, equality_stays, literals_stay, neighbours_stay, pairs_stay, term_stays, list_stays}
 use Rattle.sb_script.proofs.CallerLemmas.{same_sort}
 use Rattle.sb_script.specs.Heads.{judged}
 use Rattle.sb_script.specs.WellSorted.{is_well_sorted, are_well_sorted_over}
-use Rattle.sb_script.specs.Fragment.{is_word_pair, is_linear_pair, is_membership_pair, sort_of_first, fits_applied, fits, each_fits, are_bounded, is_unmarked, are_in_fragment}
+use Rattle.sb_script.specs.Fragment.{is_word_pair, is_linear_pair, is_membership_pair, is_affix_pair, of_two, sort_of_first, fits_applied, fits, each_fits, are_bounded, is_unmarked, are_in_fragment}
 use Rattle.sb_script.specs.State.{State, live, live_terms}
 use Rattle.sb_script.specs.Sizes.{is_regular, has_short_words, size_of}
 use Rattle.sb_script.specs.Pieces.{is_ground, single_pieces}
 use Rattle.sb_rulebook.proofs.TakenArguments.{Each, any_term, test_of, IsTaken, taken, all_of_first}
-use Rattle.sb_rulebook.proofs.TableReached.{Reached, AllReached, given_reached, same_reached, then_reached, none_reached, one_reached, Is, positive_reached, negated_reached, conjunction_reached, disjunction_reached, equivalence_reached, implications_reached, exclusive_from_reached, all_true_reached, choice_reached, linear_pair, number_equality_reached, membership_reached, word_equality_reached}
+use Rattle.sb_rulebook.proofs.TableReached.{Reached, AllReached, given_reached, same_reached, then_reached, none_reached, one_reached, Is, positive_reached, negated_reached, conjunction_reached, disjunction_reached, equivalence_reached, implications_reached, exclusive_from_reached, all_true_reached, choice_reached, linear_pair, number_equality_reached, membership_reached, word_equality_reached, affix_reached}
 
 -- Regular expressions.
 
@@ -290,6 +291,14 @@ module _ (apart : OrderTellsApart) where
       parts.0
   member_reached (t ∷ R ∷ u ∷ ts) takes h = absurd (false≢true h)
 
+  of_terms_reached : (make : List Atom → Term → Term → Option Lit) (test : Term → Term → Bool)
+      → ((s t : Term) → test s t ≡ true → Reached (λ atoms. make atoms s t)) → (ts : List Term)
+      → of_two test ts ≡ true → Reached (λ atoms. of_terms (make atoms) (map (argument atoms) ts))
+  of_terms_reached make test reached (s ∷ t ∷ []) h = reached s t h
+  of_terms_reached make test reached [] h = absurd (false≢true h)
+  of_terms_reached make test reached (s ∷ []) h = absurd (false≢true h)
+  of_terms_reached make test reached (s ∷ t ∷ u ∷ ts) h = absurd (false≢true h)
+
   one_taken : (ts : List Term) → takes_sorts (arity_of symbol.core_not) (map sort_of ts) ≡ true → length ts ≡ 1
   one_taken [] takes = absurd (false≢true takes)
   one_taken (t ∷ []) takes = refl
@@ -355,6 +364,16 @@ module _ (apart : OrderTellsApart) where
   applied_reached symbol.at_least ts b are h = comparisons_back_reached (pos 0) ts h
   applied_reached symbol.greater ts b are h = comparisons_back_reached (neg_ℤ (pos 1)) ts h
   applied_reached symbol.str_in_re ts b are h = member_reached ts are.are_taken.takes h
+  applied_reached symbol.str_prefixof ts b are h =
+      of_terms_reached (λ atoms part whole. affix atoms beginning_with prefixes part whole) is_affix_pair
+      (affix_reached apart beginning_with prefixes) ts h
+  applied_reached symbol.str_suffixof ts b are h =
+      of_terms_reached (λ atoms part whole. affix atoms ending_with suffixes part whole) is_affix_pair
+      (affix_reached apart ending_with suffixes) ts h
+  applied_reached symbol.str_contains ts b are h =
+      of_terms_reached (λ atoms whole part. affix atoms containing factors part whole)
+      (λ whole part. is_affix_pair part whole) (λ whole part h. affix_reached apart containing factors part whole h)
+      ts h
   applied_reached _ ts b are h = absurd (false≢true h)
 
   -- Terms.

@@ -1,6 +1,5 @@
 -- Printed lines, gone through as lines and as texts.
 use Rattle.std.proofs.Common.{◌≡◌, ℕ, Bool, true, false, cond, List, [], ◌∷◌, ◌++◌, map, Ok, refl, ap, ap₂, subst, ◌∙◌}
-use Rattle.sb_reader.specs.Entries.{Entry}
 use Rattle.sb_script.specs.State as state
 use Rattle.sb_rulebook.specs.Lines.{Line}
 use Rattle.sb_rulebook.specs.Reading.{LineText, read, texts_of}

@@ -15,12 +15,12 @@ use Rattle.sb_lang.specs.OrderLaws.{OrderTellsApart}
 use Rattle.sb_meaning.specs.Terms.{Term}
 use Rattle.sb_rulebook.specs.Atoms.{Atom, in_atom, le_atom, sum_atom, and_atom, iff_atom, is_same_atom, number_of, is_one}
 use Rattle.sb_rulebook.specs.Parts.{together}
-use Rattle.sb_rulebook.specs.Translation.{positive, negated, in_order, conjunction_of, conjunction, disjunction, implication, equivalence, implications, exclusive_from, choice, bound, difference_bound, compared, membership, word_equality, number_equality, all_true}
+use Rattle.sb_rulebook.specs.Translation.{positive, negated, in_order, conjunction_of, conjunction, disjunction, implication, equivalence, implications, exclusive_from, choice, bound, difference_bound, compared, membership, word_equality, affix, number_equality, all_true}
 use Rattle.sb_rulebook.proofs.SameFacts.{atom_itself}
 use Rattle.sb_rulebook.proofs.TableStays.{Stays, AllStay, given_stays, together_one, no_literals, none_stay, one_stays, negated_stays, implication_stays, equivalence_stays, implications_stay, compared_stays}
-use Rattle.sb_script.specs.Fragment.{is_word_pair, is_small_difference, is_linear_pair}
+use Rattle.sb_script.specs.Fragment.{is_word_pair, is_small_difference, is_linear_pair, is_affix_pair}
 use Rattle.sb_script.specs.Sums.{Summand, Sum, subtracted, is_small, if_small, sum_of}
-use Rattle.sb_script.specs.Pieces.{single_pieces, ground_word}
+use Rattle.sb_script.specs.Pieces.{single_pieces, ground_word, whole_word}
 
 -- a value over some table that is larger than this one
 pub record Found {A : Type 0} (make : List Atom → Option A) (atoms : List Atom) : Type 0 where
@@ -245,3 +245,21 @@ module _ (apart : OrderTellsApart) where
           let here = there (ground_word a) parts.0 in
           membership_reached b (option_map word_regex (ground_word a))
           (record { value = word_regex here.value; is = ap (option_map word_regex) here.is }) parts.1
+
+  pub affix_reached : (holders parts : List ℕ → Regex) (part whole : Term) → is_affix_pair part whole ≡ true
+      → Reached (λ atoms. affix atoms holders parts part whole)
+  affix_reached holders parts part whole h = step (ground_word part) h
+    where
+      step : (o : Option (List ℕ)) → elim o as (λ _. Bool) [
+        | Some w ↦ is_some (single_pieces whole)
+        | None ↦ is_some (whole_word whole) && is_some (single_pieces part)
+      ] ≡ true → Reached (λ atoms. elim o as (λ _. Option Lit) [
+        | Some w ↦ membership atoms whole (Some (holders w))
+        | None ↦ membership atoms part (option_map parts (whole_word whole))
+      ])
+      step (Some w) h = membership_reached whole (Some (holders w)) (record { value = holders w; is = refl }) h
+      step None h =
+          let both = and_parts (is_some (whole_word whole)) (is_some (single_pieces part)) h in
+          let here = there (whole_word whole) both.0 in
+          membership_reached part (option_map parts (whole_word whole))
+          (record { value = parts here.value; is = ap (option_map parts) here.is }) both.1

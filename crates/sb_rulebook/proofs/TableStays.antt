@@ -7,14 +7,15 @@ use Rattle.sb_lit.specs.declared.clause.Lit.{Lit}
 use Rattle.sb_lit.specs.Clauses.{negation, literal_order}
 use Rattle.sb_lang.specs.Regex.{Regex}
 use Rattle.sb_lang.specs.Normal.{word_regex}
+use Rattle.sb_lang.specs.Affixes.{beginning_with, ending_with, containing, prefixes, suffixes, factors}
 use Rattle.sb_meaning.specs.Terms.{Sort, boolean, integer, text, reglan, Symbol, Term, Terms, constant, word, numeral, apply, parameter, no_terms, with_term, terms_in}
 use Rattle.sb_meaning.specs.Terms as symbol
 use Rattle.sb_meaning.specs.Sorts.{sort_of}
 use Rattle.sb_rulebook.specs.Atoms.{Atom, bool_atom, in_atom, le_atom, sum_atom, and_atom, iff_atom, is_same_atom, number_of, is_one}
 use Rattle.sb_rulebook.specs.Parts.{together, regex_of}
-use Rattle.sb_rulebook.specs.Translation.{positive, negated, in_order, conjunction_of, conjunction, disjunction, implication, equivalence, implications, exclusive_from, exclusive, choice, bound, difference_bound, compared, membership, word_equality, number_equality, truth_equality, Argument, equality, of_neighbours, of_pairs, all_true, only_one, member_of, of_literals, applied, translation, arguments_of}
+use Rattle.sb_rulebook.specs.Translation.{positive, negated, in_order, conjunction_of, conjunction, disjunction, implication, equivalence, implications, exclusive_from, exclusive, choice, bound, difference_bound, compared, membership, word_equality, affix, number_equality, truth_equality, Argument, equality, of_neighbours, of_pairs, all_true, only_one, member_of, of_terms, of_literals, applied, translation, arguments_of}
 use Rattle.sb_script.specs.Sums.{Summand, Sum, subtracted, if_small, sum_of}
-use Rattle.sb_script.specs.Pieces.{single_pieces, ground_word}
+use Rattle.sb_script.specs.Pieces.{single_pieces, ground_word, whole_word}
 
 -- what is made over a table is the same over each larger one
 pub record Stays {A : Type 0} (make : List Atom → Option A) : Type 0 where
@@ -188,6 +189,17 @@ word_equality_stays a b = step (ground_word b)
     step (Some w) = membership_stays a (Some (word_regex w))
     step None = membership_stays b (option_map word_regex (ground_word a))
 
+pub affix_stays : (holders parts : List ℕ → Regex) (part whole : Term)
+    → Stays (λ atoms. affix atoms holders parts part whole)
+affix_stays holders parts part whole = step (ground_word part)
+  where
+    step : (o : Option (List ℕ)) → Stays (λ atoms. elim o as (λ _. Option Lit) [
+      | Some w ↦ membership atoms whole (Some (holders w))
+      | None ↦ membership atoms part (option_map parts (whole_word whole))
+    ])
+    step (Some w) = membership_stays whole (Some (holders w))
+    step None = membership_stays part (option_map parts (whole_word whole))
+
 -- Arguments.
 
 -- a term with its literal
@@ -278,6 +290,13 @@ member_of_stays [] = given_stays None
 member_of_stays (t ∷ []) = given_stays None
 member_of_stays (t ∷ R ∷ u ∷ ts) = given_stays None
 
+of_terms_stays : (make : List Atom → Term → Term → Option Lit) → ((s t : Term) → Stays (λ atoms. make atoms s t))
+    → (ts : List Term) → Stays (λ atoms. of_terms (make atoms) (map (argument atoms) ts))
+of_terms_stays make stay (s ∷ t ∷ []) = stay s t
+of_terms_stays make stay [] = given_stays None
+of_terms_stays make stay (s ∷ []) = given_stays None
+of_terms_stays make stay (s ∷ t ∷ u ∷ ts) = given_stays None
+
 applied_stays : (s : Symbol) (ts : List Term) → TermsStay ts
     → Stays (λ atoms. applied atoms s (map (argument atoms) ts))
 applied_stays symbol.core_true ts all = conjunction_stays []
@@ -307,6 +326,15 @@ applied_stays symbol.greater ts all =
     all_true_stays (neighbours_stay (λ atoms a b. compared atoms (neg_ℤ (pos 1)) b.0 a.0)
     (λ a b s t. compared_stays (neg_ℤ (pos 1)) b a) ts all)
 applied_stays symbol.str_in_re ts all = member_of_stays ts
+applied_stays symbol.str_prefixof ts all =
+    of_terms_stays (λ atoms part whole. affix atoms beginning_with prefixes part whole)
+    (affix_stays beginning_with prefixes) ts
+applied_stays symbol.str_suffixof ts all =
+    of_terms_stays (λ atoms part whole. affix atoms ending_with suffixes part whole) (affix_stays ending_with suffixes)
+    ts
+applied_stays symbol.str_contains ts all =
+    of_terms_stays (λ atoms whole part. affix atoms containing factors part whole)
+    (λ whole part. affix_stays containing factors part whole) ts
 applied_stays _ ts all = given_stays None
 
 -- Terms.

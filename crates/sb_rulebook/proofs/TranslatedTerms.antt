@@ -7,23 +7,24 @@ use Rattle.std.proofs.lemmas.List.Folds.{list_all-append}
 use Rattle.sb_lit.specs.declared.clause.Lit.{Lit}
 use Rattle.sb_lang.specs.Regex.{Regex}
 use Rattle.sb_lang.specs.Normal.{word_regex}
+use Rattle.sb_lang.specs.Affixes.{beginning_with, ending_with, containing, prefixes, suffixes, factors}
 use Rattle.sb_meaning.specs.Terms.{Sort, boolean, integer, text, reglan, Symbol, Term, Terms, constant, word, numeral, apply, parameter, no_terms, with_term, terms_in}
 use Rattle.sb_meaning.specs.Terms as symbol
 use Rattle.sb_meaning.specs.Sorts.{of_each, sort_of, is_same_sort, arity_of, takes_sorts}
 use Rattle.sb_meaning.specs.Truth.{meaning_of, is_chain, are_pairs}
 use Rattle.sb_rulebook.specs.Atoms.{Atom, in_atom}
 use Rattle.sb_rulebook.specs.Parts.{together, regex_meant, regex_of}
-use Rattle.sb_rulebook.specs.Translation.{positive, negated, conjunction, disjunction, implications, exclusive, choice, difference_bound, compared, membership, word_equality, equivalence, truth_equality, equality, of_neighbours, of_pairs, all_true, only_one, member_of, of_literals, applied, translation}
+use Rattle.sb_rulebook.specs.Translation.{positive, negated, conjunction, disjunction, implications, exclusive, choice, difference_bound, compared, membership, word_equality, affix, equivalence, truth_equality, equality, of_neighbours, of_pairs, all_true, only_one, member_of, of_terms, of_literals, applied, translation}
 use Rattle.sb_rulebook.proofs.TableStays.{argument, arguments_are, Relation, equality_by}
 use Rattle.sb_rulebook.proofs.TakenArguments.{Each, any_term, test_of, IsTaken, taken, all_of_first}
 use Rattle.sb_script.proofs.CallerLemmas.{same_sort}
 use Rattle.sb_script.specs.Heads.{judged}
 use Rattle.sb_script.specs.WellSorted.{is_well_sorted, are_well_sorted_over}
-use Rattle.sb_script.specs.Fragment.{is_word_pair, is_small_difference, is_linear_pair, is_membership_pair, sort_of_first, fits_applied, fits, each_fits}
+use Rattle.sb_script.specs.Fragment.{is_word_pair, is_small_difference, is_linear_pair, is_membership_pair, is_affix_pair, of_two, sort_of_first, fits_applied, fits, each_fits}
 use Rattle.sb_script.specs.Sizes.{is_regular}
 use Rattle.sb_script.specs.SumLaws.{SmallBothWays}
 use Rattle.sb_script.specs.Sums.{Sum, subtracted, is_small, if_small, sum_of}
-use Rattle.sb_script.specs.Pieces.{single_pieces, ground_word}
+use Rattle.sb_script.specs.Pieces.{single_pieces, ground_word, whole_word}
 
 -- Parts of what is there are there.
 
@@ -98,6 +99,23 @@ module _ (both : SmallBothWays) (atoms : List Atom) where
           let parts = membership_there b (option_map word_regex (ground_word a)) h in
           and_from (is_some (ground_word a)) (is_some (single_pieces b))
           (mapped_there word_regex (ground_word a) parts.0) parts.1
+
+  affix_there : (holders parts : List ℕ → Regex) (part whole : Term)
+      → is_some (affix atoms holders parts part whole) ≡ true → is_affix_pair part whole ≡ true
+  affix_there holders parts part whole h = step (ground_word part) h
+    where
+      step : (o : Option (List ℕ)) → is_some (elim o as (λ _. Option Lit) [
+        | Some w ↦ membership atoms whole (Some (holders w))
+        | None ↦ membership atoms part (option_map parts (whole_word whole))
+      ]) ≡ true → elim o as (λ _. Bool) [
+        | Some w ↦ is_some (single_pieces whole)
+        | None ↦ is_some (whole_word whole) && is_some (single_pieces part)
+      ] ≡ true
+      step (Some w) h = (membership_there whole (Some (holders w)) h).1
+      step None h =
+          let both = membership_there part (option_map parts (whole_word whole)) h in
+          and_from (is_some (whole_word whole)) (is_some (single_pieces part))
+          (mapped_there parts (whole_word whole) both.0) both.1
 
   -- Arguments.
 
@@ -343,6 +361,14 @@ module _ (both : SmallBothWays) (atoms : List Atom) where
       and_from (is_some (single_pieces t)) (is_regular R) parts.1 (regular_there R parts.0)
   member_fits (t ∷ R ∷ u ∷ ts) h = h
 
+  of_terms_fit : (make : Term → Term → Option Lit) (test : Term → Term → Bool)
+      → ((s t : Term) → is_some (make s t) ≡ true → test s t ≡ true) → (ts : List Term)
+      → is_some (of_terms make (map (argument atoms) ts)) ≡ true → of_two test ts ≡ true
+  of_terms_fit make test fit [] h = h
+  of_terms_fit make test fit (s ∷ []) h = h
+  of_terms_fit make test fit (s ∷ t ∷ []) h = fit s t h
+  of_terms_fit make test fit (s ∷ t ∷ u ∷ ts) h = h
+
   -- Symbols.
 
   -- of no arguments each has a literal
@@ -376,6 +402,13 @@ module _ (both : SmallBothWays) (atoms : List Atom) where
       comparisons_back_fit (neg_ℤ (pos 1)) ts
       (all_there (neighbours (λ table a b. compared table (neg_ℤ (pos 1)) b.0 a.0) ts) h)
   applied_fits symbol.str_in_re ts b are each h = member_fits ts h
+  applied_fits symbol.str_prefixof ts b are each h =
+      of_terms_fit (affix atoms beginning_with prefixes) is_affix_pair (affix_there beginning_with prefixes) ts h
+  applied_fits symbol.str_suffixof ts b are each h =
+      of_terms_fit (affix atoms ending_with suffixes) is_affix_pair (affix_there ending_with suffixes) ts h
+  applied_fits symbol.str_contains ts b are each h =
+      of_terms_fit (λ whole part. affix atoms containing factors part whole) (λ whole part. is_affix_pair part whole)
+      (λ whole part h. affix_there containing factors part whole h) ts h
   applied_fits _ ts b are each h = absurd (false≢true h)
 
   -- Terms.

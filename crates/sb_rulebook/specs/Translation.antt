@@ -1,6 +1,6 @@
 -- The literal of a Bool term, over a table of atoms: it is true exactly where the term is. There is none where an
 -- atom that it needs is not in the table, or where the term is of a form that has no translation.
-use Rattle.std.specs.Prelude.{ℤ, pos, ◌-ℤ◌, neg_ℤ, true, int_le, if◌then◌else◌, List, [], ◌∷◌, map, Option, Some, None, option_map, option_and_then}
+use Rattle.std.specs.Prelude.{ℕ, ℤ, pos, ◌-ℤ◌, neg_ℤ, true, int_le, if◌then◌else◌, List, [], ◌∷◌, map, Option, Some, None, option_map, option_and_then}
 use Rattle.std.specs.Ordering.{is_gt}
 use Rattle.std.specs.List.{flat_map}
 use Rattle.std.specs.BTreeSet.{insert_key}
@@ -8,6 +8,7 @@ use Rattle.sb_lit.specs.declared.clause.Lit.{Lit}
 use Rattle.sb_lit.specs.Clauses.{negation, literal_order}
 use Rattle.sb_lang.specs.Regex.{Regex}
 use Rattle.sb_lang.specs.Normal.{word_regex}
+use Rattle.sb_lang.specs.Affixes.{beginning_with, ending_with, containing, prefixes, suffixes, factors}
 use Rattle.sb_meaning.specs.Terms.{Symbol, boolean, integer, text, reglan, Term, Terms, constant, apply, no_terms, with_term}
 use Rattle.sb_meaning.specs.Terms as symbol
 use Rattle.sb_meaning.specs.Sorts.{sort_of}
@@ -15,7 +16,7 @@ use Rattle.sb_meaning.specs.Truth.{neighbours, each_with_rest}
 use Rattle.sb_rulebook.specs.Atoms.{Atom, bool_atom, in_atom, le_atom, sum_atom, and_atom, iff_atom, number_of, is_one}
 use Rattle.sb_rulebook.specs.Parts.{together, regex_of}
 use Rattle.sb_script.specs.Sums.{Summand, Sum, subtracted, if_small, sum_of}
-use Rattle.sb_script.specs.Pieces.{single_pieces, ground_word}
+use Rattle.sb_script.specs.Pieces.{single_pieces, ground_word, whole_word}
 
 -- the literal of an atom
 abbrev pub positive : List Atom → Atom → Option Lit
@@ -102,6 +103,14 @@ word_equality atoms a b = elim (ground_word b) [
   | None ↦ membership atoms b (option_map word_regex (ground_word a))
 ]
 
+-- That one term is a part of the other: where it is a word, the whole is in the regex of what holds it so, else it is in
+-- the regex of such parts of the whole.
+abbrev pub affix : List Atom → (List ℕ → Regex) → (List ℕ → Regex) → Term → Term → Option Lit
+affix atoms holders parts part whole = elim (ground_word part) [
+  | Some w ↦ membership atoms whole (Some (holders w))
+  | None ↦ membership atoms part (option_map parts (whole_word whole))
+]
+
 abbrev pub number_equality : List Atom → Term → Term → Option Lit
 number_equality atoms a b =
     option_and_then (conjunction atoms) (together (compared atoms (pos 0) a b ∷ compared atoms (pos 0) b a ∷ []))
@@ -140,6 +149,11 @@ abbrev pub member_of : List Atom → List Argument → Option Lit
 member_of atoms (t ∷ R ∷ []) = membership atoms t.0 (regex_of R.0)
 member_of atoms _ = None
 
+-- of two terms
+abbrev pub of_terms : (Term → Term → Option Lit) → List Argument → Option Lit
+of_terms make (s ∷ t ∷ []) = make s.0 t.0
+of_terms make _ = None
+
 abbrev pub of_literals : (List Lit → Option Lit) → List Argument → Option Lit
 of_literals make arguments = option_and_then make (together (map (λ a. a.1) arguments))
 
@@ -164,6 +178,9 @@ applied atoms symbol.at_least arguments =
 applied atoms symbol.greater arguments =
     all_true atoms (of_neighbours (λ a b. compared atoms (neg_ℤ (pos 1)) b.0 a.0) arguments)
 applied atoms symbol.str_in_re arguments = member_of atoms arguments
+applied atoms symbol.str_prefixof arguments = of_terms (affix atoms beginning_with prefixes) arguments
+applied atoms symbol.str_suffixof arguments = of_terms (affix atoms ending_with suffixes) arguments
+applied atoms symbol.str_contains arguments = of_terms (λ whole part. affix atoms containing factors part whole) arguments
 applied atoms _ arguments = None
 
 abbrev mutual

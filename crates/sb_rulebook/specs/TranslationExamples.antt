@@ -1,7 +1,10 @@
 -- Computed examples of translations: each kind of term once.
-use Rattle.std.specs.Prelude.{◌≡◌, ℕ, pos, negsuc, true, false, List, [], ◌∷◌, codes, Option, Some, None, refl}
+use Rattle.std.specs.Prelude.{◌≡◌, ℕ, pos, negsuc, true, false, List, [], ◌∷◌, replicate, codes, Option, Some, None, refl}
 use Rattle.sb_lit.specs.declared.clause.Lit.{Lit}
-use Rattle.sb_lang.specs.Regex.{Regex, star, set, cat}
+use Rattle.sb_lang.specs.Regex.{Regex, eps, star, set, cat, alt, no_more, more}
+use Rattle.sb_lang.specs.Constructors.{anything}
+use Rattle.sb_lang.specs.Order.{codes as member_codes}
+use Rattle.sb_lang.specs.Affixes.{beginning_with, ending_with, containing, ends_of, prefixes, suffixes, factors}
 use Rattle.sb_meaning.specs.Terms.{Term, boolean, integer, text, constant, word, numeral, apply, terms_of}
 use Rattle.sb_meaning.specs.Terms as symbol
 use Rattle.sb_rulebook.specs.Atoms.{Atom, bool_atom, in_atom, le_atom, sum_atom, and_atom, iff_atom}
@@ -221,6 +224,86 @@ joined_in_a_regex = refl
 distinct_words : of_string (of symbol.core_distinct (x ∷ word (codes "a") ∷ word (codes "b") ∷ [])) ≡ Some (plus 5)
 unfolding computing
 distinct_words = refl
+
+-- Affixes: where the part is a word, the whole is in the regex of the words that hold it so; else the part is in the
+-- regex of such parts of the whole, which is a word of 1,000 characters at most.
+
+affix_regexes : Unit {0}
+unfolding computing beginning_with ending_with containing ends_of prefixes suffixes factors member_codes
+affix_regexes = tt
+
+abbrev affix_atoms : List Atom
+affix_atoms =
+    -- 0: x with a c behind it begins with ab. 1: x ends with ab. 2: ab stands in x
+    in_atom (constant_piece 0 ∷ word_piece (codes "c") ∷ []) (cat a (cat b anything))
+    ∷ in_atom (constant_piece 0 ∷ []) (cat anything (cat a b))
+    ∷ in_atom (constant_piece 0 ∷ []) (cat anything (cat a (cat b anything)))
+    -- 3: x is a prefix of ab. 4: a suffix. 5: a factor
+    ∷ in_atom (constant_piece 0 ∷ []) (alt (more eps (more (cat a (alt (more eps (more b no_more)))) no_more)))
+    ∷ in_atom (constant_piece 0 ∷ []) (alt (more eps (more b (more (cat a b) no_more))))
+    ∷ in_atom (constant_piece 0 ∷ [])
+    (alt (more eps (more b (more (cat a (alt (more eps (more b no_more)))) no_more))))
+    -- 6: ab begins with a. 7: it ends with a. 8: each word begins with the empty one
+    ∷ in_atom (word_piece (codes "ab") ∷ []) (cat a anything)
+    ∷ in_atom (word_piece (codes "ab") ∷ []) (cat anything a)
+    ∷ in_atom (constant_piece 0 ∷ []) anything ∷ []
+
+abbrev of_affix : Term → Option Lit
+of_affix t = translation affix_atoms t
+
+abbrev ab_word : Term
+ab_word = word (codes "ab")
+
+prefix_of_a_concatenation : of_affix (of symbol.str_prefixof (a_and_b ∷ joined (x ∷ word (codes "c") ∷ []) ∷ []))
+    ≡ Some (plus 0)
+unfolding affix_regexes
+prefix_of_a_concatenation = refl
+
+suffix_of_a_constant : of_affix (of symbol.str_suffixof (ab_word ∷ x ∷ [])) ≡ Some (plus 1)
+unfolding affix_regexes
+suffix_of_a_constant = refl
+
+-- the whole comes first
+word_in_a_constant : of_affix (of symbol.str_contains (x ∷ ab_word ∷ [])) ≡ Some (plus 2)
+unfolding affix_regexes
+word_in_a_constant = refl
+
+prefix_of_a_word : of_affix (of symbol.core_not (of symbol.str_prefixof (x ∷ ab_word ∷ []) ∷ [])) ≡ Some (minus 3)
+unfolding affix_regexes
+prefix_of_a_word = refl
+
+suffix_of_a_word : of_affix (of symbol.str_suffixof (x ∷ a_and_b ∷ [])) ≡ Some (plus 4)
+unfolding affix_regexes
+suffix_of_a_word = refl
+
+constant_in_a_word : of_affix (of symbol.str_contains (ab_word ∷ x ∷ [])) ≡ Some (plus 5)
+unfolding affix_regexes
+constant_in_a_word = refl
+
+-- of two words the part is the regex
+prefix_of_two_words : of_affix (of symbol.str_prefixof (word (codes "a") ∷ ab_word ∷ [])) ≡ Some (plus 6)
+unfolding affix_regexes
+prefix_of_two_words = refl
+
+suffix_of_two_words : of_affix (of symbol.str_suffixof (word (codes "a") ∷ ab_word ∷ [])) ≡ Some (plus 7)
+unfolding affix_regexes
+suffix_of_two_words = refl
+
+the_empty_prefix : of_affix (of symbol.str_prefixof (word [] ∷ x ∷ [])) ≡ Some (plus 8)
+unfolding affix_regexes
+the_empty_prefix = refl
+
+-- over no table
+affix_without_a_word : (atoms : List Atom) → translation atoms (of symbol.str_contains (x ∷ y ∷ [])) ≡ None
+affix_without_a_word atoms = refl
+
+a_constant_twice_in_a_whole : (atoms : List Atom)
+    → translation atoms (of symbol.str_suffixof (ab_word ∷ joined (x ∷ x ∷ []) ∷ [])) ≡ None
+a_constant_twice_in_a_whole atoms = refl
+
+too_long_a_whole : (atoms : List Atom)
+    → translation atoms (of symbol.str_prefixof (x ∷ word (replicate 1001 97) ∷ [])) ≡ None
+too_long_a_whole atoms = refl
 
 -- Int terms.
 

@@ -37,9 +37,6 @@ is_brought_symbol symbol.plus = false
 is_brought_symbol symbol.times = false
 is_brought_symbol symbol.minus = false
 is_brought_symbol symbol.str_len = false
-is_brought_symbol symbol.str_prefixof = false
-is_brought_symbol symbol.str_suffixof = false
-is_brought_symbol symbol.str_contains = false
 is_brought_symbol _ = true
 
 abbrev pub is_brought_sort : Sort → Bool
@@ -102,8 +99,8 @@ abbrev pub is_membership : Term → Bool
 is_membership t = elim (asked t) [ Some p ↦ is_regex p.1 | None ↦ false ]
 
 -- Boolean structure over memberships of String terms in such regular expressions, over String terms that are compared,
--- and over Bool constants, whatever stands in the String terms, and whatever the sizes are: that is for the rules of the
--- fragment.
+-- or of which one is said to be a prefix, a suffix or a factor of the other, and over Bool constants, whatever stands in
+-- the String terms, and whatever the sizes are: that is for the rules of the fragment.
 
 -- terms that are compared, by the sort of the first; each_is says that each of them is Boolean structure
 abbrev pub is_comparison : List Term → Bool → Bool
@@ -131,6 +128,9 @@ is_structure_by symbol.core_ite ts each_is = each_is
 is_structure_by symbol.core_equal ts each_is = is_comparison ts each_is
 is_structure_by symbol.core_distinct ts each_is = is_comparison ts each_is
 is_structure_by symbol.str_in_re ts each_is = is_in_regex ts
+is_structure_by symbol.str_prefixof ts each_is = true
+is_structure_by symbol.str_suffixof ts each_is = true
+is_structure_by symbol.str_contains ts each_is = true
 is_structure_by _ ts each_is = false
 
 abbrev mutual

@@ -6,7 +6,7 @@ use Rattle.sb_meaning.specs.Terms as symbol
 use Rattle.sb_meaning.specs.Sorts.{sort_of}
 use Rattle.sb_meaning.specs.Truth.{is_chain, are_pairs}
 use Rattle.sb_script.specs.Brought.{a_check_of, proofs, is_brought}
-use Rattle.sb_script.specs.Pieces.{single_pieces, ground_word}
+use Rattle.sb_script.specs.Pieces.{single_pieces, ground_word, whole_word}
 use Rattle.sb_script.specs.Sizes.{is_regular}
 use Rattle.sb_script.specs.Sums.{Sum, Variable, int_constant, length_of, subtracted, is_small, is_within, sum_of}
 use Rattle.sb_script.specs.Bounds.{Bound, lower_in, upper_in}
@@ -34,6 +34,19 @@ is_linear_pair a b = is_small_difference (sum_of a) (sum_of b)
 abbrev pub is_membership_pair : List Term → Bool
 is_membership_pair (t ∷ R ∷ []) = is_some (single_pieces t) && is_regular R
 is_membership_pair _ = false
+
+-- Affixes: of the part and the whole one has no constant, and in the other one each constant stands once at most; the
+-- whole is of 1,000 characters at most where it is the one without.
+abbrev pub is_affix_pair : Term → Term → Bool
+is_affix_pair part whole = elim (ground_word part) [
+  | Some w ↦ is_some (single_pieces whole)
+  | None ↦ is_some (whole_word whole) && is_some (single_pieces part)
+]
+
+-- of two arguments
+abbrev pub of_two : (Term → Term → Bool) → List Term → Bool
+of_two test (s ∷ t ∷ []) = test s t
+of_two test _ = false
 
 abbrev pub sort_of_first : List Term → Sort
 sort_of_first [] = boolean
@@ -65,9 +78,12 @@ fits_applied symbol.less ts each_fits = is_chain is_linear_pair ts
 fits_applied symbol.at_least ts each_fits = is_chain is_linear_pair ts
 fits_applied symbol.greater ts each_fits = is_chain is_linear_pair ts
 fits_applied symbol.str_in_re ts each_fits = is_membership_pair ts
+fits_applied symbol.str_prefixof ts each_fits = of_two is_affix_pair ts
+fits_applied symbol.str_suffixof ts each_fits = of_two is_affix_pair ts
+fits_applied symbol.str_contains ts each_fits = of_two (λ whole part. is_affix_pair part whole) ts
 fits_applied _ ts each_fits = false
 
--- Boolean structure over memberships, String equalities and linear arithmetic, within the limits on sizes
+-- Boolean structure over memberships, String equalities, affixes and linear arithmetic, within the limits on sizes
 abbrev mutual
   pub fits : Term → Bool
   fits (constant serial boolean) = true

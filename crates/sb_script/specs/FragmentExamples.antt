@@ -1,5 +1,5 @@
 -- Computed examples of what is decided: of what is brought so far, and of the whole fragment.
-use Rattle.std.specs.Prelude.{◌≡◌, pos, Bool, true, false, List, [], ◌∷◌, map, codes, Some, refl}
+use Rattle.std.specs.Prelude.{◌≡◌, ℕ, pos, Bool, true, false, List, [], ◌∷◌, map, replicate, codes, Some, refl}
 use Rattle.std.specs.List.{list_all, list_any}
 use Rattle.sb_meaning.specs.Terms.{Term, boolean, integer, text, constant, word, numeral, apply, no_terms, terms_of}
 use Rattle.sb_meaning.specs.Terms as symbol
@@ -140,7 +140,8 @@ structures =
     ∷ three symbol.core_distinct p of_x p ∷ three symbol.core_equal x a x ∷ two symbol.core_distinct a y
     ∷ two symbol.str_in_re joined all_words ∷ two symbol.str_in_re a all_words ∷ two symbol.core_equal x y
     ∷ three symbol.core_equal x a a ∷ three symbol.core_distinct x a y ∷ two symbol.core_distinct a a
-    ∷ one symbol.core_not (two symbol.core_equal joined aa) ∷ []
+    ∷ one symbol.core_not (two symbol.core_equal joined aa) ∷ two symbol.str_prefixof a x
+    ∷ two symbol.str_suffixof x y ∷ one symbol.core_not (two symbol.str_contains joined x) ∷ []
 
 each_is_structure : list_all is_structure structures ≡ true
 each_is_structure = refl
@@ -182,6 +183,34 @@ others_are_not : list_any is_decided
     (asserted (two symbol.str_in_re (two symbol.str_concat x x) all_words) ∷ asserted (two symbol.core_equal x y)
     ∷ asserted (two symbol.core_equal joined y) ∷ asserted (two symbol.str_in_re x of_y) ∷ a_mark ∷ []) ≡ false
 others_are_not = refl
+
+-- Affixes: one side is ground, and in the other each constant stands once at most, whichever is the part; the whole has
+-- 1,000 characters at most where the part is not ground.
+abbrev long_word : ℕ → Term
+long_word n = word (replicate n 97)
+
+affixes_fit : list_all fits
+    (two symbol.str_prefixof a x ∷ two symbol.str_prefixof x aa ∷ two symbol.str_suffixof joined a
+    ∷ two symbol.str_contains joined a ∷ two symbol.str_contains aa x ∷ two symbol.str_contains a aa
+    ∷ two symbol.str_suffixof (word []) joined ∷ two symbol.str_contains (long_word 1000) x
+    ∷ two symbol.str_contains x (long_word 1001) ∷ two symbol.str_prefixof a (long_word 1001)
+    ∷ one symbol.core_not (two symbol.str_prefixof x (long_word 1000)) ∷ []) ≡ true
+affixes_fit = refl
+
+affixes_outside : list_any fits
+    (two symbol.str_prefixof x y ∷ two symbol.str_contains y x ∷ two symbol.str_suffixof joined y
+    ∷ two symbol.str_prefixof a (two symbol.str_concat x x) ∷ two symbol.str_contains aa (three symbol.str_concat x a x)
+    ∷ two symbol.str_contains (long_word 1001) x ∷ two symbol.str_prefixof x (long_word 1001)
+    ∷ two symbol.str_suffixof x (long_word 1001) ∷ []) ≡ false
+affixes_outside = refl
+
+affixes_that_repeat : map repeats_variable
+    (two symbol.str_prefixof a (two symbol.str_concat x x) ∷ two symbol.str_contains x y ∷ []) ≡ true ∷ false ∷ []
+affixes_that_repeat = refl
+
+affixes_without_ground : map lacks_ground
+    (two symbol.str_prefixof a (two symbol.str_concat x x) ∷ two symbol.str_contains x y ∷ []) ≡ false ∷ true ∷ []
+affixes_without_ground = refl
 
 -- Sizes: a node of sort RegLan counts one, and a character of a word one; String terms are words and no nodes.
 sizes : map size_of

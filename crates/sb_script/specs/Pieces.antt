@@ -80,3 +80,7 @@ single_pieces t = option_and_then (λ ps. if are_single ps then Some ps else Non
 -- the word of a String term without constants
 abbrev pub ground_word : Term → Option (List ℕ)
 ground_word t = option_and_then word_of (pieces_of t)
+
+-- the same, of 1,000 characters at most: of such a word the parts are asked for
+abbrev pub whole_word : Term → Option (List ℕ)
+whole_word t = option_and_then (λ w. if nat_le (length w) 1000 then Some w else None) (ground_word t)

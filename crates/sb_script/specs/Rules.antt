@@ -1,6 +1,7 @@
 -- Two rules of the fragment by themselves, as a term keeps or breaks them: each constant stands once at most in a
--- membership's String term, and on each side of an equality of two String terms; and one side of such an equality is
--- ground, and so is the regular expression of a membership. Where both are kept, sizes alone may leave the fragment.
+-- membership's String term, and on each side of an equality of two String terms, or of an affix and what it is said to be
+-- one of; and one side of these is ground, and so is the regular expression of a membership. Where both are kept, sizes
+-- alone may leave the fragment.
 use Rattle.std.specs.Prelude.{ℕ, Bool, true, not, ◌&&◌, ◌||◌, ◌==◌, List, [], ◌∷◌, ◌++◌}
 use Rattle.std.specs.List.{list_any}
 use Rattle.sb_meaning.specs.Terms.{Symbol, boolean, integer, text, reglan, Term, Terms, constant, apply, no_terms, with_term, terms_in}
@@ -9,8 +10,8 @@ use Rattle.sb_meaning.specs.Truth.{is_chain, are_pairs}
 use Rattle.sb_script.specs.Fragment.{sort_of_first}
 use Rattle.sb_script.specs.Pieces.{is_ground}
 
--- A rule of memberships and of String equalities: a test of the arguments of each membership, and one of each two
--- String terms that are compared.
+-- A rule of memberships, of String equalities and of affixes: a test of the arguments of each membership, and one of each
+-- two String terms that are compared.
 pub record Rule : Type 0 where
   pub of_membership : List Term → Bool
   pub of_pair : Term → Term → Bool
@@ -28,6 +29,9 @@ abbrev pub keeps_applied : Rule → Symbol → List Term → Bool → Bool
 keeps_applied rule symbol.core_equal ts each_keeps = keeps_compared rule is_chain ts each_keeps
 keeps_applied rule symbol.core_distinct ts each_keeps = keeps_compared rule are_pairs ts each_keeps
 keeps_applied rule symbol.str_in_re ts each_keeps = rule.of_membership ts
+keeps_applied rule symbol.str_prefixof ts each_keeps = is_chain rule.of_pair ts
+keeps_applied rule symbol.str_suffixof ts each_keeps = is_chain rule.of_pair ts
+keeps_applied rule symbol.str_contains ts each_keeps = is_chain rule.of_pair ts
 keeps_applied rule _ ts each_keeps = each_keeps
 
 -- the term keeps the rule, wherever something that the rule speaks of stands in it

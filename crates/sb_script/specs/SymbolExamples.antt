@@ -176,13 +176,13 @@ left_out_uses : list_all (λ u. is_unsupported (judged u.0 u.1)) left_out ≡ tr
 left_out_uses = refl
 
 -- Of the names of the theories so many are read, with and without indices, and so many are left out.
-names_read : length (filter is_brought_row symbols_of_theories) ≡ 25
+names_read : length (filter is_brought_row symbols_of_theories) ≡ 28
 names_read = refl
 
 names_with_indices : length (filter is_brought_row indexed_symbols) ≡ 2
 names_with_indices = refl
 
-names_not_read : length left_out_names ≡ 31
+names_not_read : length left_out_names ≡ 28
 names_not_read = refl
 
 a_name_that_is_read : symbol_named (codes "re.opt") ≡ Some symbol.re_opt
@@ -190,6 +190,9 @@ a_name_that_is_read = refl
 
 a_name_of_words : symbol_named (codes "str.++") ≡ Some symbol.str_concat
 a_name_of_words = refl
+
+a_name_of_affixes : symbol_named (codes "str.contains") ≡ Some symbol.str_contains
+a_name_of_affixes = refl
 
 a_name_to_come : is_left_out (codes "str.len") ≡ true
 a_name_to_come = refl

@@ -1,5 +1,5 @@
 -- The literal of a term is true exactly where the term is.
-use Rattle.std.proofs.Common.{◌≡◌, Bool, true, false, not, ◌&&◌, if◌then◌else◌, List, [], ◌∷◌, ◌++◌, map, Option, Some, None, option_and_then, refl, sym, ap, ap₂, subst, ◌∙◌}
+use Rattle.std.proofs.Common.{◌≡◌, ℕ, Bool, true, false, not, ◌&&◌, if◌then◌else◌, List, [], ◌∷◌, ◌++◌, map, Option, Some, None, option_and_then, refl, sym, ap, ap₂, subst, ◌∙◌}
 use Rattle.std.specs.Prelude.{ℤ, pos, ◌-ℤ◌, neg_ℤ, int_le}
 use Rattle.std.specs.List.{list_all, flat_map}
 use Rattle.std.proofs.Math.Bool.{and-true, and_assoc}
@@ -8,21 +8,23 @@ use Rattle.std.proofs.lemmas.Option.{option_and_then_some}
 use Rattle.sb_lit.specs.declared.clause.Lit.{Lit}
 use Rattle.sb_lang.specs.OrderLaws.{OrderTellsApart}
 use Rattle.sb_lang.specs.NormalLaws.{NormalHasTermsWords}
+use Rattle.sb_lang.specs.Affixes.{is_prefix, is_suffix, is_inside, beginning_with, ending_with, containing, prefixes, suffixes, factors}
+use Rattle.sb_lang.specs.AffixLaws.{AffixesHaveTheirWords}
 use Rattle.sb_meaning.specs.Terms.{Sort, boolean, integer, text, reglan, Symbol, Term, Terms, constant, word, numeral, apply, parameter, no_terms, with_term}
 use Rattle.sb_meaning.specs.Terms as symbol
 use Rattle.sb_meaning.specs.Sorts.{sort_of}
 use Rattle.sb_meaning.specs.Values.{Value, Text, Int, Truth, Valuation, is_of, value_in}
-use Rattle.sb_meaning.specs.Truth.{Meaning, means_word, means_number, means_truth, means_reglan, meaning_of_value, number_in, truth_in, some_true, implied, xor_of, are_equal, is_chain, are_pairs, is_less, is_at_most, chosen, meaning_of, meanings_of}
+use Rattle.sb_meaning.specs.Truth.{Meaning, means_word, means_number, means_truth, means_reglan, meaning_of_value, word_in, number_in, truth_in, some_true, implied, xor_of, are_equal, is_chain, are_pairs, is_less, is_at_most, of_two_words, chosen, meaning_of, meanings_of}
 use Rattle.sb_meaning.specs.Truth as meaning
 use Rattle.sb_rulebook.specs.Atoms.{Atom, bool_atom}
 use Rattle.sb_rulebook.specs.Parts.{together}
-use Rattle.sb_rulebook.specs.Translation.{negated, conjunction, disjunction, implications, exclusive, choice, compared, word_equality, number_equality, equivalence, truth_equality, Argument, equality, of_neighbours, of_pairs, only_one, member_of, of_literals, translation, arguments_of}
+use Rattle.sb_rulebook.specs.Translation.{negated, conjunction, disjunction, implications, exclusive, choice, compared, word_equality, affix, number_equality, equivalence, truth_equality, Argument, equality, of_neighbours, of_pairs, only_one, member_of, of_terms, of_literals, translation, arguments_of}
 use Rattle.sb_rulebook.specs.Translation as rule
 use Rattle.sb_sound.specs.TermLaws.{fits_sorts, all_fit, PiecesKeepWord, SumsKeepNumber}
 use Rattle.sb_sound.specs.TranslationLaws.{TranslationHolds}
 use Rattle.sb_sound.proofs.AtomLiterals.{positive_holds}
 use Rattle.sb_sound.proofs.GateLiterals.{T, Says, SayEach, says_itself, says_other, says_negated, says_nothing, says_then, conjunction_says, all_true_literals, disjunction_says, implications_say, exclusive_says, equivalence_says, choice_says, front, nothing_together, say_none, say_one, all_say}
-use Rattle.sb_sound.proofs.WordLiterals.{Setting, declared_value, word_equality_says, member_says}
+use Rattle.sb_sound.proofs.WordLiterals.{Setting, declared_value, word_equality_says, IsTestOfWords, affix_says, member_says}
 use Rattle.sb_sound.proofs.NumberLiterals.{compared_says, number_equality_says, at_most_by_difference, less_by_difference}
 
 -- Arguments.
@@ -233,6 +235,31 @@ member_of_says v sorts atoms s [] good l h = absurd (Prim.cc (h))
 member_of_says v sorts atoms s (t ∷ []) good l h = absurd (Prim.cc (h))
 member_of_says v sorts atoms s (t ∷ R ∷ a ∷ rest) good l h = absurd (Prim.cc (h))
 
+of_terms_says : (v : Valuation) (sorts : List Sort) (atoms : List Atom) (make : Term → Term → Option Lit)
+    → (test : List ℕ → List ℕ → Bool)
+    → ((a b : Term) → fits_sorts sorts a ≡ true → fits_sorts sorts b ≡ true → (l : Lit) → make a b ≡ Some l
+    → IsTestOfWords v atoms test a b l)
+    → (arguments : List Argument) → AllTrueTo v sorts atoms arguments → (l : Lit) → of_terms make arguments ≡ Some l
+    → means_truth (of_two_words test (flat_map word_in (M v arguments))) ≡ means_truth (T v atoms l)
+of_terms_says v sorts atoms make test says (a ∷ b ∷ []) good l h =
+    let two = says a.0 b.0 good.0.fits good.1.0.fits l h in
+    ap₂ (λ m n. means_truth (of_two_words test (flat_map word_in (m ∷ n ∷ [])))) two.first_meaning two.second_meaning
+    ∙ ap (λ b. means_truth b) (sym two.truth)
+of_terms_says v sorts atoms make test says [] good l h = absurd (Prim.cc (h))
+of_terms_says v sorts atoms make test says (a ∷ []) good l h = absurd (Prim.cc (h))
+of_terms_says v sorts atoms make test says (a ∷ b ∷ c ∷ rest) good l h = absurd (Prim.cc (h))
+
+-- the same with the arguments turned
+turned : (v : Valuation) (atoms : List Atom) (test : List ℕ → List ℕ → Bool) (a b : Term) (l : Lit)
+    → IsTestOfWords v atoms test b a l → IsTestOfWords v atoms (λ u w. test w u) a b l
+turned v atoms test a b l two = record {
+  first = two.second;
+  second = two.first;
+  first_meaning = two.second_meaning;
+  second_meaning = two.first_meaning;
+  truth = two.truth;
+}
+
 applied_says : (v : Valuation) (sorts : List Sort) (atoms : List Atom) → Setting v sorts atoms
     → (f : Symbol) (arguments : List Argument) → AllTrueTo v sorts atoms arguments → (l : Lit)
     → rule.applied atoms f arguments ≡ Some l → meaning.applied f (M v arguments) ≡ means_truth (T v atoms l)
@@ -302,6 +329,20 @@ applied_says v sorts atoms s symbol.greater arguments good l h =
     (numbers_say v sorts atoms (λ a b. compared atoms (neg_ℤ (pos 1)) b.0 a.0) (λ m n. is_less n m)
     (compared_down v sorts atoms s (neg_ℤ (pos 1)) is_less less_by_difference) arguments good) l h))
 applied_says v sorts atoms s symbol.str_in_re arguments good l h = member_of_says v sorts atoms s arguments good l h
+applied_says v sorts atoms s symbol.str_prefixof arguments good l h =
+    of_terms_says v sorts atoms (affix atoms beginning_with prefixes) is_prefix
+    (affix_says v sorts atoms s beginning_with prefixes is_prefix
+    (record { wholes_have = s.affixes.beginnings; parts_have = s.affixes.prefixes_of })) arguments good l h
+applied_says v sorts atoms s symbol.str_suffixof arguments good l h =
+    of_terms_says v sorts atoms (affix atoms ending_with suffixes) is_suffix
+    (affix_says v sorts atoms s ending_with suffixes is_suffix
+    (record { wholes_have = s.affixes.endings; parts_have = s.affixes.suffixes_of })) arguments good l h
+applied_says v sorts atoms s symbol.str_contains arguments good l h =
+    of_terms_says v sorts atoms (λ whole part. affix atoms containing factors part whole) (λ t s. is_inside s t)
+    (λ whole part fits_whole fits_part l h. turned v atoms is_inside whole part l
+    (affix_says v sorts atoms s containing factors is_inside
+    (record { wholes_have = s.affixes.holders; parts_have = s.affixes.factors_of }) part whole fits_part fits_whole
+    l h)) arguments good l h
 applied_says v sorts atoms s _ arguments good l h = absurd (Prim.cc (h))
 
 -- Terms.
@@ -344,14 +385,16 @@ mutual
         terms_say v sorts atoms s terms parts.1,
       )
 
-pub translation_is_true : PiecesKeepWord → SumsKeepNumber → NormalHasTermsWords → OrderTellsApart → TranslationHolds
-translation_is_true pieces sums normals apart v sorts atoms t l table sorted fits h =
+pub translation_is_true : PiecesKeepWord → SumsKeepNumber → NormalHasTermsWords → AffixesHaveTheirWords
+    → OrderTellsApart → TranslationHolds
+translation_is_true pieces sums normals affixes apart v sorts atoms t l table sorted fits h =
     let s : Setting v sorts atoms = record {
       truth = positive_holds apart v atoms table;
       sorted = sorted;
       pieces = pieces;
       sums = sums;
       normals = normals;
+      affixes = affixes;
     } in
     sym (and-true (T v atoms l))
     ∙ sym (ap (λ m. meaning.all_true (truth_in m)) (term_says v sorts atoms s t fits l h))

@@ -1,5 +1,5 @@
--- Memberships of String terms, and equalities of them: the literal is true exactly where the words are so.
-use Rattle.std.proofs.Common.{◌≡◌, ℕ, Bool, true, false, ◌&&◌, ◌==◌, if◌then◌else◌, List, [], ◌∷◌, ◌++◌, Option, Some, None, option_map, option_and_then, refl, sym, ap, ap₂, subst, ◌∙◌, arith}
+-- Memberships of String terms, equalities of them and affixes: the literal is true exactly where the words are so.
+use Rattle.std.proofs.Common.{◌≡◌, ℕ, Bool, true, false, ◌&&◌, ◌==◌, nat_le, if◌then◌else◌, List, [], ◌∷◌, ◌++◌, length, Option, Some, None, option_map, option_and_then, refl, sym, ap, ap₂, subst, ◌∙◌, arith}
 use Rattle.std.specs.List.{flat_map}
 use Rattle.std.proofs.lemmas.List.{append-nil}
 use Rattle.std.proofs.lemmas.Option.{option_and_then_some}
@@ -12,6 +12,7 @@ use Rattle.sb_lang.specs.RegLan.{RegLan, re_word}
 use Rattle.sb_lang.specs.Membership.{in_re, is_word}
 use Rattle.sb_lang.specs.Normal.{normal, word_regex}
 use Rattle.sb_lang.specs.NormalLaws.{NormalHasTermsWords}
+use Rattle.sb_lang.specs.AffixLaws.{AffixesHaveTheirWords}
 use Rattle.sb_lang.specs.Language.{language}
 use Rattle.sb_meaning.specs.Terms.{Sort, boolean, integer, text, reglan, Symbol, Term, Terms, constant, word, numeral, apply, parameter, no_terms, with_term}
 use Rattle.sb_meaning.specs.Terms as symbol
@@ -20,12 +21,12 @@ use Rattle.sb_meaning.specs.Truth.{Meaning, means_word, means_number, means_trut
 use Rattle.sb_rulebook.specs.Atoms.{Atom, word_of_piece, in_atom}
 use Rattle.sb_rulebook.specs.AtomRules.{is_declared}
 use Rattle.sb_rulebook.specs.Parts.{regex_meant, regex_of}
-use Rattle.sb_rulebook.specs.Translation.{positive, membership, word_equality}
+use Rattle.sb_rulebook.specs.Translation.{positive, membership, word_equality, affix}
 use Rattle.sb_sound.specs.TermLaws.{HasSorts, fits_sorts, all_fit, PiecesKeepWord, SumsKeepNumber}
 use Rattle.sb_sound.proofs.PieceFacts.{declared_at}
 use Rattle.sb_sound.proofs.AtomLiterals.{HasAtomsTruth}
 use Rattle.sb_sound.proofs.GateLiterals.{T, Says}
-use Rattle.sb_script.specs.Pieces.{Piece, constant_piece, word_piece, is_ground, are_ground, word_of, pieces_of, are_single, single_pieces, ground_word}
+use Rattle.sb_script.specs.Pieces.{Piece, constant_piece, word_piece, is_ground, are_ground, word_of, pieces_of, are_single, single_pieces, ground_word, whole_word}
 use Rattle.sb_script.specs.Sizes.{is_regular}
 
 -- a table and a valuation, and the laws of terms
@@ -35,6 +36,7 @@ pub record Setting (v : Valuation) (sorts : List Sort) (atoms : List Atom) : Typ
   pub pieces : PiecesKeepWord
   pub sums : SumsKeepNumber
   pub normals : NormalHasTermsWords
+  pub affixes : AffixesHaveTheirWords
 
 -- A word that a term means is one of characters.
 
@@ -142,6 +144,9 @@ membership_says v sorts atoms s t fits o l h =
       truth = s.truth (in_atom ps r) l atom;
     }))
 
+the_regex : (q r : Regex) → Some q ≡ Some r → r ≡ q
+the_regex q r e = cc
+
 -- Equalities of words.
 
 word_of_words : (v : Valuation) (ps : List Piece) (w : List ℕ) → word_of ps ≡ Some w
@@ -190,9 +195,6 @@ word_equality_says v sorts atoms s a b fits_a fits_b l h = step (ground_word b) 
         ∙ word_regex_words s.normals w m.found m.characters
         ∙ is_word_turned w m.found
         ∙ sym (ap₂ are_equal m.meaning (ground_means v sorts atoms s b fits_b w e))
-      where
-        the_regex : (q r : Regex) → Some q ≡ Some r → r ≡ q
-        the_regex q r e = cc
     step None e h =
         let m = membership_says v sorts atoms s b fits_b (option_map word_regex (ground_word a)) l h in
         other m (ground_word a) refl m.there
@@ -207,9 +209,67 @@ word_equality_says v sorts atoms s a b fits_a fits_b l h = step (ground_word b) 
             ∙ ap (λ r. language r m.found) same
             ∙ word_regex_words s.normals w m.found m.characters
             ∙ sym (ap₂ are_equal (ground_means v sorts atoms s a fits_a w e) m.meaning)
-          where
-            the_regex : (q r : Regex) → Some q ≡ Some r → r ≡ q
-            the_regex q r e = cc
+
+-- Affixes.
+
+-- the regexes of the words that hold a word so, and of its parts, have the words that the test says
+pub record AreAffixes (holders parts : List ℕ → Regex) (test : List ℕ → List ℕ → Bool) : Type 0 where
+  pub wholes_have : (w u : List ℕ) → language (holders w) u ≡ test w u
+  pub parts_have : (w u : List ℕ) → language (parts w) u ≡ test u w
+
+-- the terms mean words, and the literal is true where the test of them is
+pub record IsTestOfWords (v : Valuation) (atoms : List Atom) (test : List ℕ → List ℕ → Bool) (a b : Term) (l : Lit)
+    : Type 0 where
+  pub first : List ℕ
+  pub second : List ℕ
+  pub first_meaning : meaning_of v a ≡ means_word first
+  pub second_meaning : meaning_of v b ≡ means_word second
+  pub truth : T v atoms l ≡ test first second
+
+whole_is_ground : (t : Term) (w : List ℕ) → whole_word t ≡ Some w → ground_word t ≡ Some w
+whole_is_ground t w h =
+    option_and_then_some (λ u. if nat_le (length u) 1000 then Some u else None) (ground_word t) w h
+    (λ u there short. there ∙ (some_if (nat_le (length u) 1000) (Some u) w short).1)
+
+pub affix_says : (v : Valuation) (sorts : List Sort) (atoms : List Atom) → Setting v sorts atoms
+    → (holders parts : List ℕ → Regex) (test : List ℕ → List ℕ → Bool) → AreAffixes holders parts test
+    → (part whole : Term) → fits_sorts sorts part ≡ true → fits_sorts sorts whole ≡ true → (l : Lit)
+    → affix atoms holders parts part whole ≡ Some l → IsTestOfWords v atoms test part whole l
+affix_says v sorts atoms s holders parts test are part whole fits_part fits_whole l h = step (ground_word part) refl h
+  where
+    step : (o : Option (List ℕ)) → ground_word part ≡ o
+        → (elim o [
+          | Some w ↦ membership atoms whole (Some (holders w))
+          | None ↦ membership atoms part (option_map parts (whole_word whole))
+        ]) ≡ Some l
+        → IsTestOfWords v atoms test part whole l
+    step (Some w) e h =
+        let m = membership_says v sorts atoms s whole fits_whole (Some (holders w)) l h in
+        record {
+          first = w;
+          second = m.found;
+          first_meaning = ground_means v sorts atoms s part fits_part w e;
+          second_meaning = m.meaning;
+          truth = m.truth
+              ∙ ap (λ r. language r m.found) (the_regex (holders w) m.regex m.there)
+              ∙ are.wholes_have w m.found;
+        }
+    step None e h =
+        let m = membership_says v sorts atoms s part fits_part (option_map parts (whole_word whole)) l h in
+        other m (whole_word whole) refl m.there
+      where
+        other : (m : IsMembership v atoms part (option_map parts (whole_word whole)) l) (o : Option (List ℕ))
+            → whole_word whole ≡ o → option_map parts o ≡ Some m.regex → IsTestOfWords v atoms test part whole l
+        other m None e h = absurd (Prim.cc (h))
+        other m (Some w) e h = record {
+          first = m.found;
+          second = w;
+          first_meaning = m.meaning;
+          second_meaning = ground_means v sorts atoms s whole fits_whole w (whole_is_ground whole w e);
+          truth = m.truth
+              ∙ ap (λ r. language r m.found) (the_regex (parts w) m.regex h)
+              ∙ are.parts_have w m.found;
+        }
 
 -- Memberships in the regex of a term.
 
@@ -234,10 +294,7 @@ record IsRegex (m : Meaning) (r : Regex) : Type 0 where
   is_normal : r ≡ normal term
 
 regex_is_meant : (m : Meaning) (r : Regex) → regex_meant m ≡ Some r → IsRegex m r
-regex_is_meant (means_reglan R) r h = record { term = R; meaning = refl; is_normal = same (normal R) r h }
-  where
-    same : (q r : Regex) → Some q ≡ Some r → r ≡ q
-    same q r e = cc
+regex_is_meant (means_reglan R) r h = record { term = R; meaning = refl; is_normal = the_regex (normal R) r h }
 regex_is_meant (means_word w) r h = absurd (Prim.cc (h))
 regex_is_meant (means_number n) r h = absurd (Prim.cc (h))
 regex_is_meant (means_truth b) r h = absurd (Prim.cc (h))

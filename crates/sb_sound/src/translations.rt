@@ -9,5 +9,6 @@ pub fn translation_holds()
     crate::terms::pieces_keep_word();
     crate::terms::sums_keep_number();
     sb_lang::normal::normal_has_terms_words();
+    sb_lang::affixes::affixes_have_their_words();
     sb_lang::order::order_tells_apart();
 }
