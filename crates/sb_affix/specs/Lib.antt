@@ -1,0 +1,2 @@
+pub mod AffixRegex
+pub mod PartRegex
