@@ -10,7 +10,7 @@ use Rattle.sb_fragment.specs.Measures.{IsMeasure, AreMeasures}
 pub use Rattle.sb_fragment.proofs.ComparedPairs.{compared_all, compared_map, pairs_all_test, map-map, map_same}
 pub use Rattle.sb_fragment.proofs.Arguments.{all_at, items_some, numbers_compared, terms_compared, number_at, pair_at, pair_within, pair_read, pairs_done}
 pub use Rattle.sb_fragment.proofs.InsideFacts.{inside_none, inside_all, inside_stays, inside_left, assertions_kept, front_of_front}
-pub use Rattle.sb_fragment.proofs.Structured.{asked_structure, connected_structure, structure_sort}
+pub use Rattle.sb_fragment.proofs.Structured.{asked_structure, connected_structure, structure_sort, affix_fits}
 
 pub measures_kept : (old new : List Term) (ms : List Measure) → Extends old new → AreMeasures old ms
     → AreMeasures new ms

@@ -1,11 +1,11 @@
 -- Which terms of Boolean structure are within the limits on sizes, by their shapes.
-use Rattle.std.proofs.Common.{◌≡◌, ℕ, ◌<◌, Bool, true, false, ◌&&◌, List, length, get_or, Some, refl, sym, subst, ap, ap₂, ◌∙◌, arith}
+use Rattle.std.proofs.Common.{◌≡◌, ℕ, ◌<◌, Bool, true, false, ◌&&◌, List, length, get_or, Some, refl, sym, subst, ap, ap₂, ◌∙◌}
 use Rattle.std.specs.List.{list_all}
 use Rattle.std.proofs.lemmas.Bool.{false≢true}
 use Rattle.std.proofs.Math.Bool.{and-true}
 use Rattle.sb_meaning.specs.Terms.{Sort, boolean, integer, text, reglan, Term, Terms, constant, apply, str_to_re, no_terms, with_term, terms_in}
 use Rattle.sb_script.specs.Brought.{asked, is_regex, is_structure}
-use Rattle.sb_script.specs.Fragment.{fits, each_fits, is_word_pair, is_linear_pair, sort_of_first}
+use Rattle.sb_script.specs.Fragment.{fits, each_fits, is_affix_pair, is_word_pair, is_linear_pair, sort_of_first}
 use Rattle.sb_script.specs.Sizes.{is_regular}
 use Rattle.sb_script.proofs.CallerLemmas.{asked_regular}
 use Rattle.sb_term.specs.Numbered.{term_at}
@@ -14,6 +14,7 @@ use Rattle.sb_problem.specs.declared.pattern.Pattern.{Pattern}
 use Rattle.sb_problem.specs.declared.pattern.Pattern.TheVariants.{Expression, Word}
 use Rattle.sb_fragment.specs.declared.fitting.Fit.{Fit}
 use Rattle.sb_fragment.specs.declared.measure.Measure.{Measure}
+use Rattle.sb_fragment.specs.declared.shape.AffixKind.{AffixKind}
 use Rattle.sb_fragment.specs.declared.shape.Connective.{Connective}
 use Rattle.sb_fragment.specs.declared.shape.Connective.TheVariants as connective
 use Rattle.sb_fragment.specs.declared.shape.Shape.TheVariants as shape
@@ -21,11 +22,11 @@ use Rattle.sb_fragment.specs.Compared.{each_two}
 use Rattle.sb_fragment.specs.Measures.{IsMeasure, AreMeasures}
 use Rattle.sb_fragment.specs.Measured.{joined, no_measure, applied_measure, within}
 use Rattle.sb_fragment.specs.Memberships.{in_re, is_in_re}
-use Rattle.sb_fragment.specs.Shapes.{IsApplied, IsComparison, IsConnected, IsShape, parts_of, truth_of, comparison_of}
+use Rattle.sb_fragment.specs.Shapes.{IsApplied, IsComparison, IsConnected, IsShape, parts_of, truth_of, comparison_of, affix}
 use Rattle.sb_fragment.specs.Fitting.{AreFit, IsFit, fit_with, fit_by, is_single, regex_fit}
 use Rattle.sb_fragment.proofs.MeasureFacts.{literal_is, regular_is}
 use Rattle.sb_fragment.proofs.SideFacts.{measured_at}
-use Rattle.sb_fragment.proofs.Structured.{asked_structure, always_structure, alone_structure, connected_structure, words_structure}
+use Rattle.sb_fragment.proofs.Structured.{asked_structure, always_structure, alone_structure, connected_structure, words_structure, affix_structure, affix_fits}
 
 fits_of_all : (terms : Terms) → each_fits terms ≡ list_all fits (terms_in terms)
 fits_of_all no_terms = refl
@@ -129,6 +130,21 @@ member_fit ts id a b fit single now is s f n =
 
 pub no_member : (t : Term) (fit : Fit) → is_in_re t ≡ false → is_in_re t ≡ true → IsFit t fit
 no_member t fit h k = absurd (false≢true (sym h ∙ k))
+
+-- Affixes.
+
+pub affix_fit : (t part whole : Term) (k : AffixKind) (both : Bool) → IsShape t (shape.Affix k)
+    → t ≡ affix k part whole → both ≡ is_affix_pair part whole → IsFit t (fit_with true both)
+affix_fit t part whole k both h is e = record {
+  structure = sym (affix_structure t k h);
+  fitting = e ∙ sym (ap₂ ◌&&◌ (affix_structure t k h) (ap fits is ∙ affix_fits k part whole));
+}
+
+pub no_affix : (t : Term) (k : AffixKind) → IsShape t (shape.Affix k) → fits t ≡ false → IsFit t (fit_with true false)
+no_affix t k h unfit = record {
+  structure = sym (affix_structure t k h);
+  fitting = sym (ap₂ ◌&&◌ (affix_structure t k h) unfit);
+}
 
 -- by the measure of a regular expression
 measured_fit : (R : Term) (m : Measure) → IsMeasure R m → fit_by m.is_regex (within m) ≡ regex_fit R

@@ -70,6 +70,9 @@ keeps_by rule (apply symbol.core_distinct terms) =
     compared_keeps rule true (terms_in terms) (each_keeps rule terms) (keeps_all rule terms)
     (sort_of_first (terms_in terms))
 keeps_by rule (apply symbol.str_in_re terms) = sym (and-true (rule.of_membership (terms_in terms)))
+keeps_by rule (apply symbol.str_prefixof terms) = sym (and-true (each_two false rule.of_pair (terms_in terms)))
+keeps_by rule (apply symbol.str_suffixof terms) = sym (and-true (each_two false rule.of_pair (terms_in terms)))
+keeps_by rule (apply symbol.str_contains terms) = sym (and-true (each_two false rule.of_pair (terms_in terms)))
 keeps_by rule (apply _ terms) = keeps_all rule terms
 
 pub keeps_down : (rule : Rule) → GoesDown ruled_parts (keeps rule)

@@ -1,5 +1,6 @@
--- String terms that are compared, or asked to be in a regular expression: their pieces and the constants in them.
-use Rattle.std.proofs.Common.{◌≡◌, ℕ, zero, suc, ◌<◌, ◌≤◌, Bool, true, false, ◌&&◌, nat_le, if◌then◌else◌, List, [], ◌∷◌, ◌++◌, length, drop, get_or, slice_get, Option, Some, None, option_map, refl, sym, ap, ap₂, ◌∙◌, arith}
+-- String terms that are compared, asked to be in a regular expression, or to be parts of others: their pieces and the
+-- constants in them.
+use Rattle.std.proofs.Common.{◌≡◌, ℕ, zero, suc, ◌<◌, ◌≤◌, Bool, true, false, ◌&&◌, nat_le, if◌then◌else◌, List, [], ◌∷◌, ◌++◌, length, drop, get_or, slice_get, Option, Some, None, option_map, Result, IfOk, refl, sym, ap, ap₂, ◌∙◌, arith}
 use Rattle.std.specs.Prelude.{is_some, option_and_then}
 use Rattle.std.specs.List.{list_all}
 use Rattle.std.proofs.lemmas.Bool.{false≢true}
@@ -7,23 +8,25 @@ use Rattle.std.proofs.lemmas.Bool.Decides.{nat_tests}
 use Rattle.std.proofs.lemmas.List.{drop_all}
 use Rattle.std.proofs.lemmas.Option.{none-some, same_Some, slice_get-get_or}
 use Rattle.std.proofs.Math.Bool.{and-true, and-false}
-use Rattle.sb_facts.proofs.CallerLemmas.{after_map}
+use Rattle.sb_facts.proofs.CallerLemmas.{after_map, ok_more}
 use Rattle.sb_meaning.specs.Terms.{text, Term, Terms, constant, word, apply, no_terms, with_term, terms_of}
 use Rattle.sb_meaning.specs.Terms as symbol
 use Rattle.sb_script.specs.Brought.{is_text, are_texts}
-use Rattle.sb_script.specs.Fragment.{is_word_pair}
-use Rattle.sb_script.specs.Pieces.{Piece, constant_piece, word_piece, onto_pieces, before_pieces, concatenation, if_short, are_single, pieces_of, all_pieces, single_pieces, ground_word}
+use Rattle.sb_script.specs.Fragment.{is_affix_pair, is_word_pair}
+use Rattle.sb_script.specs.Pieces.{Piece, constant_piece, word_piece, onto_pieces, before_pieces, concatenation, if_short, are_single, pieces_of, all_pieces, ground_word, whole_word}
 use Rattle.sb_script.specs.Rules.{constants_joined, constants_joined_in, has_each_once, stand_once}
 use Rattle.sb_script.specs.Sizes.{size_of}
 use Rattle.sb_term.specs.Numbered.{term_at, terms_at}
 use Rattle.sb_problem.specs.Taking.{constants_in, spelled}
-use Rattle.sb_problem.proofs.CallerLemmas.{after_then, short_is, short_text, long_text, other_opens, no_ground_word, short_ground_word, long_ground_word, text_single, single_constants}
+use Rattle.sb_problem.specs.Words.{letters_of}
+use Rattle.sb_problem.proofs.CallerLemmas.{after_then, short_is, text_size, short_text, long_text, other_opens, no_ground_word, short_ground_word, long_ground_word, text_single, single_constants}
 use Rattle.sb_fragment.specs.declared.measure.Measure.{Measure}
 use Rattle.sb_fragment.specs.declared.sides.Side.{Side}
 use Rattle.sb_fragment.specs.declared.sides.Behind.{Behind}
 use Rattle.sb_fragment.specs.Compared.{each_two, facing}
+use Rattle.sb_fragment.specs.Measured.{is_short_word, is_whole_word}
 use Rattle.sb_fragment.specs.Fitting.{is_short_text, is_single, side_in, is_nothing, behind_in, row_fits, with_side}
-use Rattle.sb_fragment.specs.Measures.{IsMeasure, AreMeasures}
+use Rattle.sb_fragment.specs.Measures.{within_limit, IsMeasure, AreMeasures}
 use Rattle.sb_fragment.proofs.ComparedPairs.{two_more}
 
 -- Words, by their size.
@@ -249,12 +252,116 @@ once_single ts ms i n d once h e l some is =
     ∙ sym (singles t
     ∙ ap (λ b. b && has_each_once t) (sym (measured_at ts ms i n d h e l).pieces ∙ some))
 
+pub short_measured : (ts : List Term) (ms : List Measure) (i n : ℕ) (d : Measure) (short : Bool) → AreMeasures ts ms
+    → n ≡ i → i < length ms → short ≡ is_short_word (get_or ms n d) → short ≡ is_short_text (term_at ts i)
+short_measured ts ms i n d short h e l is =
+    let measure = measured_at ts ms i n d h e l in
+    is ∙ (ap₂ ◌&&◌ measure.text measure.pieces ∙ sym (ground_words (term_at ts i)))
+
 abbrev made_side : Bool → Bool → Side
 made_side s c = record { is_short = s; is_single = c }
 
-pub side_measured : (ts : List Term) (ms : List Measure) (i n : ℕ) (d : Measure) (single : Bool) → AreMeasures ts ms
-    → n ≡ i → i < length ms → single ≡ is_single (term_at ts i)
-    → made_side ((get_or ms n d).is_text && (get_or ms n d).has_pieces) single ≡ side_in (term_at ts i)
-side_measured ts ms i n d single h e l is =
+pub side_measured : (ts : List Term) (ms : List Measure) (i n : ℕ) (d : Measure) (short single : Bool)
+    → AreMeasures ts ms → n ≡ i → i < length ms → short ≡ is_short_word (get_or ms n d)
+    → single ≡ is_single (term_at ts i) → made_side short single ≡ side_in (term_at ts i)
+side_measured ts ms i n d short single h e l made is = ap₂ made_side (short_measured ts ms i n d short h e l made) is
+
+-- A part and the whole of which it is said to be one.
+
+within_whole : (n : ℕ) → nat_le (within_limit n) 1000 ≡ nat_le n 1000
+within_whole n = grind (arith, nat_tests)
+
+too_many : (n : ℕ) → 65535 < n → false ≡ nat_le n 1000
+too_many n l = grind (arith, nat_tests, l)
+
+some_word : (b : Bool) (w : List ℕ) → is_some (if b then Some w else None) ≡ b
+some_word true w = refl
+some_word false w = refl
+
+abbrev few_of : Option (List ℕ) → Bool
+few_of o = is_some (option_and_then (λ w. if nat_le (length w) 1000 then Some w else None) o)
+
+whole_words : (t : Term) → is_some (whole_word t) ≡ (is_text t && nat_le (size_of t) 1000)
+whole_words t = step (is_text t) refl
+  where
+    step : (b : Bool) → is_text t ≡ b → is_some (whole_word t) ≡ (b && nat_le (size_of t) 1000)
+    step true h =
+        by_size t (λ b. is_some (whole_word t) ≡ nat_le (size_of t) 1000)
+        (λ few. ap few_of (short_ground_word t h few)
+        ∙ (some_word (nat_le (length (letters_of t)) 1000) (letters_of t)
+        ∙ ap (λ n. nat_le n 1000) (sym (text_size t h))))
+        (λ many. ap few_of (long_ground_word t h many) ∙ too_many (size_of t) many)
+    step false h = ap few_of (no_ground_word t h)
+
+whole_measured : (ts : List Term) (ms : List Measure) (i n : ℕ) (d : Measure) (small : Bool) → AreMeasures ts ms
+    → n ≡ i → i < length ms → small ≡ is_whole_word (get_or ms n d) → small ≡ is_some (whole_word (term_at ts i))
+whole_measured ts ms i n d small h e l is =
     let measure = measured_at ts ms i n d h e l in
-    ap₂ made_side (ap₂ ◌&&◌ measure.text measure.pieces ∙ sym (ground_words (term_at ts i))) is
+    is
+    ∙ (ap₂ (λ b m. b && nat_le m 1000) measure.text measure.size
+    ∙ (ap (λ b. is_text (term_at ts i) && b) (within_whole (size_of (term_at ts i)))
+    ∙ sym (whole_words (term_at ts i))))
+
+affix_by : (part whole : Term) → is_affix_pair part whole
+    ≡ (if is_short_text part then is_single whole else (is_some (whole_word whole) && is_single part))
+affix_by part whole =
+    by_option (ground_word part) (is_single whole) (is_some (whole_word whole) && is_single part)
+
+-- by whether the part is a word within the limit, and else whether the whole is one of 1,000 characters at most
+short_part : (part whole : Term) (short fit : Bool) → short ≡ is_short_text part → short ≡ true
+    → fit ≡ is_single whole → fit ≡ is_affix_pair part whole
+short_part part whole short fit s yes_short f =
+    f
+    ∙ sym (affix_by part whole
+    ∙ ap (λ (b : Bool). if b then is_single whole else (is_some (whole_word whole) && is_single part))
+    (sym s ∙ yes_short))
+
+long_part : (part whole : Term) (short small fit : Bool) → short ≡ is_short_text part → short ≡ false
+    → small ≡ is_some (whole_word whole) → fit ≡ (small && is_single part) → fit ≡ is_affix_pair part whole
+long_part part whole short small fit s not_short w f =
+    f
+    ∙ (ap (λ b. b && is_single part) w
+    ∙ sym (affix_by part whole
+    ∙ ap (λ (b : Bool). if b then is_single whole else (is_some (whole_word whole) && is_single part))
+    (sym s ∙ not_short)))
+
+pub affix_short : {E : Type 0} (ts : List Term) (ms : List Measure) (part whole n : ℕ) (d : Measure) (short : Bool)
+    (found : Result Bool E) → AreMeasures ts ms → n ≡ part → part < length ms → short ≡ is_short_word (get_or ms n d)
+    → short ≡ true → IfOk found (λ fit. fit ≡ is_single (term_at ts whole))
+    → IfOk found (λ fit. fit ≡ is_affix_pair (term_at ts part) (term_at ts whole))
+affix_short ts ms part whole n d short found h e l s is_short f =
+    ok_more (λ fit. fit ≡ is_single (term_at ts whole))
+    (λ fit. fit ≡ is_affix_pair (term_at ts part) (term_at ts whole)) found
+    (λ fit k. short_part (term_at ts part) (term_at ts whole) short fit (short_measured ts ms part n d short h e l s)
+    is_short k)
+    f
+
+-- the measures of both
+pub record AreLong (ts : List Term) (part whole : ℕ) (small : Bool) : Type 0 where
+  pub part_long : false ≡ is_short_text (term_at ts part)
+  pub whole_small : small ≡ is_some (whole_word (term_at ts whole))
+
+pub long_measured : (ts : List Term) (ms : List Measure) (part whole n m : ℕ) (d e : Measure) (short small : Bool)
+    → AreMeasures ts ms → n ≡ part → part < length ms → m ≡ whole → whole < length ms
+    → short ≡ is_short_word (get_or ms n d) → short ≡ false → small ≡ is_whole_word (get_or ms m e)
+    → AreLong ts part whole small
+long_measured ts ms part whole n m d e short small h at_part p at_whole w s not_short is = record {
+  part_long = sym not_short ∙ short_measured ts ms part n d short h at_part p s;
+  whole_small = whole_measured ts ms whole m e small h at_whole w is;
+}
+
+pub affix_whole : {E : Type 0} (ts : List Term) (part whole : ℕ) (small : Bool) (found : Result Bool E)
+    → AreLong ts part whole small → small ≡ true → IfOk found (λ fit. fit ≡ is_single (term_at ts part))
+    → IfOk found (λ fit. fit ≡ is_affix_pair (term_at ts part) (term_at ts whole))
+affix_whole ts part whole small found long is_small f =
+    ok_more (λ fit. fit ≡ is_single (term_at ts part))
+    (λ fit. fit ≡ is_affix_pair (term_at ts part) (term_at ts whole)) found
+    (λ fit k. long_part (term_at ts part) (term_at ts whole) false small fit long.part_long refl long.whole_small
+    (k ∙ ap (λ b. b && is_single (term_at ts part)) (sym is_small)))
+    f
+
+pub affix_none : (ts : List Term) (part whole : ℕ) (small : Bool) → AreLong ts part whole small → small ≡ false
+    → false ≡ is_affix_pair (term_at ts part) (term_at ts whole)
+affix_none ts part whole small long not_small =
+    long_part (term_at ts part) (term_at ts whole) false small false long.part_long refl long.whole_small
+    (ap (λ b. b && is_single (term_at ts part)) (sym not_small))

@@ -1,5 +1,5 @@
 -- Terms of Boolean structure by their shapes.
-use Rattle.std.proofs.Common.{◌≡◌, ℕ, suc, ◌-◌, ◌<◌, ◌≤◌, ◌==◌, Bool, true, false, ◌&&◌, List, [], ◌∷◌, length, take, drop, get_or, Some, refl, sym, ap, ◌∙◌, arith}
+use Rattle.std.proofs.Common.{◌≡◌, ℕ, suc, ◌-◌, ◌<◌, ◌≤◌, ◌==◌, Bool, true, false, ◌&&◌, List, [], ◌∷◌, length, take, drop, get_or, Some, refl, sym, ap, ap₂, ◌∙◌, arith}
 use Rattle.std.specs.List.{list_all}
 use Rattle.std.proofs.lemmas.Bool.{false≢true}
 use Rattle.std.proofs.lemmas.Bool.Decides.{nat_tests}
@@ -8,13 +8,15 @@ use Rattle.sb_meaning.specs.Terms.{Sort, boolean, integer, text, reglan, Symbol,
 use Rattle.sb_meaning.specs.Terms as symbol
 use Rattle.sb_meaning.specs.Sorts.{sort_of}
 use Rattle.sb_script.specs.Brought.{asked, is_regex, is_membership, is_structure, are_structure}
-use Rattle.sb_script.specs.Fragment.{sort_of_first}
+use Rattle.sb_script.specs.Fragment.{fits, of_two, is_affix_pair, sort_of_first}
 use Rattle.sb_script.proofs.CallerLemmas.{IsAsking, a_membership, a_word_behind, a_word_in_front, asked_looks}
 use Rattle.sb_term.specs.Numbered.{term_at, terms_at}
+use Rattle.sb_fragment.specs.declared.shape.AffixKind.{AffixKind}
+use Rattle.sb_fragment.specs.declared.shape.AffixKind.TheVariants as kind
 use Rattle.sb_fragment.specs.declared.shape.Connective.{Connective}
 use Rattle.sb_fragment.specs.declared.shape.Connective.TheVariants as connective
 use Rattle.sb_fragment.specs.declared.shape.Shape.TheVariants as shape
-use Rattle.sb_fragment.specs.Shapes.{IsApplied, IsComparison, IsConnected, IsShape, parts_of, truth_of, comparison_of}
+use Rattle.sb_fragment.specs.Shapes.{IsApplied, IsComparison, IsConnected, IsShape, parts_of, truth_of, comparison_of, affix}
 use Rattle.sb_fragment.proofs.AskedFacts.{asked_membership}
 
 pub terms_in_of : (ts : List Term) → terms_in (terms_of ts) ≡ ts
@@ -74,6 +76,11 @@ connected_structure t (connective.Compare distinct) h = compared_structure t dis
 pub words_structure : (t : Term) (distinct : Bool) → IsShape t (shape.Words distinct) → is_structure t ≡ true
 words_structure t true h = rw h.is (structure_by true h.terms text h.first)
 words_structure t false h = rw h.is (structure_by false h.terms text h.first)
+
+pub affix_structure : (t : Term) (k : AffixKind) → IsShape t (shape.Affix k) → is_structure t ≡ true
+affix_structure t kind.Prefix h = rw h.is refl
+affix_structure t kind.Suffix h = rw h.is refl
+affix_structure t kind.Factor h = rw h.is refl
 
 -- Comparisons of terms by number.
 
@@ -153,6 +160,53 @@ member_of_others ts (i ∷ []) other = refl
 member_of_others ts (i ∷ j ∷ []) other = absurd (other refl)
 member_of_others ts (i ∷ j ∷ k ∷ is) other = refl
 
+-- A part and the whole of which it is said to be one, by their numbers.
+
+-- the term is its symbol with its arguments
+applied_to : (ts : List Term) (t : Term) (s : Symbol) (is : List ℕ) → IsApplied t s → terms_at ts is ≡ parts_of t
+    → t ≡ apply s (terms_of (terms_at ts is))
+applied_to ts t s is h same =
+    h.is
+    ∙ ap (apply s) (sym (of_in h.terms) ∙ ap terms_of (sym (same ∙ ap parts_of h.is)))
+  where
+    of_in : (us : Terms) → terms_of (terms_in us) ≡ us
+    of_in no_terms = refl
+    of_in (with_term u us) = ap (λ vs. with_term u vs) (of_in us)
+
+pub two_applied : (ts : List Term) (t : Term) (s : Symbol) (is : List ℕ) (first second : ℕ) → IsApplied t s
+    → terms_at ts is ≡ parts_of t → 2 ≤ length is → length is < 3 → first ≡ get_or is 0 first
+    → second ≡ get_or is 1 second
+    → t ≡ apply s (with_term (term_at ts first) (with_term (term_at ts second) no_terms))
+two_applied ts t s [] first second h same low high at_first at_second = absurd (omega (arith, low))
+two_applied ts t s (i ∷ []) first second h same low high at_first at_second = absurd (omega (arith, low))
+two_applied ts t s (i ∷ j ∷ []) first second h same low high at_first at_second =
+    applied_to ts t s (i ∷ j ∷ []) h same
+    ∙ ap₂ (λ m n. apply s (with_term (term_at ts m) (with_term (term_at ts n) no_terms))) (sym at_first)
+    (sym at_second)
+two_applied ts t s (i ∷ j ∷ k ∷ is) first second h same low high at_first at_second = absurd (omega (arith, high))
+
+not_of_two : (test : Term → Term → Bool) (ts : List Term) (is : List ℕ) → (length is ≡ 2 → ⊥)
+    → of_two test (terms_in (terms_of (terms_at ts is))) ≡ false
+not_of_two test ts [] other = refl
+not_of_two test ts (i ∷ []) other = refl
+not_of_two test ts (i ∷ j ∷ []) other = absurd (other refl)
+not_of_two test ts (i ∷ j ∷ k ∷ is) other = refl
+
+pub others_unfit : (ts : List Term) (t : Term) (k : AffixKind) (is : List ℕ) → IsShape t (shape.Affix k)
+    → terms_at ts is ≡ parts_of t → (length is ≡ 2 → ⊥) → fits t ≡ false
+others_unfit ts t kind.Prefix is h same other =
+    ap fits (applied_to ts t symbol.str_prefixof is h same) ∙ not_of_two is_affix_pair ts is other
+others_unfit ts t kind.Suffix is h same other =
+    ap fits (applied_to ts t symbol.str_suffixof is h same) ∙ not_of_two is_affix_pair ts is other
+others_unfit ts t kind.Factor is h same other =
+    ap fits (applied_to ts t symbol.str_contains is h same)
+    ∙ not_of_two (λ whole part. is_affix_pair part whole) ts is other
+
+pub affix_fits : (k : AffixKind) (part whole : Term) → fits (affix k part whole) ≡ is_affix_pair part whole
+affix_fits kind.Prefix part whole = refl
+affix_fits kind.Suffix part whole = refl
+affix_fits kind.Factor part whole = refl
+
 -- Sorts of Boolean structure, and of what is compared in it.
 
 pub structure_sort : (t : Term) → is_structure t ≡ true → sort_of t ≡ boolean
@@ -174,6 +228,9 @@ structure_sort (apply symbol.core_ite terms) h = refl
 structure_sort (apply symbol.core_equal terms) h = refl
 structure_sort (apply symbol.core_distinct terms) h = refl
 structure_sort (apply symbol.str_in_re terms) h = refl
+structure_sort (apply symbol.str_prefixof terms) h = refl
+structure_sort (apply symbol.str_suffixof terms) h = refl
+structure_sort (apply symbol.str_contains terms) h = refl
 structure_sort (apply _ terms) h = absurd (false≢true h)
 
 -- What asks something of one constant's word.

@@ -1,5 +1,5 @@
 -- A check is decided exactly where each of its live assertions is: Boolean structure that fits asks for no bounds.
-use Rattle.std.proofs.Common.{◌≡◌, ℕ, suc, ◌<◌, Bool, true, false, ◌&&◌, List, [], ◌∷◌, ◌++◌, length, get_or, if◌then◌else◌, Option, Some, None, option_map, refl, sym, ap, ap₂, ◌∙◌, arith}
+use Rattle.std.proofs.Common.{◌≡◌, ℕ, suc, ◌<◌, Bool, true, false, ◌&&◌, nat_le, List, [], ◌∷◌, ◌++◌, length, get_or, if◌then◌else◌, Option, Some, None, refl, sym, ap, ap₂, ◌∙◌, arith}
 use Rattle.std.specs.Prelude.{is_some}
 use Rattle.std.specs.List.{list_all, flat_map}
 use Rattle.std.proofs.lemmas.Bool.{and_parts, false≢true}
@@ -12,9 +12,9 @@ use Rattle.sb_meaning.specs.Sorts.{sort_of, is_same_sort}
 use Rattle.sb_meaning.specs.Truth.{is_chain, are_pairs}
 use Rattle.sb_script.specs.Brought.{is_regex, are_regexes, is_text, is_structure, are_structure}
 use Rattle.sb_script.specs.Sums.{Variable}
-use Rattle.sb_script.specs.Fragment.{variables_in, variables_in_each, are_bounded, is_unmarked, fits, each_fits, is_word_pair, is_linear_pair, is_decided}
+use Rattle.sb_script.specs.Fragment.{variables_in, variables_in_each, are_bounded, is_unmarked, fits, each_fits, is_affix_pair, of_two, is_word_pair, is_linear_pair, is_decided}
 use Rattle.sb_script.specs.Fragment.{are_inside, are_in_fragment}
-use Rattle.sb_script.specs.Pieces.{Piece, word_of, are_single, pieces_of, single_pieces, ground_word}
+use Rattle.sb_script.specs.Pieces.{Piece, word_of, are_single, pieces_of, single_pieces, ground_word, whole_word}
 use Rattle.sb_script.specs.Sizes.{is_regular}
 use Rattle.sb_script.specs.State.{Assertion, asserted, a_mark, live, terms_in as asserted_terms}
 use Rattle.sb_fragment.specs.Compared.{each_two}
@@ -116,6 +116,35 @@ words_free distinct t (with_term v ts) sort h =
     let all = two_all distinct is_word_pair (λ x. variables_in x ≡ []) t v (terms_in ts) pair_free h in
     ap₂ (λ xs ys. xs ++ ys) all.0 (ap₂ (λ xs ys. xs ++ ys) all.1.0 (each_free ts all.1.1))
 
+-- Affixes.
+
+affix_free : (part whole : Term) → is_affix_pair part whole ≡ true
+    → (variables_in part ≡ []) × (variables_in whole ≡ [])
+affix_free part whole h = step (ground_word part) refl h
+  where
+    step : (o : Option (List ℕ)) → ground_word part ≡ o
+        → elim o as (λ _. Bool) [
+          | Some w ↦ is_some (single_pieces whole)
+          | None ↦ is_some (whole_word whole) && is_some (single_pieces part)
+        ] ≡ true → (variables_in part ≡ []) × (variables_in whole ≡ [])
+    step (Some w) e h = (ground_free part (ap is_some e), single_free whole h)
+    step None e h =
+        let parts = and_parts (is_some (whole_word whole)) (is_some (single_pieces part)) h in (
+          single_free part parts.1,
+          ground_free whole
+              (then_some (λ w. if nat_le (length w) 1000 then Some w else None) (ground_word whole) parts.0),
+        )
+
+two_free : (test : Term → Term → Bool) (terms : Terms) → of_two test (terms_in terms) ≡ true
+    → ((s t : Term) → test s t ≡ true → (variables_in s ≡ []) × (variables_in t ≡ [])) → variables_in_each terms ≡ []
+two_free test (with_term s (with_term t no_terms)) h both = let free = both s t h in
+    ap₂ (λ xs ys. xs ++ (ys ++ [])) free.0 free.1
+two_free test _ h both = absurd (false≢true h)
+
+contained_free : (whole part : Term) → is_affix_pair part whole ≡ true
+    → (variables_in whole ≡ []) × (variables_in part ≡ [])
+contained_free whole part h = let free = affix_free part whole h in (free.1, free.0)
+
 by_sort : (k : Sort) (truths fit sums words : Bool) (vs : List Variable)
     → elim k as (λ _. Bool) [ boolean ↦ truths | integer ↦ false | text ↦ true | reglan ↦ false ] ≡ true
     → elim k as (λ _. Bool) [ boolean ↦ fit | integer ↦ sums | text ↦ words | reglan ↦ false ] ≡ true
@@ -151,6 +180,10 @@ mutual
   of_structure (apply symbol.str_in_re (with_term t (with_term R no_terms))) h f =
       let parts = and_parts (is_some (single_pieces t)) (is_regular R) f in
       ap₂ (λ xs ys. xs ++ (ys ++ [])) (single_free t parts.0) (no_variables R h)
+  of_structure (apply symbol.str_prefixof terms) h f = two_free is_affix_pair terms f affix_free
+  of_structure (apply symbol.str_suffixof terms) h f = two_free is_affix_pair terms f affix_free
+  of_structure (apply symbol.str_contains terms) h f =
+      two_free (λ whole part. is_affix_pair part whole) terms f contained_free
   of_structure _ h f = absurd (false≢true h)
 
   of_each : (ts : Terms) → are_structure ts ≡ true → each_fits ts ≡ true

@@ -31,7 +31,7 @@ pub record AreFit (ts : List Term) (fit : Fit) : Type 0 where
 abbrev pub regex_fit : Term → Fit
 regex_fit R = fit_by (is_regex R) (is_regular R)
 
--- Sides of equalities, and String terms of memberships.
+-- Sides of equalities and of affixes, and String terms of memberships.
 
 -- the term is a word within the limit
 abbrev pub is_short_text : Term → Bool

@@ -1,11 +1,14 @@
 -- Computed examples of Boolean structure within the limits on sizes.
-use Rattle.std.specs.Prelude.{◌≡◌, ℕ, Bool, true, false, ◌&&◌, [], ◌∷◌, codes, refl}
+use Rattle.std.specs.Prelude.{◌≡◌, ℕ, Bool, true, false, ◌&&◌, [], ◌∷◌, replicate, codes, refl}
 use Rattle.sb_meaning.specs.Terms.{Term, boolean, text, constant, word, apply, terms_of}
 use Rattle.sb_meaning.specs.Terms as symbol
 use Rattle.sb_meaning.specs.Examples.{one, two, x}
 use Rattle.sb_script.specs.Brought.{is_structure}
 use Rattle.sb_script.specs.Fragment.{fits}
+use Rattle.sb_script.specs.State.{asserted}
 use Rattle.sb_fragment.specs.Compared.{compared}
+use Rattle.sb_fragment.specs.Rules.{is_broken}
+use Rattle.sb_fragment.specs.declared.rules.Reason.TheVariants.{RepeatedVariable, NotGround, TooLarge}
 
 abbrev is_fit : Term → Bool
 is_fit t = is_structure t && fits t
@@ -60,6 +63,43 @@ joined_chain = refl
 
 joined_twice : is_fit (two symbol.core_equal (two symbol.str_concat x x) a) ≡ false
 joined_twice = refl
+
+-- parts of words: one side is ground, and in the other one each constant stands once
+a_prefix : is_fit (two symbol.str_prefixof a (two symbol.str_concat x y)) ≡ true
+a_prefix = refl
+
+a_suffix : is_fit (two symbol.str_suffixof (two symbol.str_concat x y) (word (codes "ab"))) ≡ true
+a_suffix = refl
+
+-- what contains the other one stands in front
+a_factor : is_fit (one symbol.core_not (two symbol.str_contains (two symbol.str_concat x a) (word (codes "b")))) ≡ true
+a_factor = refl
+
+factor_twice : is_fit (two symbol.str_contains a (two symbol.str_concat x x)) ≡ false
+factor_twice = refl
+
+no_ground_side : is_fit (two symbol.str_suffixof x y) ≡ false
+no_ground_side = refl
+
+-- the prefixes of a word are asked for where it has 1,000 characters at most; a word may be one of a longer one
+longest_whole : is_fit (two symbol.str_prefixof x (word (replicate 1000 97))) ≡ true
+longest_whole = refl
+
+whole_too_long : is_fit (two symbol.str_prefixof x (word (replicate 1001 97))) ≡ false
+whole_too_long = refl
+
+prefix_of_longer : is_fit (two symbol.str_prefixof a (word (replicate 1001 97))) ≡ true
+prefix_of_longer = refl
+
+-- the rules that these break
+twice_in_a_part : is_broken RepeatedVariable (asserted (two symbol.str_contains a (two symbol.str_concat x x))) ≡ true
+twice_in_a_part = refl
+
+neither_is_ground : is_broken NotGround (asserted (two symbol.str_suffixof x y)) ≡ true
+neither_is_ground = refl
+
+too_large : is_broken TooLarge (asserted (two symbol.str_prefixof x (word (replicate 1001 97)))) ≡ true
+too_large = refl
 
 -- two constants are Boolean structure, and do not fit
 two_constants : is_fit (two symbol.core_or p (two symbol.core_equal x y)) ≡ false

@@ -136,6 +136,13 @@ node_measure all (node.Parameter place sort) = record {
 abbrev pub with_fit : Fit → Measure → Measure
 with_fit fit m = record m { is_structure = fit.is_structure; fits = fit.fits }
 
+-- a word within the limit, and one of 1,000 characters at most
+abbrev pub is_short_word : Measure → Bool
+is_short_word m = m.is_text && m.has_pieces
+
+abbrev pub is_whole_word : Measure → Bool
+is_whole_word m = m.is_text && nat_le m.size 1000
+
 -- no constants, and sizes within the limits
 abbrev pub within : Measure → Bool
 within m = (m.is_ground && m.is_short) && nat_le m.size 1000000

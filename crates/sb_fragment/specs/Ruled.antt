@@ -1,6 +1,6 @@
 -- Private: the two rules of the fragment that a term may break by its form, by what is asked at each of the terms that
 -- it is made of.
-use Rattle.std.specs.Prelude.{◌≡◌, ℕ, ◌<◌, Bool, true, false, ◌&&◌, ◌||◌, nat_lt, List, [], ◌∷◌, ◌++◌, length}
+use Rattle.std.specs.Prelude.{◌≡◌, ℕ, ◌<◌, Bool, true, false, ◌&&◌, ◌||◌, nat_lt, List, [], ◌∷◌, ◌++◌}
 use Rattle.std.specs.List.{list_all}
 use Rattle.sb_meaning.specs.Terms.{Sort, Symbol, boolean, integer, text, reglan, Term, apply, terms_in, terms_of}
 use Rattle.sb_meaning.specs.Terms as symbol
@@ -28,10 +28,14 @@ place_compared distinct integer = place.Nowhere
 place_compared distinct text = place.Words distinct
 place_compared distinct reglan = place.Nowhere
 
+-- an affix and the term of which it is to be one are asked as the sides of an equality are
 abbrev pub place_by : Symbol → List Term → Place
 place_by symbol.core_equal ts = place_compared false (sort_of_first ts)
 place_by symbol.core_distinct ts = place_compared true (sort_of_first ts)
 place_by symbol.str_in_re ts = place.Membership
+place_by symbol.str_prefixof ts = place.Words false
+place_by symbol.str_suffixof ts = place.Words false
+place_by symbol.str_contains ts = place.Words false
 place_by _ ts = place.Nowhere
 
 abbrev pub place_in : Term → Place

@@ -1,12 +1,14 @@
 -- The shapes of terms of Boolean structure (SMT-LIB 2.6, theory Core).
 use Rattle.std.specs.Prelude.{◌≡◌, ℕ, ◌<◌, ◌≤◌, Bool, true, false, ◌&&◌, nat_lt, if◌then◌else◌, List, [], length, map}
 use Rattle.std.specs.List.{list_all}
-use Rattle.sb_meaning.specs.Terms.{Sort, Symbol, boolean, text, Term, Terms, constant, apply, terms_in}
+use Rattle.sb_meaning.specs.Terms.{Sort, Symbol, boolean, text, Term, Terms, constant, apply, no_terms, with_term, terms_in}
 use Rattle.sb_meaning.specs.Terms as symbol
 use Rattle.sb_script.specs.Brought.{is_structure, is_text}
 use Rattle.sb_script.specs.Fragment.{sort_of_first}
 use Rattle.sb_term.specs.Numbered.{term_at}
 use Rattle.sb_fragment.specs.Memberships.{is_in_re}
+use Rattle.sb_fragment.specs.declared.shape.AffixKind.{AffixKind}
+use Rattle.sb_fragment.specs.declared.shape.AffixKind.TheVariants as kind
 use Rattle.sb_fragment.specs.declared.shape.Connective.{Connective}
 use Rattle.sb_fragment.specs.declared.shape.Connective.TheVariants as connective
 use Rattle.sb_fragment.specs.declared.shape.Shape.{Shape}
@@ -18,6 +20,18 @@ truth_of truth = if truth then symbol.core_true else symbol.core_false
 
 abbrev pub comparison_of : Bool → Symbol
 comparison_of distinct = if distinct then symbol.core_distinct else symbol.core_equal
+
+-- the symbol that says of one of two words that it is such a part of the other
+abbrev pub affix_of : AffixKind → Symbol
+affix_of kind.Prefix = symbol.str_prefixof
+affix_of kind.Suffix = symbol.str_suffixof
+affix_of kind.Factor = symbol.str_contains
+
+-- the term that says that the first one is such a part of the second
+abbrev pub affix : AffixKind → Term → Term → Term
+affix kind.Prefix part whole = apply symbol.str_prefixof (with_term part (with_term whole no_terms))
+affix kind.Suffix part whole = apply symbol.str_suffixof (with_term part (with_term whole no_terms))
+affix kind.Factor part whole = apply symbol.str_contains (with_term whole (with_term part no_terms))
 
 -- the arguments of a term
 abbrev pub parts_of : Term → List Term
@@ -53,6 +67,7 @@ IsShape t shape.Alone = (distinct : Bool) × IsComparison t distinct boolean × 
 IsShape t (shape.Connected c) = IsConnected t c
 IsShape t shape.Member = is_in_re t ≡ true
 IsShape t (shape.Words distinct) = IsComparison t distinct text
+IsShape t (shape.Affix k) = IsApplied t (affix_of k)
 IsShape t shape.Other = is_structure t ≡ false
 
 -- the sides of an equality of two String terms: the one that is to be a word, which is the second where it is one, and

@@ -8,13 +8,15 @@ ghost use Rattle.sb_problem.specs.Patterns.{number_of, pattern_in};
 ghost use Rattle.sb_fragment.specs.Measures.{AreMeasures};
 ghost use Rattle.sb_fragment.specs.Measured.{within};
 ghost use Rattle.sb_fragment.specs.Memberships.{is_in_re};
-ghost use Rattle.sb_fragment.specs.Shapes.{parts_of};
+ghost use Rattle.sb_fragment.specs.Shapes.{IsShape, parts_of};
 ghost use Rattle.sb_fragment.specs.Fitting.{AreFit, IsFit, fit_by, regex_fit};
+ghost use Rattle.sb_fragment.specs.declared.shape.Shape.TheVariants.{Affix};
 
+use crate::affixes::part_and_whole;
 use crate::measure::{Measure, is_within, literal_of};
 use crate::memberships::{membership, term_and_regex};
-use crate::shape::{Shape, arguments_of, shape_of};
-use crate::sides::{fit_words, is_single};
+use crate::shape::{AffixKind, Shape, arguments_of, shape_of};
+use crate::sides::{fit_part, fit_words, is_single};
 use sb_problem::Pattern;
 use sb_term::{Table, TermId};
 use std::alloc::{AllocError, Global};
@@ -24,7 +26,7 @@ use std::alloc::{AllocError, Global};
 pub(crate) struct Fit {
     /// It is Boolean structure, whatever the sizes are.
     pub(crate) is_structure: bool,
-    /// It is Boolean structure that keeps the rules of memberships and of equalities.
+    /// It is Boolean structure that keeps the rules of memberships, of equalities and of affixes.
     pub(crate) fits: bool,
 }
 
@@ -85,9 +87,37 @@ fn fit_member(
     })
 }
 
+/// What a term is that says of a String term that it is a prefix, a suffix or a factor of another.
+fn fit_affix(
+    alloc: Global,
+    table: &Table,
+    measures: &[Measure],
+    id: TermId,
+    kind: AffixKind,
+) -> Result<Fit, AllocError>
+    requires number { id < length table.now }
+    requires reached { id ≤ length measures.now }
+    requires right { AreMeasures table.now measures.now }
+    requires affix { IsShape (term_at table.now id) (Affix kind) }
+    ensures { IfOk result (λ fit. IsFit (term_at table.now id) fit) }
+{
+    let Some(pair) = part_and_whole(table, id, kind) else {
+        return Ok(Fit {
+            is_structure: true,
+            fits: false,
+        });
+    };
+    let fits = fit_part(alloc, table, measures, pair.0, pair.1)?;
+    Ok(Fit {
+        is_structure: true,
+        fits,
+    })
+}
+
 /// What a term is, where the measures of the terms before it are there, and each of its arguments is `parts`. Linear in
-/// the number of its arguments, but that String terms which are compared, or asked to be in a regular expression, are
-/// gone over, up to the first constant that stands twice. `AllocError` only for want of memory.
+/// the number of its arguments, but that String terms which are compared, asked to be in a regular expression, or to be
+/// a part of another one, are gone over, up to the first constant that stands twice. `AllocError` only for want of
+/// memory.
 pub(crate) fn fit_of(
     alloc: Global,
     table: &Table,
@@ -117,6 +147,7 @@ pub(crate) fn fit_of(
                 fits,
             })
         }
+        Shape::Affix(kind) => fit_affix(alloc, table, measures, id, kind),
         Shape::Other => Ok(OUTSIDE),
     }
 }

@@ -5,9 +5,10 @@
 //! that is shared is measured once, and there is no recursion on a term's tree. The layers above ask
 //! [`Fragment::stand`] of all live assertions, which keeps what it knows of them from one check to the next, and
 //! [`Measures::fits_structure`] of one. They take an assertion about one constant apart by [`membership`], and Boolean
-//! structure over memberships and comparisons by [`shape_of`].
+//! structure over memberships, comparisons and affixes by [`shape_of`].
 #![tactic(auto)]
 
+mod affixes;
 mod fitting;
 mod keeper;
 mod measure;
@@ -20,10 +21,11 @@ mod rules;
 mod shape;
 mod sides;
 
+pub use affixes::part_and_whole;
 pub use keeper::Fragment;
 pub use measure::Measure;
 pub use measures::{Measures, Sides};
 pub use memberships::{membership, term_and_regex};
 pub use pairs::compared;
 pub use rules::{Problem, Reason, Standing, fragment_is_of_each};
-pub use shape::{Connective, Shape, arguments_of, shape_of};
+pub use shape::{AffixKind, Connective, Shape, arguments_of, shape_of};

@@ -5,7 +5,7 @@ ghost use Rattle.sb_meaning.specs.Terms.{str_to_re, text};
 ghost use Rattle.sb_meaning.specs.Sorts.{is_same_sort};
 ghost use Rattle.sb_term.specs.Symbols.{sort_in, symbol_in};
 ghost use Rattle.sb_fragment.specs.Measures.{within_limit};
-ghost use Rattle.sb_fragment.specs.Measured.{is_text_by, has_pieces_by, is_regex_by, is_short_by, size_by, joined, no_measure, total, within, node_measure};
+ghost use Rattle.sb_fragment.specs.Measured.{is_text_by, has_pieces_by, is_regex_by, is_short_by, size_by, joined, no_measure, total, within, is_short_word, is_whole_word, node_measure};
 ghost use Rattle.sb_fragment.specs.Measured.{applied_measure};
 
 use sb_term::{Sort, Symbol, Term, TermId};
@@ -27,9 +27,11 @@ pub struct Measure {
     /// One for each application of sort RegLan in it and one for each character of its words, up to 1,000,001.
     pub size: u32,
     /// The term is Boolean structure, whatever the sizes are: made of Bool constants, of memberships in regular
-    /// expressions over words, and of comparisons of String terms.
+    /// expressions over words, and of String terms that are compared, or of which one is said to be a prefix, a suffix
+    /// or a factor of the other.
     pub is_structure: bool,
-    /// The term is Boolean structure that keeps all rules of memberships and of equalities, within the limits on sizes.
+    /// The term is Boolean structure that keeps all rules of memberships, of equalities and of affixes, within the
+    /// limits on sizes.
     pub fits: bool,
 }
 
@@ -242,4 +244,19 @@ pub(crate) fn is_within(measure: Measure) -> bool
     ensures { result ≡ within measure }
 {
     measure.is_ground && measure.is_short && measure.size <= SIZE_LIMIT
+}
+
+/// Whether the term is a word within the limit on sizes.
+pub(crate) fn is_short_word(measure: Measure) -> bool
+    ensures { result ≡ is_short_word measure }
+{
+    measure.is_text && measure.has_pieces
+}
+
+/// Whether the term is a word of 1,000 characters at most: of such a one the prefixes, the suffixes and the factors may
+/// be asked for.
+pub(crate) fn is_whole_word(measure: Measure) -> bool
+    ensures { result ≡ is_whole_word measure }
+{
+    measure.is_text && measure.size <= 1_000
 }

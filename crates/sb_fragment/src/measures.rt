@@ -97,8 +97,9 @@ impl Measures {
     }
 
     /// The measure of a term. Constant time where it, or a term with a larger number, was asked for; else linear in the
-    /// terms since the largest one that was, and their arguments, but that String terms which are compared there, or
-    /// asked to be in a regular expression, are gone over. `AllocError` only for want of memory.
+    /// terms since the largest one that was, and their arguments, but that String terms which are compared there, asked
+    /// to be in a regular expression, or to be a part of another one, are gone over. `AllocError` only for want of
+    /// memory.
     pub fn measure(&mut self, table: &Table, id: TermId) -> Result<Measure, AllocError>
         requires number { id < length table.now }
         requires right { AreMeasures table.now self.old }
@@ -150,8 +151,8 @@ impl Measures {
     }
 
     /// Whether a term is decided as an assertion: whether it is Boolean structure over memberships, over comparisons of
-    /// String terms, and over Bool constants, that keeps the rules of these, within the limits on sizes. Its cost and
-    /// its error are those of [`Measures::measure`].
+    /// String terms and over affixes, and over Bool constants, that keeps the rules of these, within the limits on
+    /// sizes. Its cost and its error are those of [`Measures::measure`].
     pub fn fits_structure(&mut self, table: &Table, id: TermId) -> Result<bool, AllocError>
         requires number { id < length table.now }
         requires right { AreMeasures table.now self.old }

@@ -17,7 +17,7 @@ use sb_term::{Sort, Symbol, Table, Term, TermId, put_all};
 use std::alloc::{AllocError, Global};
 use std::collections::BTreeSet;
 
-/// A rule of memberships, and of equalities of String terms.
+/// A rule of memberships, of equalities of String terms, and of affixes.
 #[derive(Clone, Copy, PartialEq, Eq)]
 pub(crate) enum Law {
     /// Each constant stands once at most on a side.
@@ -33,7 +33,8 @@ pub(crate) enum Place {
     Nowhere,
     /// It is a membership.
     Membership,
-    /// It compares String terms: each two where they are to be distinct, else each two neighbours.
+    /// It compares String terms: each two where they are to be distinct, else each two neighbours. So does what says of
+    /// one that it is a prefix, a suffix or a factor of the other.
     Words(bool),
 }
 
@@ -63,6 +64,7 @@ fn place_of(table: &Table, id: TermId) -> Place
         Symbol::Equal => place_compared(table, false, arguments.as_slice()),
         Symbol::Distinct => place_compared(table, true, arguments.as_slice()),
         Symbol::StrInRe => Place::Membership,
+        Symbol::StrPrefixOf | Symbol::StrSuffixOf | Symbol::StrContains => Place::Words(false),
         _ => Place::Nowhere,
     }
 }
@@ -260,8 +262,8 @@ fn keep_each(
 }
 
 /// Whether a term keeps a rule, wherever something that the rule speaks of stands in it. Each term that it is made of
-/// is asked once; that is linear in these and their arguments, times a logarithm, but that each side of an equality is
-/// gone over for constants, up to the first that stands twice.
+/// is asked once; that is linear in these and their arguments, times a logarithm, but that each side of an equality or
+/// of an affix is gone over for constants, up to the first that stands twice.
 pub(crate) fn keeps(
     measures: &mut Measures,
     table: &Table,

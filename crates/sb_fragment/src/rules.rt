@@ -17,12 +17,14 @@ use std::alloc::AllocError;
 pub enum Reason {
     /// An assertion was left out.
     Marked,
-    /// A constant stands twice in the String term of a membership, or on a side of an equality.
+    /// A constant stands twice in the String term of a membership, on a side of an equality, or in an affix or the term
+    /// of which it is to be one.
     RepeatedVariable,
-    /// A constant stands in the regular expression of a membership, or on both sides of an equality of String terms.
+    /// A constant stands in the regular expression of a membership, on both sides of an equality of String terms, or in
+    /// both an affix and the term of which it is to be one.
     NotGround,
     /// The assertion is of another form than those that are decided so far: Boolean structure over memberships in
-    /// regular expressions over words, comparisons of String terms, and Bool constants.
+    /// regular expressions over words, comparisons of String terms, affixes, and Bool constants.
     NotBrought,
     /// The assertion is of that form, but a word or a regular expression in it is past the limits on sizes.
     TooLarge,

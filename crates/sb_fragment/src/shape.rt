@@ -23,6 +23,17 @@ pub enum Connective {
     Compare(bool),
 }
 
+/// Which part of another word a word is said to be.
+#[derive(Clone, Copy, PartialEq, Eq)]
+pub enum AffixKind {
+    /// The other one begins with it.
+    Prefix,
+    /// The other one ends with it.
+    Suffix,
+    /// It stands somewhere in the other one.
+    Factor,
+}
+
 /// What a Bool term is by its symbol, where it asks nothing of one constant's word alone.
 #[derive(Clone, Copy, PartialEq, Eq)]
 pub enum Shape {
@@ -39,6 +50,8 @@ pub enum Shape {
     /// Its arguments, of which the first is of sort String, are all equal, or where they are to be distinct, each two
     /// differ.
     Words(bool),
+    /// It says of one of its arguments that it is such a part of the other one.
+    Affix(AffixKind),
     /// None of these.
     Other,
 }
@@ -85,6 +98,9 @@ fn applied(table: &Table, symbol: Symbol, arguments: &[TermId]) -> Shape
         Symbol::Equal => comparison(table, false, arguments),
         Symbol::Distinct => comparison(table, true, arguments),
         Symbol::StrInRe => member(arguments),
+        Symbol::StrPrefixOf => Shape::Affix(AffixKind::Prefix),
+        Symbol::StrSuffixOf => Shape::Affix(AffixKind::Suffix),
+        Symbol::StrContains => Shape::Affix(AffixKind::Factor),
         _ => Shape::Other,
     }
 }

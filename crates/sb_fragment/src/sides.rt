@@ -1,13 +1,14 @@
-//! String terms that are compared, or asked to be in a regular expression, as the rules of the fragment see them.
+//! String terms that are compared, asked to be in a regular expression, or to be parts of others, as the rules of the
+//! fragment see them.
 
 ghost use Rattle.std.specs.Prelude.{◌≡◌, ◌<◌, length, All, IfOk};
-ghost use Rattle.sb_script.specs.Fragment.{is_word_pair};
+ghost use Rattle.sb_script.specs.Fragment.{is_affix_pair, is_word_pair};
 ghost use Rattle.sb_term.specs.Numbered.{term_at, terms_at};
 ghost use Rattle.sb_fragment.specs.Compared.{each_two};
 ghost use Rattle.sb_fragment.specs.Measures.{AreMeasures};
 ghost use Rattle.sb_fragment.specs.Fitting.{is_single, row_fits, side_in, with_side};
 
-use crate::measure::Measure;
+use crate::measure::{Measure, is_short_word, is_whole_word};
 use crate::repeated::has_each_once;
 use sb_term::{Table, TermId};
 use std::alloc::{AllocError, Global};
@@ -64,9 +65,9 @@ fn side_of(
     ensures { IfOk result (λ side. side ≡ side_in (term_at table.now id)) }
 {
     let single = is_single(alloc, table, measures, id)?;
-    let measure = measures[id.number()];
+    let is_short = is_short_word(measures[id.number()]);
     Ok(Side {
-        is_short: measure.is_text & measure.has_pieces,
+        is_short,
         is_single: single,
     })
 }
@@ -124,4 +125,29 @@ pub(crate) fn fit_words(
         behind = with_side(distinct, side, behind);
     }
     Ok(all)
+}
+
+/// Whether a part and the whole of which it is said to be one fit: one of them is a word, the part within the limit or
+/// else the whole of 1,000 characters at most, and in the other one each constant stands once. That one alone is gone
+/// over.
+pub(crate) fn fit_part(
+    alloc: Global,
+    table: &Table,
+    measures: &[Measure],
+    part: TermId,
+    whole: TermId,
+) -> Result<bool, AllocError>
+    requires part { part < length measures.now }
+    requires whole { whole < length measures.now }
+    requires right { AreMeasures table.now measures.now }
+    ensures { IfOk result
+        (λ fit. fit ≡ is_affix_pair (term_at table.now part) (term_at table.now whole)) }
+{
+    if is_short_word(measures[part.number()]) {
+        return is_single(alloc, table, measures, whole);
+    }
+    if is_whole_word(measures[whole.number()]) {
+        return is_single(alloc, table, measures, part);
+    }
+    Ok(false)
 }

@@ -56,7 +56,7 @@ const WORDS_OF_SCRIPTS: [&[u8]; 38] = [
 ];
 
 /// The names of the theories that are not read.
-const LEFT_OUT: [&[u8]; 31] = [
+const LEFT_OUT: [&[u8]; 28] = [
     b"<=",
     b"<",
     b">=",
@@ -65,9 +65,6 @@ const LEFT_OUT: [&[u8]; 31] = [
     b"*",
     b"-",
     b"str.len",
-    b"str.prefixof",
-    b"str.suffixof",
-    b"str.contains",
     b"div",
     b"mod",
     b"abs",
@@ -104,6 +101,9 @@ const SYMBOLS: &[(&[u8], Symbol)] = &[
     (b"distinct", Symbol::Distinct),
     (b"str.++", Symbol::StrConcat),
     (b"str.in_re", Symbol::StrInRe),
+    (b"str.prefixof", Symbol::StrPrefixOf),
+    (b"str.suffixof", Symbol::StrSuffixOf),
+    (b"str.contains", Symbol::StrContains),
     (b"str.to_re", Symbol::StrToRe),
     (b"re.none", Symbol::ReNone),
     (b"re.all", Symbol::ReAll),

@@ -21,6 +21,14 @@ fit_words-requires c = record {
   right = c.requires.right;
 }
 
+pub fit_affix-requires : goal.fit_affix-requires
+fit_affix-requires c = record {
+  number = c.requires.number;
+  reached = c.requires.reached;
+  right = c.requires.right;
+  affix = rw c.in-Affix.is at c.shape_of.ensures;
+}
+
 pub returns-in-Some : goal.returns-in-Some
 returns-in-Some c =
     asked_fit (term_at c.args.table.now c.args.id) c.in-Some.field-0-0.0

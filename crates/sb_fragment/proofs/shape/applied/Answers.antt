@@ -27,5 +27,17 @@ returns-in-Xor c = rw c.in-Xor.is (applied_with _ (terms_of (terms_at c.args.tab
 pub returns-in-Ite : goal.returns-in-Ite
 returns-in-Ite c = rw c.in-Ite.is (applied_with _ (terms_of (terms_at c.args.table.now c.args.arguments.now)))
 
+pub returns-in-StrPrefixOf : goal.returns-in-StrPrefixOf
+returns-in-StrPrefixOf c =
+    rw c.in-StrPrefixOf.is (applied_with _ (terms_of (terms_at c.args.table.now c.args.arguments.now)))
+
+pub returns-in-StrSuffixOf : goal.returns-in-StrSuffixOf
+returns-in-StrSuffixOf c =
+    rw c.in-StrSuffixOf.is (applied_with _ (terms_of (terms_at c.args.table.now c.args.arguments.now)))
+
+pub returns-in-StrContains : goal.returns-in-StrContains
+returns-in-StrContains c =
+    rw c.in-StrContains.is (applied_with _ (terms_of (terms_at c.args.table.now c.args.arguments.now)))
+
 pub returns-in-StrInRe : goal.returns-in-StrInRe
 returns-in-StrInRe c = rw c.in-StrInRe.is (c.member.ensures c.args.table.now)
