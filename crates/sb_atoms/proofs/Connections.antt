@@ -9,12 +9,14 @@ use Rattle.sb_script.specs.Brought.{asked, is_structure}
 use Rattle.sb_script.specs.Fragment.{sort_of_first}
 use Rattle.sb_script.proofs.CallerLemmas.{IsAsking, a_membership, a_word_behind, a_word_in_front, asked_looks}
 use Rattle.sb_term.specs.Descending.{GoesDown}
+use Rattle.sb_fragment.specs.declared.shape.AffixKind.{AffixKind}
+use Rattle.sb_fragment.specs.declared.shape.AffixKind.TheVariants as kind
 use Rattle.sb_fragment.specs.declared.shape.Connective.{Connective}
 use Rattle.sb_fragment.specs.declared.shape.Connective.TheVariants as connective
 use Rattle.sb_fragment.specs.declared.shape.Shape.{Shape}
 use Rattle.sb_fragment.specs.declared.shape.Shape.TheVariants as shape
 use Rattle.sb_fragment.specs.Memberships.{is_in_re}
-use Rattle.sb_fragment.specs.Shapes.{IsComparison, IsConnected, IsShape, parts_of, comparison_of}
+use Rattle.sb_fragment.specs.Shapes.{IsApplied, IsComparison, IsConnected, IsShape, parts_of, comparison_of, affix_of}
 use Rattle.sb_fragment.proofs.CallerLemmas.{connected_structure}
 use Rattle.sb_atoms.specs.Translated.{has_declared}
 use Rattle.sb_atoms.specs.Reaching.{is_connective, is_boolean, are_several, are_truths, is_connection, connected_parts}
@@ -73,6 +75,12 @@ member_is : (t : Term) → is_in_re t ≡ true → false ≡ is_connection t
 member_is (apply symbol.str_in_re (with_term u (with_term R no_terms))) h = refl
 member_is _ h = absurd (false≢true h)
 
+-- an affix is none
+affix_is : (t : Term) (k : AffixKind) → IsApplied t (affix_of k) → false ≡ is_connection t
+affix_is t kind.Prefix h = sym (ap is_connection h.is)
+affix_is t kind.Suffix h = sym (ap is_connection h.is)
+affix_is t kind.Factor h = sym (ap is_connection h.is)
+
 pub shape_is : (t : Term) (s : Shape) → IsShape t s → is_structure t ≡ true → is_connective s ≡ is_connection t
 shape_is t (shape.Constant serial) h structure = sym (ap is_connection h)
 shape_is t (shape.Always true) h structure = sym (ap is_connection h.is)
@@ -83,6 +91,7 @@ shape_is t (shape.Connected c) h structure = sym (connected_is t c h)
 shape_is t shape.Member h structure = member_is t h
 shape_is t (shape.Words distinct) h structure =
     sym (compared_is t distinct text h ∙ and-false (are_several (parts_of t)))
+shape_is t (shape.Affix k) h structure = affix_is t k h
 shape_is t shape.Other h structure = absurd (false≢true (sym h ∙ structure))
 
 pub asked_is : (t : Term) (serial : ℕ) (R : Term) → asked t ≡ Some (serial, R) → false ≡ is_connection t

@@ -46,7 +46,7 @@ use Rattle.sb_atoms.proofs.Structured.{signed_none}
 use Rattle.sb_atoms.proofs.TextFacts.{membership_some}
 use Rattle.sb_atoms.proofs.Translating.{apart_in, apart_bool}
 
-named_below : (new : List (AtomOver ℕ)) (l : Lit) (a : AtomOver ℕ) → Names new l.atom a
+pub named_below : (new : List (AtomOver ℕ)) (l : Lit) (a : AtomOver ℕ) → Names new l.atom a
     → is_below (length new) l ≡ true
 named_below new l a h = let within = slice_get_within new l.atom a h in grind (arith, nat_tests)
 

@@ -12,6 +12,7 @@ pub mod GivenValues
 pub mod PieceFacts
 pub mod TextFacts
 pub mod FitFacts
+pub mod AffixFacts
 pub mod TruthFacts
 pub mod Meanings
 pub mod ConnectiveTruths

@@ -71,6 +71,9 @@ mutual
   is_truth_term ws bs v (apply symbol.core_equal terms) gives h = refl
   is_truth_term ws bs v (apply symbol.core_distinct terms) gives h = refl
   is_truth_term ws bs v (apply symbol.str_in_re terms) gives h = refl
+  is_truth_term ws bs v (apply symbol.str_prefixof terms) gives h = refl
+  is_truth_term ws bs v (apply symbol.str_suffixof terms) gives h = refl
+  is_truth_term ws bs v (apply symbol.str_contains terms) gives h = refl
   is_truth_term ws bs v (apply _ terms) gives h = absurd (false≢true h)
 
   are_truth_terms : (ws : List (List ℕ)) (bs : List Bool) (v : Valuation) (terms : Terms) → GivesEach ws bs v terms

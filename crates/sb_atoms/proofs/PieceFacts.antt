@@ -59,7 +59,7 @@ concatenation_word ws (ps ∷ pss) =
     ap (λ w. joined_word ws ps ++ w) (concatenation_word ws pss) ∙ sym (before_word ws ps (concatenation pss))
 
 mutual
-  pieces_mean : (ws : List (List ℕ)) (bs : List Bool) (v : Valuation) (t : Term) (ps : List Piece)
+  pub pieces_mean : (ws : List (List ℕ)) (bs : List Bool) (v : Valuation) (t : Term) (ps : List Piece)
       → GivesValues ws bs v t → pieces_of t ≡ Some ps → meaning_of v t ≡ means_word (joined_word ws ps)
   pieces_mean ws bs v (constant serial text) ps gives h =
       let one : constant_piece serial ∷ [] ≡ ps = Prim.cc (h) in

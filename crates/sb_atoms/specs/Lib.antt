@@ -8,3 +8,4 @@ pub mod Truths
 pub mod GateClauses
 pub mod GateExamples
 pub mod Reaching
+pub mod Affixes

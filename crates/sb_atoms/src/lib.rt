@@ -10,6 +10,7 @@
 //! answer with them.
 #![tactic(auto)]
 
+mod affixes;
 mod atom;
 mod connect;
 mod connectives;

@@ -18,7 +18,7 @@ fn is_connective(shape: Shape) -> bool
     match shape {
         Shape::Connected(_) => true,
         Shape::Constant(_) | Shape::Always(_) | Shape::Alone => false,
-        Shape::Member | Shape::Words(_) | Shape::Other => false,
+        Shape::Member | Shape::Words(_) | Shape::Affix(_) | Shape::Other => false,
     }
 }
 

@@ -1,8 +1,9 @@
 //! The literals of terms.
 
-ghost use Rattle.std.specs.Prelude.{◌≡◌, ◌<◌, ◌&&◌, ◌∷◌, true, nat_lt, [], length, map, None, option_map, IfOk, OnOk, IfSome, MatchOption};
+ghost use Rattle.std.specs.Prelude.{◌≡◌, ◌<◌, ◌&&◌, ◌∷◌, true, nat_lt, [], length, map, Some, None, option_map, IfOk, OnOk, IfSome, MatchOption};
 ghost use Rattle.std.specs.List.{list_all};
 ghost use Rattle.sb_regex.specs.Numbered as regex;
+ghost use Rattle.sb_regex.specs.Numbered.{regex_at};
 ghost use Rattle.sb_term.specs.Descending.{HaveParts, PartsAre, known_at, AreKnown};
 ghost use Rattle.sb_term.specs.Numbered.{term_at};
 ghost use Rattle.sb_script.specs.Pieces.{constant_piece};
@@ -11,7 +12,8 @@ ghost use Rattle.sb_problem.specs.Known.{AreNormals};
 ghost use Rattle.sb_problem.specs.Patterns.{number_of, pattern_in};
 ghost use Rattle.sb_fragment.specs.Measures.{AreMeasures};
 ghost use Rattle.sb_fragment.specs.Memberships.{is_in_re};
-ghost use Rattle.sb_fragment.specs.Shapes.{are_numbers, parts_of, terms_of_pairs};
+ghost use Rattle.sb_fragment.specs.Shapes.{IsShape, are_numbers, parts_of, terms_of_pairs};
+ghost use Rattle.sb_fragment.specs.declared.shape.Shape.TheVariants as shape;
 ghost use Rattle.sb_rulebook.specs.Atoms.{are_pieces};
 ghost use Rattle.sb_rulebook.specs.Parts.{together, regex_of};
 ghost use Rattle.sb_rulebook.specs.Translation as rules;
@@ -23,11 +25,14 @@ ghost use Rattle.sb_atoms.specs.Growing.{is_below, are_below, are_declared_piece
 ghost use Rattle.sb_atoms.specs.Reaching.{connected_parts};
 ghost use Rattle.sb_atoms.specs.Shapes.{IsAtomOf, have_declared_pairs, member_literal, word_literals, words_literal};
 
+use crate::affixes::affix_sides;
 use crate::connect::signed;
 use crate::pieces::{sides_of, single_pieces};
 use crate::reached::terms_reached;
 use crate::table::Atoms;
-use sb_fragment::{Connective, Measures, Shape, arguments_of, compared, membership, shape_of};
+use sb_fragment::{
+    AffixKind, Connective, Measures, Shape, arguments_of, compared, membership, shape_of,
+};
 use sb_lit::Lit;
 use sb_problem::{Normals, Pattern};
 use sb_proof::{Atom, Piece};
@@ -272,6 +277,59 @@ impl Atoms {
         }
     }
 
+    /// The literal that the word of a String term is in the language of a regex.
+    fn text_in(
+        &mut self,
+        adds: bool,
+        normals: &mut Normals,
+        table: &Table,
+        arena: &mut Arena,
+        text: TermId,
+        regex: RegexId,
+    ) -> Result<Option<Lit>, AllocError>
+        requires text { text < length table.now }
+        requires regex { regex < length arena.old }
+        requires normals { AreNormals table.now arena.old normals.old }
+        requires below { HaveRegexesBelow (length arena.old) self.old }
+        ensures ok { IfOk result (λ found. Finds is_below adds arena.new self.new
+            (λ atoms. rules.membership atoms (term_at table.now text) (Some (regex_at arena.old regex))) found) }
+        ensures moves { Moves adds (λ sorts. has_declared sorts (term_at table.now text))
+            arena.old arena.new self.old self.new }
+        ensures normals { AreNormals table.now arena.new normals.new }
+    {
+        let Some(pieces) = single_pieces(self.allocator(), normals, table, arena, text)? else {
+            return Ok(None);
+        };
+        arena.normal_regexes_each_once();
+        self.literal(adds, Atom::In(pieces, regex))
+    }
+
+    /// The literal of a term that says of a String term that it is a prefix, a suffix or a factor of another.
+    fn affix(
+        &mut self,
+        adds: bool,
+        normals: &mut Normals,
+        table: &Table,
+        arena: &mut Arena,
+        kind: AffixKind,
+        id: TermId,
+    ) -> Result<Option<Lit>, AllocError>
+        requires number { id < length table.now }
+        requires affix { IsShape (term_at table.now id) (shape.Affix kind) }
+        requires normals { AreNormals table.now arena.old normals.old }
+        requires below { HaveRegexesBelow (length arena.old) self.old }
+        ensures ok { IfOk result (λ found. Finds is_below adds arena.new self.new
+            (λ atoms. rules.translation atoms (term_at table.now id)) found) }
+        ensures moves { Moves adds (λ sorts. has_declared sorts (term_at table.now id))
+            arena.old arena.new self.old self.new }
+        ensures normals { AreNormals table.now arena.new normals.new }
+    {
+        let Some(sides) = affix_sides(normals, table, arena, kind, id)? else {
+            return Ok(None);
+        };
+        self.text_in(adds, normals, table, arena, sides.0, sides.1)
+    }
+
     /// The literal of a connective of these literals, if they are there.
     fn connection(
         &mut self,
@@ -328,6 +386,7 @@ impl Atoms {
             Shape::Words(distinct) => {
                 self.words(adds, measures, normals, table, arena, distinct, id)
             }
+            Shape::Affix(kind) => self.affix(adds, normals, table, arena, kind, id),
             Shape::Other => unreachable!(),
         }
     }
@@ -414,16 +473,18 @@ impl Atoms {
     }
 
     /// The literal of a term, of which the atoms are added where they are missing. Terms are translated that are
-    /// Boolean structure over Bool constants, memberships of String terms, and comparisons of such terms. There is no
-    /// literal of others, and none of one in which a regular expression or a word is past the limits on sizes, a
-    /// constant stands twice in one String term, or two String terms are compared of which neither is a word; some of
-    /// its atoms may be added then.
+    /// Boolean structure over Bool constants, memberships of String terms, comparisons of such terms, and what says of
+    /// one that it is a prefix, a suffix or a factor of another. There is no literal of others, and none of one in
+    /// which a regular expression or a word is past the limits on sizes, a constant stands twice in one String term, or
+    /// of two String terms that are compared, or of which one is said to be a part of the other, neither is a word; some
+    /// of its atoms may be added then.
     ///
     /// Linear in the terms that it is made of by connectives, each once however often it is an argument, and in their
     /// arguments, times a logarithm, but that each two of what is distinct are compared, that the pieces of a String
     /// term are gone over, and that a regular expression, or a word, is measured, and its normal regex made, where they
-    /// were not yet. The literals are found with no recursion. `AllocError` only for want of memory; the arena may hold
-    /// more regexes then, and the table more atoms.
+    /// were not yet. The regex of a word's prefixes, suffixes or factors, or of the words of which it is one, is made
+    /// anew by each translation, by [`sb_affix::affix_regex`]. The literals are found with no recursion. `AllocError`
+    /// only for want of memory; the arena may hold more regexes then, and the table more atoms.
     pub fn translate(
         &mut self,
         measures: &mut Measures,

@@ -17,15 +17,18 @@ ghost use Rattle.sb_problem.specs.Parts.{is_written, are_written, piece_in, part
 ghost use Rattle.sb_plain.specs.Memory.{IsRight};
 ghost use Rattle.sb_fragment.specs.Compared.{compared};
 ghost use Rattle.sb_fragment.specs.Memberships.{equality, is_in_re};
-ghost use Rattle.sb_fragment.specs.Shapes.{are_numbers, parts_of, terms_of_pairs};
+ghost use Rattle.sb_fragment.specs.Shapes.{IsShape, are_numbers, parts_of, terms_of_pairs};
+ghost use Rattle.sb_fragment.specs.declared.shape.Shape.TheVariants as shape;
 ghost use Rattle.sb_atoms.specs.Given.{GivesValues};
 ghost use Rattle.sb_atoms.specs.Truths.{word_at, piece_word, joined_word, AreReady, IsIn, IsBehind, IsWithin, IsTruthUnder, IsTruthOf, AreEqualUnder, AreAsWanted};
 ghost use Rattle.sb_atoms.specs.Reaching.{connected_parts};
 
+use crate::affixes::affix_sides;
 use crate::connectives::connected;
 use crate::pieces::sides_of;
 use crate::reached::terms_reached;
-use sb_fragment::{Shape, arguments_of, compared, membership, shape_of};
+use sb_fragment::{AffixKind, Shape, arguments_of, compared, membership, shape_of};
+use sb_lang::affixes::affixes_have_their_words;
 use sb_lang::derivative::{derivative_along_has_rests, nullable_has_empty_word};
 use sb_lang::normal::normal_has_terms_words;
 use sb_plain::{Plain, right_stays};
@@ -345,6 +348,32 @@ fn words(
     word_pairs(plain, normals, arena, table, distinct, &pairs, values)
 }
 
+/// Whether a term is true that says of a String term that it is a prefix, a suffix or a factor of another.
+fn affix_holds(
+    plain: &mut Plain,
+    normals: &mut Normals,
+    arena: &mut Arena,
+    table: &Table,
+    kind: AffixKind,
+    id: TermId,
+    values: &[Word],
+) -> Result<bool, AllocError>
+    requires number { id < length table.now }
+    requires affix { IsShape (term_at table.now id) (shape.Affix kind) }
+    requires fits { fits (term_at table.now id) ≡ true }
+    requires ready { AreReady table.now arena.old normals.old plain.old }
+    ensures ok { IfOk result (IsTruthUnder values.now (term_at table.now id)) }
+    ensures extends { Extends arena.old arena.new }
+    ensures ready { AreReady table.now arena.new normals.new plain.new }
+{
+    affixes_have_their_words();
+    right_stays();
+    let Some(sides) = affix_sides(normals, table, arena, kind, id)? else {
+        return Ok(false);
+    };
+    is_within(plain, normals, arena, table, sides.0, sides.1, values)
+}
+
 /// The truth at a serial.
 fn truth_at(truths: &[bool], serial: Serial) -> bool
     ensures { result ≡ unwrap_or (slice_get truths.now serial.0) false }
@@ -414,6 +443,7 @@ fn truth_of(
         }
         Shape::Member => membership_holds(plain, normals, arena, table, id, values),
         Shape::Words(distinct) => words(plain, normals, arena, table, distinct, id, values),
+        Shape::Affix(kind) => affix_holds(plain, normals, arena, table, kind, id, values),
         Shape::Other => unreachable!(),
     }
 }
@@ -456,9 +486,10 @@ fn find_truths(
 /// Each term that it is made of by connectives is looked at once, however often it is an argument, with no recursion.
 /// So its cost is linear in these terms and their arguments, times a logarithm, but for that of each membership and
 /// each comparison of Strings, and that of [`Normals::pattern`] where the regular expression, or the word, was not
-/// asked for yet. A constant alone costs what [`Plain::matches`] does. Of another String term its pieces are gone over,
-/// with a derivative for each character of its word, and no word is made. `AllocError` only for want of memory; the
-/// arena may hold more regexes then.
+/// asked for yet. Of a term that says of a String that it is a part of another the regex is made anew by each call, by
+/// [`sb_affix::affix_regex`]. A constant alone costs what [`Plain::matches`] does. Of another String term its pieces are
+/// gone over, with a derivative for each character of its word, and no word is made. `AllocError` only for want of
+/// memory; the arena may hold more regexes then.
 pub fn eval(
     plain: &mut Plain,
     normals: &mut Normals,

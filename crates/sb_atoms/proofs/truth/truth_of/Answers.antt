@@ -93,3 +93,12 @@ returns-in-Words-clause-ok c =
     (λ truth h v gives. h v c.args.truths.now (compared_given c.args.values.now c.args.truths.now v c.in-Words.distinct
     (parts_of t) (parts_given c.args.values.now c.args.truths.now v t gives))
     ∙ words_hold t c.in-Words.distinct shape v) c.words.ensures.ok
+
+pub affix_holds-requires-clause-affix : goal.affix_holds-requires-clause-affix
+affix_holds-requires-clause-affix c = rw c.in-Affix.is at c.shape_of.ensures
+
+pub returns-in-Affix-clause-ok : goal.returns-in-Affix-clause-ok
+returns-in-Affix-clause-ok c =
+    let t = term_at c.args.table.now c.args.id in
+    ok_more (IsTruthUnder c.args.values.now t) (IsTruthOf c.args.values.now c.args.truths.now t) c.affix_holds.result
+    (λ truth h v gives. h v c.args.truths.now gives) c.affix_holds.ensures.ok

@@ -199,3 +199,17 @@ returns-in-Words-clause-ok c =
     (λ found h. finds_other c.args.adds c.words.new.arena c.words.new.self
     (λ atoms. words_literal atoms c.in-Words.distinct (parts_of t)) (λ atoms. translation atoms t) found
     (λ atoms. sym (words_translated t c.in-Words.distinct shape atoms)) h) c.words.ensures.ok
+
+pub affix-requires : goal.affix-requires
+affix-requires c = record {
+  number = c.requires.number;
+  affix = rw c.in-Affix.is at c.shape_of.ensures;
+  normals = c.requires.ready.normals;
+  below = c.requires.ready.regexes;
+}
+
+pub returns-in-Affix-clause-ready : goal.returns-in-Affix-clause-ready
+returns-in-Affix-clause-ready c =
+    let r = c.requires.ready in
+    ready_moved c.args.table.now c.args.measures.now c.affix.new.normals c.args.arena.now c.affix.new.arena
+    c.args.self.now c.affix.new.self r.right c.affix.ensures.normals r.regexes c.affix.ensures.moves
