@@ -47,6 +47,15 @@ not i times a and then b, for each i.
 the even ones get through: a URL, a mail address, a line of a log, an SQL query, an HTTP header.
 `injections`: user input between quotes in a query, with the filter that stops it, and one that lets it out of its quotes.
 
+Of prefixes, suffixes and factors:
+`blocklist`: one constant of letters around a hyphen, with one of so many forbidden fragments but for its first letter, and
+with none of the fragments.
+`blocklist-clash`: the same, and one of the fragments stands in it, with letters behind it.
+`routes`: so many routes, each a prefix, of which the first one that fits is taken: one constant that the last takes.
+`routes-shadowed`: the same where an earlier route is a prefix of the last one.
+`factor`: one constant of 20 letters at least that is a factor of a text of so many letters, and not of another that differs
+in its middle.
+
 Of definitions and `let`:
 `shared`: a truth value of two constants that is made of the one before twice, so often: a tree of two to the size leaves.
 `chain`: so many definitions, each the one before and that the constant is not one more word.
@@ -667,7 +676,49 @@ def injections(size):
     return text + asserted(in_text(query, outside))
 
 
+def fragments(size):
+    order = random.Random(size).sample(range(26 ** 3), size)
+    return [word("abcdefghijklmnopqrstuvwxyz", number, 4 + number % 5) for number in order]
+
+
+def blocklist(size):
+    words = fragments(size)
+    text = "".join(asserted(f'(not (str.contains x "{it}"))') for it in words)
+    letters = f"(re.+ {span('a', 'z')})"
+    return text + asserted(f'(str.contains x "{words[0][1:]}")') + in_re(concat(letters, to_re("-"), letters))
+
+
+def blocklist_clash(size):
+    return blocklist(size) + asserted(in_text("x", concat(ALL, to_re(fragments(size)[-1]), f"(re.+ {span('a', 'z')})")))
+
+
+def routes_in(size, last):
+    routes = [f"/{word('abcdef', i % 36, 2)}/{word('ghijkl', i, 4)}" for i in range(size)] + [last]
+    denied = "".join(asserted(f'(not (str.prefixof "{it}" x))') for it in routes[:-1])
+    return denied + asserted(f'(str.prefixof "{last}" x)')
+
+
+def routes(size):
+    return routes_in(size, "/aa/static/")
+
+
+def routes_shadowed(size):
+    return routes_in(size, f"/{word('abcdef', size // 2 % 36, 2)}/{word('ghijkl', size // 2, 4)}/static/")
+
+
+def factor(size):
+    letters = random.Random(size)
+    text = "".join(letters.choice("abcd") for _ in range(size))
+    other = text[: size // 2] + "e" + text[size // 2 + 1 :]
+    return asserted(f'(str.contains "{text}" x)') + asserted(f'(not (str.contains "{other}" x))') + in_re(concat(power(ONE, 20), ALL))
+
+
 FAMILIES = {
+    "blocklist": blocklist,
+    "blocklist-clash": blocklist_clash,
+    "routes": routes,
+    "routes-shadowed": routes_shadowed,
+    "factor": factor,
     "blocks": blocks,
     "links": links,
     "links-clash": links_clash,

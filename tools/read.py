@@ -17,7 +17,8 @@ SYMBOLS = {
     "true": ("", "Bool"), "false": ("", "Bool"), "not": ("Bool", "Bool"), "and": ("Bool ..", "Bool"),
     "or": ("Bool ..", "Bool"), "=>": ("Bool Bool ..", "Bool"), "xor": ("Bool Bool ..", "Bool"),
     "ite": ("Bool S S", "Bool"), "=": ("S S ..", "Bool"), "distinct": ("S S ..", "Bool"), "str.++": ("String ..", "String"),
-    "str.in_re": ("String RegLan", "Bool"), "str.to_re": ("String", "RegLan"), "re.range": ("String String", "RegLan"),
+    "str.in_re": ("String RegLan", "Bool"), "str.prefixof": ("String String", "Bool"),
+    "str.suffixof": ("String String", "Bool"), "str.contains": ("String String", "Bool"), "str.to_re": ("String", "RegLan"), "re.range": ("String String", "RegLan"),
     "re.none": ("", "RegLan"), "re.all": ("", "RegLan"), "re.allchar": ("", "RegLan"), "re.++": ("RegLan ..", "RegLan"),
     "re.union": ("RegLan ..", "RegLan"), "re.inter": ("RegLan ..", "RegLan"), "re.diff": ("RegLan RegLan ..", "RegLan"),
     "re.*": ("RegLan", "RegLan"), "re.+": ("RegLan", "RegLan"), "re.opt": ("RegLan", "RegLan"),
@@ -27,7 +28,7 @@ SYMBOLS = {
 INDEXED = {"re.^": (1, "((_ re.^ 3) R)"), "re.loop": (2, "((_ re.loop 1 3) R)")}
 # The sorts of the theories' symbols that are left out; the last three are old names of symbols that are read.
 LEFT_OUT = {
-    **dict.fromkeys("<= < >= > str.prefixof str.suffixof str.contains str.< str.<= str.is_digit".split(), "Bool"),
+    **dict.fromkeys("<= < >= > str.< str.<= str.is_digit".split(), "Bool"),
     **dict.fromkeys("+ - * div mod abs str.len str.indexof str.to_code str.to_int".split(), "Int"),
     **dict.fromkeys("str.at str.substr str.replace str.replace_all str.replace_re".split(), "String"),
     **dict.fromkeys("str.replace_re_all str.from_code str.from_int".split(), "String"),
